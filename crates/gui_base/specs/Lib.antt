@@ -1,0 +1,5 @@
+pub mod Area
+pub mod Color
+pub mod Corners
+pub mod Limits
+pub mod Ppm

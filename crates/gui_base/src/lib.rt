@@ -1,0 +1,22 @@
+//! What all crates share: areas of pixels, colours, limits, refusals, and the counting of steps.
+#![tactic(auto)]
+
+pub mod area;
+pub mod color;
+pub mod limits;
+pub mod refusal;
+pub mod steps;
+
+pub use area::Area;
+pub use color::Rgb565;
+pub use limits::{Limits, Pool};
+pub use refusal::Refusal;
+pub use steps::Steps;
+
+/// The name of an object. 1 is the top layer, 2 the system layer and 3 the first screen; callers choose from 10 to 9999.
+#[derive(Clone, Copy, Debug, PartialEq, Eq)]
+pub struct Handle(pub u16);
+
+/// Memory ran out. Only a call with a parameter `alloc` answers it.
+#[derive(Clone, Copy, Debug, PartialEq, Eq)]
+pub struct NoMemory;

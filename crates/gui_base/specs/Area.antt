@@ -21,12 +21,14 @@ has area x y = (le_z area.x1 x && le_z x area.x2) && (le_z area.y1 y && le_z y a
 abbrev pub is_empty : Rect → Bool
 is_empty area = lt_z area.x2 area.x1 || lt_z area.y2 area.y1
 
+-- a number, or 0 where it lies below
+abbrev pub nat_of : ℤ → ℕ
+nat_of (pos n) = n
+nat_of (negsuc n) = 0
+
 -- how many numbers there are from one to another
 abbrev pub count_between : ℤ → ℤ → ℕ
-count_between low high = nat_of ((high -ℤ low) +ℤ pos 1) where
-  nat_of : ℤ → ℕ
-  nat_of (pos n) = n
-  nat_of (negsuc n) = 0
+count_between low high = nat_of ((high -ℤ low) +ℤ pos 1)
 
 -- how many columns it has, and how many lines
 abbrev pub width_of : Rect → ℕ

@@ -1,0 +1,52 @@
+//! The panel.
+ghost use Rattle.std.specs.Prelude.{◌≡◌, ◌<◌, ◌≤◌, OnOk, OnErr, pos, ◌≤ℤ◌};
+ghost use Rattle.gui_edge.specs.Causes.{Rose};
+ghost use Rattle.gui_edge.specs.Panel.{PanelState, OpenAnswer, CanFlush, Flushes, Shown, Unshown, Presents, WritesFrame, WritesFront};
+
+use crate::Failed;
+use gui_base::{Area, Rgb565};
+use std::alloc::Global;
+use thiserror::Error;
+
+/// Why a panel was not opened.
+#[derive(Clone, Copy, Debug, PartialEq, Eq, Error)]
+pub enum OpenFault {
+    /// The panel failed.
+    #[error("the panel failed")]
+    Failed,
+    /// Memory ran out.
+    #[error("no memory for the panel")]
+    NoMemory,
+}
+
+/// A panel, which may tell what it shows and what it has presented, and counts its faults.
+pub trait Panel {
+    ghost use Rattle.gui_edge.specs.Panel.Areas.{box_of};
+
+    ghost state: { Self → PanelState };
+
+    /// Opens the panel with sizes in pixels from 1 to 1024, for flushes of at most `limit` pixels. After an error it is not opened, and its
+    /// limit is 0.
+    fn open(&mut self, alloc: Global, width: u16, height: u16, limit: u32) -> Result<(), OpenFault>
+        requires closed { (state self.old).limit ≡ 0 }
+        requires wide { (0 < width) × (width ≤ 1024) }
+        requires high { (0 < height) × (height ≤ 1024) }
+        requires some { 0 < limit }
+        ensures { OpenAnswer (state self.old) (state self.new) width height limit result };
+
+    /// Makes the pixels of an area show these colours, one for each, row by row. After a failure only pixels of the area may differ.
+    fn flush(&mut self, area: Area, pixels: &[Rgb565]) -> Result<(), Failed>
+        requires corner { (pos 0 ≤ℤ area.x1) × (pos 0 ≤ℤ area.y1) }
+        requires area { CanFlush (state self.old) (box_of area) pixels.now }
+        ensures same { Flushes (state self.old) (state self.new) (box_of area) }
+        ensures ok { OnOk result (Shown (state self.old) (state self.new) (box_of area) pixels.now) }
+        ensures err { OnErr result (Unshown (state self.old) (state self.new) (box_of area)) };
+
+    /// Presents what is shown as a frame, a picture file of the form P6, or where it fails a front of that file.
+    fn present(&mut self) -> Result<(), Failed>
+        requires { 0 < (state self.old).limit }
+        ensures same { Presents (state self.old) (state self.new) }
+        ensures ok { OnOk result (WritesFrame (state self.old) (state self.new)) }
+        ensures err { OnErr result (WritesFront (state self.old) (state self.new)) }
+        ensures cause { OnErr result (Rose (state self.old).present_faults (state self.new).present_faults) };
+}

@@ -1,5 +1,6 @@
 pub mod Area
 pub mod Color
 pub mod Corners
+pub mod Forest
 pub mod Limits
 pub mod Ppm

@@ -1,4 +1,5 @@
 pub mod Area
+pub mod Bounded
 pub mod Color
 pub mod Corners
 pub mod Forest

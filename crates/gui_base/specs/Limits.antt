@@ -1,5 +1,5 @@
 -- The ranges of the limits, and their values where the words do not name a pool.
-use Rattle.std.specs.Prelude.{ℕ, ◌≤◌}
+use Rattle.std.specs.Prelude.{ℕ, ◌≤◌, None}
 use Rattle.std.specs.declared.option.Option.{Option}
 use Rattle.std.specs.Option.{ForSome}
 
@@ -32,3 +32,45 @@ pub record ArePools (objects styles entries uses texts fonts glyphs ink images p
 -- the number of a made script
 abbrev pub IsMade : Option ℕ → Type 0
 IsMade make = ForSome make (λ k. (1 ≤ k) × (k ≤ 1000))
+
+-- the limits as numbers
+pub record Bounds : Type 0 where
+  pub width : ℕ
+  pub height : ℕ
+  pub lines : ℕ
+  pub objects : ℕ
+  pub styles : ℕ
+  pub entries : ℕ
+  pub uses : ℕ
+  pub texts : ℕ
+  pub fonts : ℕ
+  pub glyphs : ℕ
+  pub ink : ℕ
+  pub images : ℕ
+  pub pixels : ℕ
+  pub handlers : ℕ
+  pub groups : ℕ
+  pub anims : ℕ
+  pub make : Option ℕ
+
+-- these sizes, each pool with its default, and no made script
+abbrev pub with_sizes : ℕ → ℕ → ℕ → Bounds
+with_sizes width height lines = record {
+  width = width;
+  height = height;
+  lines = lines;
+  objects = 256;
+  styles = 64;
+  entries = 1024;
+  uses = 512;
+  texts = 1024;
+  fonts = 4;
+  glyphs = 512;
+  ink = 16384;
+  images = 16;
+  pixels = 65536;
+  handlers = 256;
+  groups = 8;
+  anims = 32;
+  make = None;
+}

@@ -6,12 +6,14 @@ pub mod color;
 pub mod limits;
 pub mod refusal;
 pub mod steps;
+pub mod words;
 
 pub use area::Area;
 pub use color::Rgb565;
 pub use limits::{Limits, Pool};
 pub use refusal::Refusal;
 pub use steps::Steps;
+pub use words::{Flag, Kind, Length, Part, Prop};
 
 /// The name of an object. 1 is the top layer, 2 the system layer and 3 the first screen; callers choose from 10 to 9999.
 #[derive(Clone, Copy, Debug, PartialEq, Eq)]

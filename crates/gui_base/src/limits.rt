@@ -1,4 +1,5 @@
 //! The sizes of a panel and of the pools, as the words of the command line ask for them.
+ghost use Rattle.std.specs.Prelude.{◌≡◌, ◌≤◌};
 ghost use Rattle.gui_base.specs.Limits.{IsPanel, ArePools, IsMade};
 
 /// The pools of counted slots.
@@ -57,4 +58,35 @@ pub struct Limits {
     ghost panel: { IsPanel width height lines },
     ghost pools: { ArePools objects styles entries uses texts fonts glyphs ink images pixels handlers groups anims },
     ghost made: { IsMade make },
+}
+
+impl Limits {
+    ghost use Rattle.gui_base.specs.Limits.{with_sizes};
+    ghost use Rattle.gui_base.specs.Bounded.{bounds_of};
+
+    /// These sizes, each pool with its default, and no made script.
+    pub fn with_sizes(width: u32, height: u32, lines: u32) -> Limits
+        requires { IsPanel width height lines }
+        ensures { bounds_of result ≡ with_sizes width height lines }
+    {
+        Limits {
+            width,
+            height,
+            lines,
+            objects: 256,
+            styles: 64,
+            entries: 1024,
+            uses: 512,
+            texts: 1024,
+            fonts: 4,
+            glyphs: 512,
+            ink: 16384,
+            images: 16,
+            pixels: 65536,
+            handlers: 256,
+            groups: 8,
+            anims: 32,
+            make: None,
+        }
+    }
 }

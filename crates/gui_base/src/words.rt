@@ -1,0 +1,48 @@
+//! The words of the script language that several crates share.
+
+/// What an object is. Screens and layers are roots and cannot be made by `new`.
+#[derive(Clone, Copy, Debug, PartialEq, Eq)]
+pub enum Kind {
+    /// A root that is shown where it is the active one.
+    Screen,
+    /// A root that is always shown, above the active screen.
+    Layer,
+    /// A plain object.
+    Obj,
+}
+
+/// What may be switched on and off at an object.
+#[derive(Clone, Copy, Debug, PartialEq, Eq)]
+pub enum Flag {
+    /// It and all below it show nothing.
+    Hidden,
+    /// A pointer may hit it.
+    Clickable,
+    /// It can be checked.
+    Checkable,
+    /// Its events go on to its parent.
+    Bubble,
+}
+
+/// The part of an object that a property is for.
+#[derive(Clone, Copy, Debug, PartialEq, Eq)]
+pub enum Part {
+    /// The object itself.
+    Main,
+}
+
+/// A property of a part.
+#[derive(Clone, Copy, Debug, PartialEq, Eq)]
+pub enum Prop {
+    /// The colour of the fill, red, green and blue in eight bits each: 65536 * red + 256 * green + blue.
+    BgColor,
+    /// The opacity of the fill, from 0 to 255.
+    BgOpa,
+}
+
+/// A wanted width or height.
+#[derive(Clone, Copy, Debug, PartialEq, Eq)]
+pub enum Length {
+    /// So many pixels, from 0 to 4000.
+    Pixels(u16),
+}

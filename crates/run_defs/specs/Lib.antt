@@ -1,0 +1,5 @@
+pub mod Laws
+pub mod Machine
+pub mod Run
+pub mod Script
+pub mod Words

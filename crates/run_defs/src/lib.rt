@@ -1,0 +1,44 @@
+//! The definitions of a run: what a script says, what its lines make of the machine, and what the log and the frames then are. There is no
+//! code here but the words that code and definitions share, and laws.
+#![tactic(auto)]
+
+ghost use Rattle.run_defs.specs.Laws.{ShowsOutcomes};
+
+use thiserror::Error;
+
+/// What a line of the script says.
+#[derive(Clone, Copy, Debug, PartialEq, Eq)]
+pub enum Line {
+    /// Nothing: a blank line or a comment.
+    Blank,
+    /// A frame is refreshed and presented.
+    Frame,
+}
+
+/// Why a line of the script is refused before it is looked at as a command. Where several apply, the first is answered.
+#[derive(Clone, Copy, Debug, PartialEq, Eq, Error)]
+pub enum LineFault {
+    /// It has more than 4,096 bytes before its newline.
+    #[error("the line is too long")]
+    Long,
+    /// It has no form of the language.
+    #[error("the line has no form of the language")]
+    Syntax,
+    /// A number is outside its interval, or a text too long.
+    #[error("a number of the line is out of its range")]
+    Range,
+}
+
+/// How a frame line ended.
+#[derive(Clone, Copy, Debug, PartialEq, Eq)]
+pub enum Outcome {
+    /// The panel shows the picture, and the frame was presented.
+    Done,
+    /// A flush failed, and nothing was presented.
+    Fault,
+}
+
+/// A log shows the outcomes of its frames.
+pub fn log_shows_outcomes()
+    ensures { ShowsOutcomes }
+{}

@@ -1,0 +1,130 @@
+-- A scene is trees of rows, the screen that is active, and the limits.
+use Rattle.std.specs.Prelude.{ℕ, ◌+◌, ◌-◌, Bool, true, false, ◌==◌, if◌then◌else◌, Some, None, is_some, unwrap_or, pos, ℤ}
+use Rattle.std.specs.declared.option.Option.{Option}
+use Rattle.gui_base.specs.Forest.{Forest, Empty, Tree, map_forest, size, has_by}
+use Rattle.gui_base.specs.Limits.{Bounds}
+use Rattle.gui_base.specs.declared.words.Kind.{Kind}
+use Rattle.gui_base.specs.declared.words.Kind.TheVariants.{Screen, Layer, Obj}
+use Rattle.gui_base.specs.declared.words.Length.{Length}
+use Rattle.gui_base.specs.declared.words.Length.TheVariants.{Pixels}
+use Rattle.gui_base.specs.declared.words.Prop.{Prop}
+use Rattle.gui_base.specs.declared.words.Prop.TheVariants.{BgColor, BgOpa}
+use Rattle.gui_base.specs.declared.limits.Pool.{Pool}
+use Rattle.gui_base.specs.declared.limits.Pool.TheVariants.{Objects, Styles, Entries, Uses, Texts, Fonts, Glyphs, Ink, Images, Pixels as PixelBytes, Handlers, Groups, Anims}
+
+-- what an object's flags are
+pub record Flags : Type 0 where
+  pub hidden : Bool
+  pub clickable : Bool
+  pub checkable : Bool
+  pub bubble : Bool
+
+-- the properties that are set locally
+pub record Locals : Type 0 where
+  pub bg_color : Option ℤ
+  pub bg_opa : Option ℤ
+
+pub record Row : Type 0 where
+  pub handle : ℕ
+  pub kind : Kind
+  pub flags : Flags
+  -- the wanted place
+  pub x : ℤ
+  pub y : ℤ
+  -- the wanted sizes
+  pub width : Length
+  pub height : Length
+  pub locals : Locals
+
+pub record Scene : Type 0 where
+  pub trees : Forest Row
+  pub active : ℕ
+  pub limits : Bounds
+
+abbrev pub handle_of : Row → ℕ
+handle_of row = row.handle
+
+-- whether a row is that of h
+abbrev pub is_at : ℕ → Row → Bool
+is_at h row = row.handle == h
+
+-- the handles of the rows
+abbrev pub handles_of : Forest Row → Forest ℕ
+handles_of trees = map_forest handle_of trees
+
+-- whether h is there
+abbrev pub is_there : Scene → ℕ → Bool
+is_there scene h = has_by (is_at h) scene.trees
+
+-- the first row that passes the test
+abbrev pub row_by : (Row → Bool) → Forest Row → Option Row
+row_by test Empty = None
+row_by test (Tree row cs rest) = if test row then Some row else (if has_by test cs then row_by test cs else row_by test rest)
+
+abbrev pub row_at : Scene → ℕ → Option Row
+row_at scene h = row_by (is_at h) scene.trees
+
+-- what a property is where nothing sets it: a screen is filled, and all else is not
+abbrev pub default_of : Kind → Prop → ℤ
+default_of kind BgColor = pos 16777215
+default_of Screen BgOpa = pos 255
+default_of Layer BgOpa = pos 0
+default_of Obj BgOpa = pos 0
+
+abbrev pub local_of : Locals → Prop → Option ℤ
+local_of locals BgColor = locals.bg_color
+local_of locals BgOpa = locals.bg_opa
+
+-- the value of a property
+abbrev pub value_of : Row → Prop → ℤ
+value_of row prop = unwrap_or (local_of row.locals prop) (default_of row.kind prop)
+
+-- how many entries a row has
+abbrev pub entry_count : Row → ℕ
+entry_count row = (if is_some row.locals.bg_color then 1 else 0) + (if is_some row.locals.bg_opa then 1 else 0)
+
+abbrev pub entries_of : Forest Row → ℕ
+entries_of Empty = 0
+entries_of (Tree row cs rest) = entry_count row + (entries_of cs + entries_of rest)
+
+-- how many slots of a pool are free
+abbrev pub spare : Scene → Pool → ℕ
+spare scene Objects = scene.limits.objects - size scene.trees
+spare scene Entries = scene.limits.entries - entries_of scene.trees
+spare scene Styles = scene.limits.styles
+spare scene Uses = scene.limits.uses
+spare scene Texts = scene.limits.texts
+spare scene Fonts = scene.limits.fonts
+spare scene Glyphs = scene.limits.glyphs
+spare scene Ink = scene.limits.ink
+spare scene Images = scene.limits.images
+spare scene PixelBytes = scene.limits.pixels
+spare scene Handlers = scene.limits.handlers
+spare scene Groups = scene.limits.groups
+spare scene Anims = scene.limits.anims
+
+abbrev pub no_flags : Flags
+no_flags = record { hidden = false; clickable = false; checkable = false; bubble = false }
+
+abbrev pub clickable_alone : Flags
+clickable_alone = record { hidden = false; clickable = true; checkable = false; bubble = false }
+
+abbrev pub no_locals : Locals
+no_locals = record { bg_color = None; bg_opa = None }
+
+-- the flags of a new object
+abbrev pub flags_of : Kind → Flags
+flags_of Screen = clickable_alone
+flags_of Layer = no_flags
+flags_of Obj = clickable_alone
+
+-- a new object of a kind: 100 by 50 pixels at its parent's corner
+abbrev pub new_row : ℕ → Kind → Row
+new_row handle kind = record { handle = handle; kind = kind; flags = flags_of kind; x = pos 0; y = pos 0; width = Pixels 100; height = Pixels 50; locals = no_locals }
+
+-- two layers and a screen, which is active
+abbrev pub first_trees : Forest Row
+first_trees = Tree (new_row 1 Layer) Empty (Tree (new_row 2 Layer) Empty (Tree (new_row 3 Screen) Empty Empty))
+
+abbrev pub first_scene : Bounds → Scene
+first_scene limits = record { trees = first_trees; active = 3; limits = limits }

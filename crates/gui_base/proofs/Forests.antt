@@ -1,8 +1,8 @@
 -- Forests of rows and the forests of their handles.
-use Rattle.std.proofs.Common.{◌≡◌, ℕ, zero, suc, Bool, map, Option, None, Some, option_map, refl, inl, inr}
+use Rattle.std.proofs.Common.{◌≡◌, ℕ, zero, suc, Bool, map, Option, None, Some, option_map, refl, inl, inr, ◌∙◌, ap, true, false, ◌||◌, cond, eqb, eq-eqb}
 use Rattle.std.proofs.lemmas.Bool.{cases_Bool}
 use Rattle.std.proofs.lemmas.List.{map-append}
-use Rattle.gui_base.specs.Forest.{Forest, Empty, Tree, map_forest, preorder, size, height, first_root, last_root_or, and_then, put_at, has_by, cut_by, tree_by, children_by, depth_by, parent_by, next_by, previous_by, with_children_by, with_row_by}
+use Rattle.gui_base.specs.Forest.{Forest, Empty, Tree, map_forest, preorder, size, height, first_root, last_root_or, and_then, put_at, has_by, cut_by, tree_by, children_by, from_by, after_by, depth_by, parent_by, next_by, previous_by, with_children_by, with_row_by, leaf, has, added_by, moved_by, moved_last_by}
 
 module _ {A B : Type 0} (f : A → B) where
   pub map-preorder : (t : Forest A) → preorder (map_forest f t) ≡ map f (preorder t)
@@ -69,6 +69,28 @@ module _ {A B : Type 0} (f : A → B) where
           ])
         ]
 
+    pub map-from_by : (t : Forest A) → map_forest f (from_by (λ a. test (f a)) t) ≡ from_by test (map_forest f t)
+    map-from_by Empty = refl
+    map-from_by (Tree row cs rest) =
+        elim (cases_Bool (test (f row))) [
+          | inl is ↦ rw is refl
+          | inr isnt ↦ rw (isnt, map-has_by cs) (elim (cases_Bool (has_by (λ a. test (f a)) cs)) [
+            | inl there ↦ rw there (map-from_by cs)
+            | inr gone ↦ rw gone (map-from_by rest)
+          ])
+        ]
+
+    pub map-after_by : (t : Forest A) → map_forest f (after_by (λ a. test (f a)) t) ≡ after_by test (map_forest f t)
+    map-after_by Empty = refl
+    map-after_by (Tree row cs rest) =
+        elim (cases_Bool (test (f row))) [
+          | inl is ↦ rw is refl
+          | inr isnt ↦ rw (isnt, map-has_by cs) (elim (cases_Bool (has_by (λ a. test (f a)) cs)) [
+            | inl there ↦ rw there (map-after_by cs)
+            | inr gone ↦ rw gone (map-after_by rest)
+          ])
+        ]
+
     pub map-depth_by : (t : Forest A) → depth_by test (map_forest f t) ≡ depth_by (λ a. test (f a)) t
     map-depth_by Empty = refl
     map-depth_by (Tree row cs rest) = rw (map-has_by cs, map-depth_by cs, map-depth_by rest) refl
@@ -122,3 +144,47 @@ module _ {A B : Type 0} (f : A → B) where
           | inl is ↦ rw (is, same row, map-with_row_by keep set same cs, map-with_row_by keep set same rest) refl
           | inr isnt ↦ rw (isnt, map-with_row_by keep set same cs, map-with_row_by keep set same rest) refl
         ]
+
+  -- the changes of trees
+  module _ (test above : B → Bool) where
+    pub map-added_by : (row : A) (t : Forest A) → map_forest f (added_by (λ a. above (f a)) row t) ≡ added_by above (f row) (map_forest f t)
+    map-added_by row t = map-with_children_by above (λ cs. and_then cs (leaf row)) (λ cs. and_then cs (leaf (f row))) (λ cs. map-and_then cs (leaf row)) t
+
+    pub map-moved_by : (n : ℕ) (t : Forest A) → map_forest f (moved_by (λ a. test (f a)) (λ a. above (f a)) n t) ≡ moved_by test above n (map_forest f t)
+    map-moved_by n t =
+        map-with_children_by above (put_at n (tree_by (λ a. test (f a)) t)) (put_at n (tree_by test (map_forest f t)))
+        (λ cs. map-put_at n (tree_by (λ a. test (f a)) t) cs ∙ ap (λ s. put_at n s (map_forest f cs)) (map-tree_by test t)) (cut_by (λ a. test (f a)) t)
+        ∙ ap (with_children_by above (put_at n (tree_by test (map_forest f t)))) (map-cut_by test t)
+
+    pub map-moved_last_by : (t : Forest A) → map_forest f (moved_last_by (λ a. test (f a)) (λ a. above (f a)) t) ≡ moved_last_by test above (map_forest f t)
+    map-moved_last_by t =
+        map-with_children_by above (λ cs. and_then cs (tree_by (λ a. test (f a)) t)) (λ cs. and_then cs (tree_by test (map_forest f t)))
+        (λ cs. map-and_then cs (tree_by (λ a. test (f a)) t) ∙ ap (and_then (map_forest f cs)) (map-tree_by test t)) (cut_by (λ a. test (f a)) t)
+        ∙ ap (with_children_by above (λ cs. and_then cs (tree_by test (map_forest f t)))) (map-cut_by test t)
+
+-- rows that are the same at each handle of a forest
+module _ {B : Type 0} (f g : ℕ → B) where
+  pub map-agree : (t : Forest ℕ) → ((h : ℕ) → has t h ≡ true → f h ≡ g h) → map_forest f t ≡ map_forest g t
+  map-agree Empty same = refl
+  map-agree (Tree k cs rest) same =
+      let here : has (Tree k cs rest) k ≡ true = rw (eq-eqb k k refl) refl in
+      rw (
+        same k here,
+        map-agree cs (λ h i. same h (rw i (either_true (eqb k h) (has rest h)))),
+        map-agree rest (λ h i. same h (rw i (last_true (eqb k h) (has cs h)))),
+      )
+      refl
+    where
+      either_true : (a b : Bool) → (a || (true || b)) ≡ true
+      either_true true b = refl
+      either_true false b = refl
+
+      last_true : (a b : Bool) → (a || (b || true)) ≡ true
+      last_true true b = refl
+      last_true false true = refl
+      last_true false false = refl
+
+-- a change of the rows at one handle
+pub map-set : {B : Type 0} (f : ℕ → B) (set : B → B) (h : ℕ) (test : B → Bool) → ((k : ℕ) → test (f k) ≡ eqb k h) → (t : Forest ℕ) → with_row_by test set (map_forest f t) ≡ map_forest (λ k. cond (eqb k h) (set (f k)) (f k)) t
+map-set f set h test same Empty = refl
+map-set f set h test same (Tree k cs rest) = rw (same k, map-set f set h test same cs, map-set f set h test same rest) refl

@@ -79,6 +79,16 @@ abbrev pub children_by : {A : Type 0} → (A → Bool) → Forest A → Forest A
 children_by test Empty = Empty
 children_by test (Tree row cs rest) = cond (test row) cs (cond (has_by test cs) (children_by test cs) (children_by test rest))
 
+-- the tree of the first that passes the test, with the trees that stand beside it after it
+abbrev pub from_by : {A : Type 0} → (A → Bool) → Forest A → Forest A
+from_by test Empty = Empty
+from_by test (Tree row cs rest) = cond (test row) (Tree row cs rest) (cond (has_by test cs) (from_by test cs) (from_by test rest))
+
+-- those trees alone
+abbrev pub after_by : {A : Type 0} → (A → Bool) → Forest A → Forest A
+after_by test Empty = Empty
+after_by test (Tree row cs rest) = cond (test row) rest (cond (has_by test cs) (after_by test cs) (after_by test rest))
+
 -- how many rows lead down to the first that passes the test, itself included; 0 where none does
 abbrev pub depth_by : {A : Type 0} → (A → Bool) → Forest A → ℕ
 depth_by test Empty = 0
@@ -107,6 +117,18 @@ with_children_by test g Empty = Empty
 with_children_by test g (Tree row cs rest) =
     cond (test row) (Tree row (g cs) rest) (Tree row (with_children_by test g cs) (with_children_by test g rest))
 
+-- with a leaf more, the last child of the first that passes the test
+abbrev pub added_by : {A : Type 0} → (A → Bool) → A → Forest A → Forest A
+added_by above row f = with_children_by above (λ cs. and_then cs (leaf row)) f
+
+-- the first tree whose root passes the test goes below the first that passes the other, at an index among its children
+abbrev pub moved_by : {A : Type 0} → (A → Bool) → (A → Bool) → ℕ → Forest A → Forest A
+moved_by test above n f = with_children_by above (put_at n (tree_by test f)) (cut_by test f)
+
+-- the same, as the last child
+abbrev pub moved_last_by : {A : Type 0} → (A → Bool) → (A → Bool) → Forest A → Forest A
+moved_last_by test above f = with_children_by above (λ cs. and_then cs (tree_by test f)) (cut_by test f)
+
 -- f of each row that passes the test
 abbrev pub with_row_by : {A : Type 0} → (A → Bool) → (A → A) → Forest A → Forest A
 with_row_by test f Empty = Empty
@@ -127,6 +149,14 @@ tree_at f h = tree_by (λ k. eqb k h) f
 abbrev pub children_of : Forest ℕ → ℕ → Forest ℕ
 children_of f h = children_by (λ k. eqb k h) f
 
+-- the tree at h, and the trees that stand beside it after it
+abbrev pub list_from : Forest ℕ → ℕ → Forest ℕ
+list_from f h = from_by (λ k. eqb k h) f
+
+-- those trees alone
+abbrev pub list_after : Forest ℕ → ℕ → Forest ℕ
+list_after f h = after_by (λ k. eqb k h) f
+
 -- a root has depth 1, and what is not there has depth 0
 abbrev pub depth_of : Forest ℕ → ℕ → ℕ
 depth_of f h = depth_by (λ k. eqb k h) f
@@ -146,15 +176,15 @@ with_children f p g = with_children_by (λ k. eqb k p) g f
 
 -- h becomes the last child of p
 abbrev pub added : Forest ℕ → ℕ → ℕ → Forest ℕ
-added f p h = with_children f p (λ cs. and_then cs (leaf h))
+added f p h = added_by (λ k. eqb k p) h f
 
 -- the tree at h becomes the child of p before which so many others stand, or the last
 abbrev pub moved : Forest ℕ → ℕ → ℕ → ℕ → Forest ℕ
-moved f h p n = with_children (cut f h) p (put_at n (tree_at f h))
+moved f h p n = moved_by (λ k. eqb k h) (λ k. eqb k p) n f
 
 -- the tree at h becomes the last child of p
 abbrev pub moved_last : Forest ℕ → ℕ → ℕ → Forest ℕ
-moved_last f h p = with_children (cut f h) p (λ cs. and_then cs (tree_at f h))
+moved_last f h p = moved_last_by (λ k. eqb k h) (λ k. eqb k p) f
 
 -- how often a handle stands in a forest
 abbrev pub count : Forest ℕ → ℕ → ℕ

@@ -1,0 +1,3 @@
+pub mod AllocSteps
+pub mod FreeList
+pub mod RawSteps

@@ -1,0 +1,10 @@
+pub mod Changes
+pub mod Emptied
+pub mod Grown
+pub mod Handles
+pub mod Kept
+pub mod Linked
+pub mod Lists
+pub mod Placed
+pub mod Table
+pub mod Trees

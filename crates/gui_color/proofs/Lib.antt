@@ -1,0 +1,7 @@
+pub mod Fields
+pub mod Floor
+pub mod Mixes
+pub mod Places
+pub mod Runs
+pub mod Rows
+pub mod Pixels

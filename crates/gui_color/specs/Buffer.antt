@@ -1,0 +1,48 @@
+-- What callers see of a draw buffer.
+use Rattle.std.specs.Prelude.{◌≡◌, ℕ, ◌+◌, ◌*◌, List, ◌++◌, take, drop, length, slice_index_or, slice_range, ℤ, pos, negsuc, ◌-ℤ◌}
+use Rattle.std.specs.Int.RustNames.{unsigned_abs}
+use Rattle.gui_base.specs.declared.color.Rgb565.{Rgb565}
+use Rattle.gui_base.specs.Area.{Rect, width_of, size_of}
+use Rattle.gui_base.specs.Color.{black}
+
+-- an area, the colours of its pixels row by row, and how many pixels there may be
+pub record Buffer : Type 0 where
+  pub area : Rect
+  pub pixels : List Rgb565
+  pub limit : ℕ
+
+-- each pixel of the area has a colour
+abbrev pub IsWhole : Buffer → Type 0
+IsWhole buf = length buf.pixels ≡ size_of buf.area
+
+-- the area of a buffer that was just opened
+abbrev pub no_pixel : Rect
+no_pixel = record { x1 = pos 0; y1 = pos 0; x2 = negsuc 0; y2 = negsuc 0 }
+
+-- how far a number is from another below it
+abbrev pub distance : ℤ → ℤ → ℕ
+distance from to = unsigned_abs (to -ℤ from)
+
+-- how many pixels of an area come before one of its pixels, row by row
+unfoldable pub place : Rect → ℤ → ℤ → ℕ
+place area x y = distance area.y1 y * width_of area + distance area.x1 x
+
+-- the colour of a pixel of the area
+unfoldable pub pixel_at : Buffer → ℤ → ℤ → Rgb565
+pixel_at buf x y = slice_index_or buf.pixels (place buf.area x y) black
+
+-- the colours of row y from column x1 to column x2
+unfoldable pub row_of : Buffer → ℤ → ℤ → ℤ → List Rgb565
+row_of buf y x1 x2 = slice_range buf.pixels (place buf.area x1 y) (place buf.area x2 y + 1)
+
+-- a list with ws written over as many of its elements from place i on
+unfoldable pub with_run : List Rgb565 → ℕ → List Rgb565 → List Rgb565
+with_run ps i ws = take (length ps) (take i ps ++ (ws ++ drop (length ws) (drop i ps)))
+
+-- the buffer with ws written over as many pixels of row y from column x1 on
+abbrev pub with_row : Buffer → ℤ → ℤ → List Rgb565 → Buffer
+with_row buf y x1 ws = record buf { pixels = with_run buf.pixels (place buf.area x1 y) ws }
+
+-- the pixels of row y from column x1 to column x2
+abbrev pub row_area : ℤ → ℤ → ℤ → Rect
+row_area y x1 x2 = record { x1 = x1; y1 = y; x2 = x2; y2 = y }

@@ -1,0 +1,12 @@
+//! Mixing colours, and the buffer that pixels are drawn into.
+#![tactic(auto)]
+
+pub mod buffer;
+pub mod mixing;
+pub mod row;
+#[cfg(test)]
+mod tests;
+
+pub use buffer::DrawBuf;
+pub use mixing::{combine, mix};
+pub use row::fill_row;

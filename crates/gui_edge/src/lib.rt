@@ -2,13 +2,21 @@
 //! told to fail and with adapters over std.
 #![tactic(auto)]
 
+mod fault_plan;
 pub mod panel;
+pub mod ppm;
+mod screen;
+pub mod sim_panel;
 pub mod sink;
 pub mod source;
+#[cfg(test)]
+mod tests;
+pub mod text;
 
 pub use panel::{OpenFault, Panel};
-pub use sink::Sink;
-pub use source::Source;
+pub use sim_panel::{SimPanel, SimPlan};
+pub use sink::{MemSink, Sink, StdSink};
+pub use source::{MemSource, Source, StdSource};
 
 /// A call on the outside failed. The object's count of faults rose in that call, and tells so.
 #[derive(Clone, Copy, Debug, PartialEq, Eq)]

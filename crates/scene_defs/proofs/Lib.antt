@@ -1,0 +1,10 @@
+pub mod Changes
+pub mod Distinct
+pub mod First
+pub mod Handles
+pub mod Heights
+pub mod Pictures
+pub mod RowKinds
+pub mod Totals
+pub mod Validity
+pub mod Walks

@@ -1,2 +1,6 @@
+pub mod Change
+pub mod Laws
 pub mod Picture
 pub mod Scene
+pub mod Valid
+pub mod Walk

@@ -2,6 +2,8 @@
 //! definitions share, and laws.
 #![tactic(auto)]
 
+pub mod laws;
+
 use gui_base::{Flag, Handle, Kind, Length, Part, Prop};
 
 /// A change of the scene. No change holds a kind that only roots have.

@@ -1,0 +1,52 @@
+-- What is shown, found by one walk down the trees.
+use Rattle.std.specs.Prelude.{◌≡◌, ◌≢◌, false, if◌then◌else◌, None, Some, List, [], ◌∷◌, ◌++◌}
+use Rattle.std.specs.declared.option.Option.{Option}
+use Rattle.std.specs.List.{All}
+use Rattle.std.specs.Option.{IsSomeAnd}
+use Rattle.gui_base.specs.Area.{Rect, is_empty, Covers}
+use Rattle.gui_base.specs.Forest.{Forest, Empty, Tree, StandsOnce}
+use Rattle.scene_defs.specs.Scene.{Row, Scene, handles_of}
+use Rattle.scene_defs.specs.Picture.{Seen, panel_of, placed, met, items_of, shown_trees, shown}
+
+-- what the clip leaves of an object with this row that stands there
+abbrev pub clipped : Option Rect → Rect → Row → Option Rect
+clipped clip place row = if row.flags.hidden then None else met clip place
+
+-- the object alone, where something is seen of it
+abbrev pub seen_row : Option Rect → Rect → Row → List Seen
+seen_row None place row = []
+seen_row (Some area) place row = record { handle = row.handle; visible = Some area; items = items_of place row } ∷ []
+
+-- the objects of these trees that are seen, each before those below it; the trees' parent stands at `parent`, and the clip is what is seen of it
+abbrev pub walked : Rect → Option Rect → Rect → Forest Row → List Seen
+walked panel clip parent Empty = []
+walked panel clip parent (Tree row cs rest) =
+    let place = placed panel parent row in
+    let area = clipped clip place row in
+    seen_row area place row ++ (walked panel area place cs ++ walked panel clip parent rest)
+
+-- a scene's handles stand once each, and its active screen is no layer
+pub record IsShowable (scene : Scene) : Type 0 where
+  pub once : StandsOnce (handles_of scene.trees)
+  pub above_top : scene.active ≢ 1
+  pub above_system : scene.active ≢ 2
+
+-- the walk meets what is shown, in its order
+abbrev pub ShownByWalk : Type 0
+ShownByWalk = (scene : Scene) → IsShowable scene → shown scene ≡ walked (panel_of scene) (Some (panel_of scene)) (panel_of scene) (shown_trees scene)
+
+-- nothing is seen below what is not seen
+abbrev pub NothingBelowNothing : Type 0
+NothingBelowNothing = (panel parent : Rect) (trees : Forest Row) → walked panel None parent trees ≡ []
+
+-- something is seen of the object, and only inside the area
+abbrev pub IsSeenInside : Rect → Seen → Type 0
+IsSeenInside area s = IsSomeAnd s.visible (λ v. (is_empty v ≡ false) × Covers area v)
+
+-- a walk goes nowhere outside its clip
+abbrev pub WalkedInside : Type 0
+WalkedInside = (panel clip parent : Rect) (trees : Forest Row) → All (IsSeenInside clip) (walked panel (Some clip) parent trees)
+
+-- all that is shown is seen inside the panel
+abbrev pub ShownInside : Type 0
+ShownInside = (scene : Scene) → All (IsSeenInside (panel_of scene)) (shown scene)

@@ -1,0 +1,35 @@
+//! What follows from the definitions. Each function does nothing: its contract is a law, which is proved.
+ghost use Rattle.scene_defs.specs.Laws.{ChangeKeepsLimits, FullWithoutRoom, DoneWithRoom, RefusedWhateverLimits};
+ghost use Rattle.scene_defs.specs.Valid.{FirstIsValid, ChangeKeepsValid, ValidIsShowable};
+ghost use Rattle.scene_defs.specs.Walk.{ShownByWalk, NothingBelowNothing, WalkedInside, ShownInside};
+
+/// A change leaves the limits.
+pub fn change_keeps_limits()
+    ensures { ChangeKeepsLimits }
+{}
+
+/// A change is refused for a full pool where it needs more slots than are free, after all other refusals, which do not look at the limits.
+pub fn full_by_count()
+    ensures without_room { FullWithoutRoom }
+    ensures with_room { DoneWithRoom }
+    ensures others { RefusedWhateverLimits }
+{}
+
+/// One walk down the trees meets what is shown, in its order, and goes no further where nothing is seen.
+pub fn shown_by_walk()
+    ensures same { ShownByWalk }
+    ensures nothing { NothingBelowNothing }
+{}
+
+/// What is shown lies inside the panel, and what a walk meets inside its clip.
+pub fn shown_inside()
+    ensures shown { ShownInside }
+    ensures walked { WalkedInside }
+{}
+
+/// The first scene is in order, a change whose numbers are in range keeps a scene so, and one walk meets what is shown of it.
+pub fn scenes_are_valid()
+    ensures first { FirstIsValid }
+    ensures changed { ChangeKeepsValid }
+    ensures showable { ValidIsShowable }
+{}

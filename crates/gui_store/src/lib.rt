@@ -1,0 +1,12 @@
+//! The objects of a scene: their tree, a row for each, and the changes that a script may ask for.
+//!
+//! All memory is taken at [`Store::open`]. A change is done as a whole or refused, and a refusal leaves all as it was.
+#![tactic(auto)]
+
+mod row;
+mod store;
+#[cfg(test)]
+mod tests;
+
+pub use row::Row;
+pub use store::Store;

@@ -1,9 +1,9 @@
 -- How the lines of a script grow by one byte.
-use Rattle.std.proofs.Common.{◌≡◌, ◌≢◌, ℕ, true, false, List, [], ◌∷◌, ◌++◌, map, refl, ap, ◌∙◌, arith}
-use Rattle.std.proofs.lemmas.Bool.Decides.{nat_tests}
-use Rattle.std.proofs.lemmas.List.{map-append}
+use Rattle.std.proofs.Common.{◌≡◌, ◌≢◌, ℕ, true, false, List, [], ◌∷◌, ◌++◌, map, refl, ap, ◌∙◌, arith, sym, append_assoc, inl, inr}
+use Rattle.std.proofs.lemmas.Bool.Decides.{nat_tests, eqb_tells}
+use Rattle.std.proofs.lemmas.List.{map-append, append-nil}
 use Rattle.std.specs.List.{list_any}
-use Rattle.run_defs.specs.Script.{is_newline, lines_of, rest_of, onto, ended_says, says_cut}
+use Rattle.run_defs.specs.Script.{Said, is_newline, lines_of, rest_of, onto, ended_says, says_cut, says, Whole, open_says}
 
 -- bytes with no newline are no line, and all of them are the rest
 no_line : (bs : List ℕ) → list_any is_newline bs ≡ false → lines_of bs ≡ []
@@ -62,3 +62,20 @@ says_cut-newline bs = ap (map ended_says) (lines_of-newline bs) ∙ map-append e
 
 pub says_cut-other : (bs : List ℕ) (b : ℕ) → b ≢ 10 → says_cut (bs ++ b ∷ []) ≡ says_cut bs
 says_cut-other bs b ne = ap (map ended_says) (lines_of-other bs b ne)
+
+-- more bytes leave the lines before them as they are
+one_longer : (xs : List ℕ) (b : ℕ) → (more : List Said) × (says_cut (xs ++ b ∷ []) ≡ says_cut xs ++ more)
+one_longer xs b = elim (eqb_tells b 10) [
+  | inl is ↦ (ended_says (rest_of xs) ∷ [], rw (is.1) (says_cut-newline xs))
+  | inr isnt ↦ ([], says_cut-other xs b isnt.1 ∙ sym (append-nil (says_cut xs)))
+]
+
+pub says_cut-longer : (xs ys : List ℕ) → (more : List Said) × (says_cut (xs ++ ys) ≡ says_cut xs ++ more)
+says_cut-longer xs [] = ([], ap says_cut (append-nil xs) ∙ sym (append-nil (says_cut xs)))
+says_cut-longer xs (b ∷ ys) =
+    let one = one_longer xs b in
+    let rest = says_cut-longer (xs ++ b ∷ []) ys in
+    (one.0 ++ rest.0, ap says_cut (sym (append_assoc xs (b ∷ []) ys)) ∙ (rest.1 ∙ (ap (λ (t : List Said). t ++ rest.0) one.1 ∙ append_assoc (says_cut xs) one.0 rest.0)))
+
+pub says_whole-longer : (xs : List ℕ) → says Whole xs ≡ says_cut xs ++ open_says (rest_of xs)
+says_whole-longer xs = refl

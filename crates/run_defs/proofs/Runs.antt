@@ -1,6 +1,6 @@
 -- How a run goes on.
 use Rattle.std.proofs.Common.{◌≡◌, ◌∙◌, sym, ap, ℕ, suc, ◌+◌, ◌||◌, Bool, true, false, nat_lt, List, [], ◌∷◌, ◌++◌, length, arith, refl, append_assoc, zero-add}
-use Rattle.std.specs.Prelude.{Some, None}
+use Rattle.std.specs.Prelude.{Some, None, Ok, Err}
 use Rattle.std.specs.declared.option.Option.{Option}
 use Rattle.std.specs.List.{list_any}
 use Rattle.std.proofs.lemmas.List.Folds.{list_any-append}
@@ -8,6 +8,9 @@ use Rattle.std.proofs.lemmas.Grind.{flat_map-append}
 use Rattle.std.proofs.lemmas.Bool.Decides.{nat_tests}
 use Rattle.scene_defs.specs.Scene.{Scene}
 use Rattle.scene_defs.specs.Picture.{frame_file}
+use Rattle.scene_defs.proofs.Changes.{change_keeps_limits}
+use Rattle.run_defs.specs.declared.Command.TheVariants.{Change as CommandOf}
+use Rattle.run_defs.specs.declared.Line.TheVariants.{Blank, Frame, Make}
 use Rattle.run_defs.specs.declared.Outcome.{Outcome}
 use Rattle.run_defs.specs.declared.Outcome.TheVariants.{Done, Fault}
 use Rattle.run_defs.specs.Machine.{Machine}
@@ -107,3 +110,14 @@ noted-append es fs o x =
     ∙ ap (λ (n : ℕ). (list_any is_refused es || list_any is_refused fs) || nat_lt 0 n) (fault_count-append o x)
     ∙ ap (λ (b : Bool). (list_any is_refused es || list_any is_refused fs) || b) (any_fault (fault_count o) (fault_count x))
     ∙ swapped (list_any is_refused es) (list_any is_refused fs) (nat_lt 0 (fault_count o)) (nat_lt 0 (fault_count x))
+
+-- no line changes the limits
+pub after-limits : (m : Machine) (said : Said) → (after m said).scene.limits ≡ m.scene.limits
+after-limits m (Ok Blank) = refl
+after-limits m (Ok Frame) = refl
+after-limits m (Ok (Make (CommandOf change))) = change_keeps_limits m.scene change
+after-limits m (Err fault) = refl
+
+pub after_all-limits : (m : Machine) (lines : List Said) → (after_all m lines).scene.limits ≡ m.scene.limits
+after_all-limits m [] = refl
+after_all-limits m (said ∷ lines) = after_all-limits (after m said) lines ∙ after-limits m said

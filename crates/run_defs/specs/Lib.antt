@@ -1,5 +1,7 @@
+pub mod Language
 pub mod Laws
 pub mod Machine
 pub mod Run
 pub mod Script
+pub mod Why
 pub mod Words

@@ -1,16 +1,20 @@
 -- What a run of a script comes to, along the outcomes of its frames.
-use Rattle.std.specs.Prelude.{ℕ, Bool, true, false, ◌||◌, nat_lt, Some, None, Ok, Err, ◌+◌, List, [], ◌∷◌, ◌++◌, codes, decimal}
+use Rattle.std.specs.Prelude.{ℕ, is_some, Bool, true, false, ◌||◌, nat_lt, Some, None, Ok, Err, ◌+◌, List, [], ◌∷◌, ◌++◌, codes, decimal}
 use Rattle.std.specs.declared.option.Option.{Option}
 use Rattle.std.specs.List.{flat_map, list_any}
 use Rattle.scene_defs.specs.Scene.{Scene}
 use Rattle.scene_defs.specs.Picture.{frame_file}
-use Rattle.run_defs.specs.declared.Line.TheVariants.{Blank, Frame}
+use Rattle.scene_defs.specs.Change.{answer_of, changed}
+use Rattle.gui_base.specs.declared.refusal.Refusal.{Refusal}
+use Rattle.run_defs.specs.declared.Command.TheVariants.{Change as CommandOf}
+use Rattle.run_defs.specs.declared.Line.TheVariants.{Blank, Frame, Make}
 use Rattle.run_defs.specs.declared.LineFault.{LineFault}
 use Rattle.run_defs.specs.declared.LineFault.TheVariants.{Long, Syntax, Range}
 use Rattle.run_defs.specs.declared.Outcome.{Outcome}
 use Rattle.run_defs.specs.declared.Outcome.TheVariants.{Done, Fault}
 use Rattle.run_defs.specs.Machine.{Machine}
 use Rattle.run_defs.specs.Script.{Said}
+use Rattle.run_defs.specs.Why.{why}
 
 -- what a line comes to: nothing, a reply, which may be a refusal, or a frame of this scene
 pub data Entry : Type 0 where
@@ -26,14 +30,26 @@ why_fault Range = codes "range"
 abbrev pub refused_for : List ℕ → Entry
 refused_for why = Replied (codes "refused " ++ why) true
 
+-- the reply to a command by why it is refused, if it is
+abbrev pub reply_text : Option Refusal → List ℕ
+reply_text None = codes "ok"
+reply_text (Some refusal) = codes "refused " ++ why refusal
+
+abbrev pub reply : Option Refusal → Entry
+reply refusal = Replied (reply_text refusal) (is_some refusal)
+
 abbrev pub entry : Machine → Said → Entry
 entry machine (Ok Blank) = Silent
 entry machine (Ok Frame) = Framed machine.scene
+entry machine (Ok (Make (CommandOf change))) = reply (answer_of machine.scene change)
 entry machine (Err fault) = refused_for (why_fault fault)
 
 -- the machine after a line
 abbrev pub after : Machine → Said → Machine
-after machine said = machine
+after machine (Ok Blank) = machine
+after machine (Ok Frame) = machine
+after machine (Ok (Make (CommandOf change))) = record machine { scene = changed machine.scene change }
+after machine (Err fault) = machine
 
 abbrev pub entries : Machine → List Said → List Entry
 entries machine [] = []
@@ -120,3 +136,11 @@ last_done seen (Replied text refused ∷ es) outcomes = last_done None es outcom
 last_done seen (Framed scene ∷ es) [] = None
 last_done seen (Framed scene ∷ es) (Done ∷ outcomes) = last_done (Some scene) es outcomes
 last_done seen (Framed scene ∷ es) (Fault ∷ outcomes) = last_done None es outcomes
+
+-- the entries up to the frames that these outcomes are for
+abbrev pub framed : List Entry → List Outcome → List Entry
+framed es [] = []
+framed [] (outcome ∷ outcomes) = []
+framed (Silent ∷ es) (outcome ∷ outcomes) = Silent ∷ framed es (outcome ∷ outcomes)
+framed (Replied text refused ∷ es) (outcome ∷ outcomes) = Replied text refused ∷ framed es (outcome ∷ outcomes)
+framed (Framed scene ∷ es) (outcome ∷ outcomes) = Framed scene ∷ framed es outcomes

@@ -1,11 +1,13 @@
 -- What a script says: its lines, and what each of them says.
-use Rattle.std.specs.Prelude.{ℕ, ◌-◌, Bool, ◌==◌, ◌&&◌, nat_eq, nat_lt, if◌then◌else◌, List, [], ◌∷◌, ◌++◌, length, take, drop, slice_index, map, codes, Ok, Err}
+use Rattle.std.specs.Prelude.{ℕ, ◌-◌, Bool, ◌==◌, nat_lt, if◌then◌else◌, List, [], ◌∷◌, ◌++◌, length, take, slice_index, map, codes, Ok, Err}
 use Rattle.std.specs.declared.result.Result.{Result}
-use Rattle.std.specs.List.{list_all, list_any, starts_with}
+use Rattle.std.specs.List.{list_any}
 use Rattle.run_defs.specs.declared.Line.{Line}
-use Rattle.run_defs.specs.declared.Line.TheVariants.{Blank, Frame}
+use Rattle.run_defs.specs.declared.Line.TheVariants.{Blank, Frame, Make}
+use Rattle.run_defs.specs.declared.Command.TheVariants.{Change as CommandOf}
 use Rattle.run_defs.specs.declared.LineFault.{LineFault}
 use Rattle.run_defs.specs.declared.LineFault.TheVariants.{Long, Syntax}
+use Rattle.run_defs.specs.Language.{Word, words_of, is_comment, is_in_no_word, is_name, mapped, change_of}
 
 -- what a line says, or why it is refused
 abbrev pub Said : Type 0
@@ -18,7 +20,6 @@ max_line = 4096
 abbrev pub max_script : ℕ
 max_script = 16777216
 
--- a newline, a carriage return, a space and a number sign
 abbrev pub is_newline : ℕ → Bool
 is_newline b = b == 10
 
@@ -37,22 +38,27 @@ abbrev pub rest_of : List ℕ → List ℕ
 rest_of [] = []
 rest_of (b ∷ bs) = if list_any is_newline (b ∷ bs) then rest_of bs else b ∷ bs
 
--- the bytes from the first that is no space
-abbrev pub skip_spaces : List ℕ → List ℕ
-skip_spaces [] = []
-skip_spaces (b ∷ bs) = if b == 32 then skip_spaces bs else b ∷ bs
+-- `frame` stands alone
+abbrev pub frame_form : List Word → Said
+frame_form [] = Ok Frame
+frame_form (word ∷ words) = Err Syntax
 
--- what bytes say that do not begin with a space: nothing where there are none or where they begin with a number sign
-abbrev pub words_say : List ℕ → Said
+-- what words say
+unfoldable pub words_say : List Word → Said
 words_say [] = Ok Blank
-words_say (b ∷ bs) =
-    if b == 35 then Ok Blank
-    else if starts_with nat_eq (b ∷ bs) (codes "frame") && list_all (λ x. x == 32) (drop 5 (b ∷ bs)) then Ok Frame
-    else Err Syntax
+words_say (name ∷ words) =
+    if is_name (codes "frame") name then frame_form words else mapped (λ change. Make (CommandOf change)) (change_of name words)
+
+-- what a line says that is not too long
+unfoldable pub line_says : List ℕ → Said
+line_says line =
+    if is_comment line then Ok Blank
+    else if list_any is_in_no_word line then Err Syntax
+    else words_say (words_of line)
 
 -- what the bytes of a line say
 abbrev pub parse : List ℕ → Said
-parse bytes = if nat_lt max_line (length bytes) then Err Long else words_say (skip_spaces bytes)
+parse line = if nat_lt max_line (length line) then Err Long else line_says line
 
 -- the line without one carriage return at its end
 abbrev pub without_return : List ℕ → List ℕ

@@ -2,17 +2,27 @@
 //! code here but the words that code and definitions share, and laws.
 #![tactic(auto)]
 
-ghost use Rattle.run_defs.specs.Laws.{ShowsOutcomes};
+ghost use Rattle.run_defs.specs.Laws.{ShowsOutcomes, SaysInRange};
 
+use scene_defs::Change;
 use thiserror::Error;
 
+/// What a line asks of the machine, beside a frame.
+#[derive(Clone, Copy)]
+pub enum Command {
+    /// A change of the scene.
+    Change(Change),
+}
+
 /// What a line of the script says.
-#[derive(Clone, Copy, Debug, PartialEq, Eq)]
+#[derive(Clone, Copy)]
 pub enum Line {
     /// Nothing: a blank line or a comment.
     Blank,
     /// A frame is refreshed and presented.
     Frame,
+    /// A command is carried out.
+    Make(Command),
 }
 
 /// Why a line of the script is refused before it is looked at as a command. Where several apply, the first is answered.
@@ -41,4 +51,9 @@ pub enum Outcome {
 /// A log shows the outcomes of its frames.
 pub fn log_shows_outcomes()
     ensures { ShowsOutcomes }
+{}
+
+/// What a line says has each number in its interval.
+pub fn lines_say_in_range()
+    ensures { SaysInRange }
 {}

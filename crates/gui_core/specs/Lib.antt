@@ -1,0 +1,4 @@
+pub mod Machines
+pub mod Painting
+pub mod Panels
+pub mod Spots

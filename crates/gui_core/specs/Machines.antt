@@ -1,0 +1,6 @@
+-- The machine that a `Gui` is.
+use Rattle.run_defs.specs.Machine.{Machine}
+use Rattle.gui_core.specs.declared.gui.Gui.{Gui}
+
+abbrev pub machine_of : Gui → Machine
+machine_of gui = record { scene = gui.store }

@@ -1,0 +1,20 @@
+//! The machine: a scene, and how it comes to a panel.
+#![tactic(auto)]
+
+mod area;
+mod fill;
+mod gui;
+mod paint;
+#[cfg(test)]
+mod tests;
+
+pub use gui::Gui;
+
+/// How a refresh ended.
+#[derive(Clone, Copy, Debug, PartialEq, Eq)]
+pub enum Refreshed {
+    /// Nothing is pending, and the panel shows the picture.
+    Done,
+    /// A flush failed, and its slice is pending again.
+    Fault,
+}

@@ -1,0 +1,139 @@
+//! Painting a scene into a draw buffer.
+ghost use Rattle.std.specs.Prelude.{◌≡◌, ℕ, IfSome, Some, option_map};
+ghost use Rattle.gui_base.specs.Corners.{rect_of};
+ghost use Rattle.gui_base.specs.Forest.{tree_by};
+ghost use Rattle.gui_base.specs.declared.words.Prop.TheVariants.{BgColor, BgOpa};
+ghost use Rattle.scene_defs.specs.Scene.{handles_of, is_at, value_of};
+ghost use Rattle.scene_defs.specs.Picture.{panel_of, placed, pixels_of, rgb_of};
+ghost use Rattle.scene_defs.specs.Valid.{IsValid, IsOffset, IsSize, IsValue};
+ghost use Rattle.scene_defs.specs.Walk.{clipped};
+ghost use Rattle.gui_store.specs.Rows.{row_of};
+ghost use Rattle.gui_core.specs.Painting.{Paints, painted, painted_row, painted_scene, HasRoom, IsNear};
+ghost use Rattle.gui_core.specs.Spots.{visible_of};
+
+use crate::area::area_from;
+use crate::fill::fill;
+use gui_base::{Area, Flag, Handle, Kind, Length, Part, Prop, Rgb565};
+use gui_color::DrawBuf;
+use gui_store::{Row, Store};
+use gui_tree::Tree;
+
+/// The layer above the active screen.
+const TOP_LAYER: Handle = Handle(1);
+
+/// The layer above all else.
+const SYSTEM_LAYER: Handle = Handle(2);
+
+/// Where an object stands, and what is seen of it.
+#[derive(Clone, Copy)]
+struct Spot {
+    place: Area,
+    visible: Area,
+}
+
+/// Paints what is shown of a scene over the pixels of the buffer: the active screen, and the layers above it.
+pub(crate) fn paint(store: &Store, buf: &mut DrawBuf)
+    ensures { Paints buf.old buf.new (painted_scene store.now) }
+{
+    let limits = store.limits();
+    let panel = area_from(0, 0, limits.width, limits.height);
+    let ground = Spot {
+        place: panel,
+        visible: panel.meet(buf.area()),
+    };
+    let tree = store.tree();
+    paint_tree(store, tree, buf, panel, ground, store.active());
+    paint_tree(store, tree, buf, panel, ground, TOP_LAYER);
+    paint_tree(store, tree, buf, panel, ground, SYSTEM_LAYER);
+}
+
+/// Paints an object and then all that stands on it, where the spot is that of its parent. What is not there paints nothing.
+fn paint_tree(store: &Store, tree: &Tree, buf: &mut DrawBuf, panel: Area, parent: Spot, h: Handle)
+    requires tree { tree.now.forest ≡ handles_of store.now.trees }
+    requires valid { IsValid store.now }
+    requires panel { rect_of panel ≡ panel_of store.now }
+    requires room { HasRoom (rect_of parent.place) (tree_by (is_at h.0) store.now.trees) }
+    ensures { Paints buf.old buf.new (painted (rect_of panel) (Some (rect_of parent.visible)) (rect_of parent.place) (tree_by (is_at h.0) store.now.trees)) }
+{
+    let Some(row) = store.row(h) else {
+        return;
+    };
+    let Some(spot) = spot_of(row, panel, parent) else {
+        return;
+    };
+    fill_spot(buf, spot, row);
+    let mut next = tree.first_child(h);
+    while let Some(child) = next {
+        paint_tree(store, tree, buf, panel, spot, child);
+        next = tree.next(child);
+    }
+}
+
+/// Where an object stands and what is seen of it, if anything is.
+fn spot_of(row: &Row, panel: Area, parent: Spot) -> Option<Spot>
+    requires near { IsNear (rect_of parent.place) }
+    requires offset { IsOffset row.now.x × IsOffset row.now.y }
+    requires size { IsSize row.now.width × IsSize row.now.height }
+    ensures visible { (h : ℕ) → option_map visible_of result ≡ clipped (Some (rect_of parent.visible)) (placed (rect_of panel) (rect_of parent.place) (row_of h row.now)) (row_of h row.now) }
+    ensures place { (h : ℕ) → IfSome result (λ spot. rect_of spot.place ≡ placed (rect_of panel) (rect_of parent.place) (row_of h row.now)) }
+{
+    if row.is_on(Flag::Hidden) {
+        return None;
+    }
+    let place = place_of(row, panel, parent.place);
+    let visible = parent.visible.meet(place);
+    if visible.is_empty() {
+        return None;
+    }
+    Some(Spot { place, visible })
+}
+
+/// Where an object stands whose parent stands at a place. A root fills the panel.
+fn place_of(row: &Row, panel: Area, parent: Area) -> Area
+    requires near { IsNear (rect_of parent) }
+    requires offset { IsOffset row.now.x × IsOffset row.now.y }
+    requires size { IsSize row.now.width × IsSize row.now.height }
+    ensures { (h : ℕ) → rect_of result ≡ placed (rect_of panel) (rect_of parent) (row_of h row.now) }
+{
+    match row.kind {
+        Kind::Screen | Kind::Layer => panel,
+        Kind::Obj => area_from(
+            parent.x1 + row.x,
+            parent.y1 + row.y,
+            pixels_of(row.width),
+            pixels_of(row.height),
+        ),
+    }
+}
+
+fn pixels_of(length: Length) -> u32
+    ensures { result ≡ pixels_of length }
+{
+    match length {
+        Length::Pixels(n) => u32::from(n),
+    }
+}
+
+/// Fills an object's place where it is seen.
+fn fill_spot(buf: &mut DrawBuf, spot: Spot, row: &Row)
+    requires color { (h : ℕ) → IsValue BgColor (value_of (row_of h row.now) BgColor) }
+    requires opa { (h : ℕ) → IsValue BgOpa (value_of (row_of h row.now) BgOpa) }
+    ensures { (h : ℕ) → Paints buf.old buf.new (painted_row (Some (rect_of spot.visible)) (rect_of spot.place) (row_of h row.now)) }
+{
+    let fg = rgb_of(row.value(Part::Main, Prop::BgColor));
+    let opa = row.value(Part::Main, Prop::BgOpa).unsigned_abs() as u8;
+    fill(buf, spot.visible, spot.place, fg, opa);
+}
+
+/// The colour of a value: red, green and blue in eight bits each.
+fn rgb_of(value: i32) -> Rgb565
+    requires { IsValue BgColor value }
+    ensures { result ≡ rgb_of value }
+{
+    let bits = value.unsigned_abs();
+    Rgb565::from_rgb(
+        (bits / 65536) as u8,
+        (bits / 256 % 256) as u8,
+        (bits % 256) as u8,
+    )
+}

@@ -1,0 +1,56 @@
+-- What a cutter says of the bytes that it took.
+use Rattle.std.proofs.Common.{◌≡◌, ◌≢◌, ◌∙◌, sym, ap, ℕ, Bool, true, false, List, [], ◌∷◌, ◌++◌, length, length-append, arith, refl, subst}
+use Rattle.std.specs.Prelude.{Some, None, IsSome, nat_lt, if◌then◌else◌}
+use Rattle.std.specs.declared.option.Option.{Option}
+use Rattle.std.proofs.lemmas.Bool.Decides.{nat_tests}
+use Rattle.run_defs.specs.Script.{max_line, is_newline, ended_says, open_says}
+use Rattle.scene_script.specs.declared.cutter.Cut.TheVariants.{More, Line, Long}
+use Rattle.scene_script.specs.Cutting.{Cutting, kept, kept_with, begun, cut_of, last_cut, pushed, finished, cut_line, cut_says}
+
+newline_says : (rest : List ℕ) → cut_line (cut_of (kept rest)) (kept rest) false ≡ ended_says rest ∷ []
+newline_says rest = grind (arith, nat_tests)
+
+pub cut_says-newline : (c : Cutting) (rest : List ℕ) → begun c ≡ kept rest → cut_says (pushed c 10) ≡ ended_says rest ∷ []
+cut_says-newline c rest e = ap (λ (o : Option (List ℕ)). cut_line (cut_of o) o false) e ∙ newline_says rest
+
+pub begun-newline : (c : Cutting) → begun (pushed c 10) ≡ Some []
+begun-newline c = ended (begun c) where
+  ended : (o : Option (List ℕ)) → begun (record { bytes = o; answer = cut_of o; last = false }) ≡ Some []
+  ended None = refl
+  ended (Some bytes) = refl
+
+pub cut_says-other : (c : Cutting) (b : ℕ) → b ≢ 10 → cut_says (pushed c b) ≡ []
+cut_says-other c b ne = grind (arith, nat_tests)
+
+kept-more : (bs : List ℕ) (b : ℕ) → kept_with (kept bs) b ≡ kept (bs ++ b ∷ [])
+kept-more bs b = grind (arith, nat_tests, length-append bs (b ∷ []))
+
+pub begun-other : (c : Cutting) (rest : List ℕ) (b : ℕ) → b ≢ 10 → begun c ≡ kept rest → begun (pushed c b) ≡ kept (rest ++ b ∷ [])
+begun-other c rest b ne e =
+    let test : is_newline b ≡ false = grind (arith, nat_tests) in
+    rw test (ap (λ (o : Option (List ℕ)). kept_with o b) e ∙ kept-more rest b)
+
+last_says : (rest : List ℕ) → cut_line (last_cut (kept rest)) (kept rest) true ≡ open_says rest
+last_says [] = refl
+last_says (b ∷ rest) = grind (arith, nat_tests)
+
+pub cut_says-finished : (c : Cutting) (rest : List ℕ) → begun c ≡ kept rest → cut_says (finished c) ≡ open_says rest
+cut_says-finished c rest e = ap (λ (o : Option (List ℕ)). cut_line (last_cut o) o true) e ∙ last_says rest
+
+-- a line that is whole is there
+abbrev pushed_by : Bool → Option (List ℕ) → Option (List ℕ) → Cutting
+pushed_by t o p = if t then record { bytes = o; answer = cut_of o; last = false } else record { bytes = p; answer = More; last = false }
+
+whole_by : (t : Bool) (o p : Option (List ℕ)) → (pushed_by t o p).answer ≡ Line → IsSome (pushed_by t o p).bytes
+whole_by true None p e = cc
+whole_by true (Some bytes) p e = refl
+whole_by false o p e = cc
+
+pub pushed_whole : (c : Cutting) (b : ℕ) → (pushed c b).answer ≡ Line → IsSome (pushed c b).bytes
+pushed_whole c b e = whole_by (is_newline b) (begun c) (kept_with (begun c) b) e
+
+pub finished_whole : (c : Cutting) → (finished c).answer ≡ Line → IsSome (finished c).bytes
+finished_whole c e = whole (begun c) e where
+  whole : (o : Option (List ℕ)) → last_cut o ≡ Line → IsSome o
+  whole None e = cc
+  whole (Some bytes) e = refl

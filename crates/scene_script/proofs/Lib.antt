@@ -1,0 +1,4 @@
+pub mod Cuts
+pub mod FormLemmas
+pub mod NumberLemmas
+pub mod WordLemmas

@@ -1,0 +1,116 @@
+//! Cuts a stream of bytes into lines.
+ghost use Rattle.std.specs.Prelude.{◌≡◌, IfSome, Some, [], false};
+ghost use Rattle.run_defs.specs.Script.{without_return};
+ghost use Rattle.scene_script.specs.Cutting.{begun, pushed, finished, line_of};
+
+use crate::parse::MAX_LINE;
+use arrayvec::ArrayVec;
+use std::marker::Model;
+
+/// What a byte, or the end of the script, makes of a line.
+#[derive(Clone, Copy, Debug, PartialEq, Eq)]
+pub enum Cut {
+    /// The line goes on.
+    More,
+    /// The line is whole.
+    Line,
+    /// The line is whole, and has more than 4,096 bytes before its newline.
+    Long,
+}
+
+/// The bytes of a line so far, in a fixed room.
+#[derive(Drop)]
+pub struct Cutter {
+    line: ArrayVec<u8, MAX_LINE>,
+    long: bool,
+    answer: Cut,
+    last: bool,
+}
+
+impl Model for Cutter {
+    ghost use Rattle.std.specs.Prelude.{Some, None, if◌then◌else◌};
+    ghost use Rattle.scene_script.specs.Cutting.{Cutting};
+
+    ghost Value = { Cutting };
+
+    ghost view = { λ c. record { bytes = if c.long then None else Some c.line.items; answer = c.answer; last = c.last } };
+}
+
+impl Cutter {
+    /// It holds the empty line.
+    pub fn new() -> Cutter
+        ensures { result ≡ record { bytes = Some []; answer = Cut.More; last = false } }
+    {
+        Cutter {
+            line: ArrayVec::new(),
+            long: false,
+            answer: Cut::More,
+            last: false,
+        }
+    }
+
+    /// Takes a byte of the script. A newline ends the line: `Line` where it has at most 4,096 bytes, else `Long`. The byte after that begins the next one.
+    pub fn push(&mut self, byte: u8) -> Cut
+        ensures state { self.new ≡ pushed self.old byte }
+        ensures answer { result ≡ self.new.answer }
+    {
+        self.begin();
+        if byte == b'\n' {
+            self.answer = if self.long { Cut::Long } else { Cut::Line };
+        } else if self.line.is_full() {
+            self.long = true;
+        } else {
+            self.line.push(byte);
+        }
+        self.answer
+    }
+
+    /// What is left at the end of the script: as [`Cutter::push`] answers a newline, but `More` where the line has no byte.
+    pub fn finish(&mut self) -> Cut
+        ensures state { self.new ≡ finished self.old }
+        ensures answer { result ≡ self.new.answer }
+    {
+        self.begin();
+        self.last = true;
+        if self.long {
+            self.answer = Cut::Long;
+        } else if !self.line.is_empty() {
+            self.answer = Cut::Line;
+        }
+        self.answer
+    }
+
+    /// The line, once the last answer was `Line`: without one carriage return at its end, which stays where no newline ended the line.
+    pub fn line(&self) -> &[u8]
+        requires { self.now.answer ≡ Cut.Line }
+        ensures { IfSome self.now.bytes (λ bytes. result.now ≡ line_of self.now.last bytes) }
+    {
+        if self.last {
+            self.line.as_slice()
+        } else {
+            trimmed(self.line.as_slice())
+        }
+    }
+
+    /// Begins the next line where the last one is whole.
+    fn begin(&mut self)
+        ensures { self.new ≡ record { bytes = begun self.old; answer = Cut.More; last = false } }
+    {
+        if self.answer != Cut::More {
+            self.line.clear();
+            self.long = false;
+            self.answer = Cut::More;
+        }
+        self.last = false;
+    }
+}
+
+/// The line without one carriage return at its end.
+fn trimmed(bytes: &[u8]) -> &[u8]
+    ensures { result.now ≡ without_return bytes.now }
+{
+    match bytes {
+        [front @ .., b'\r'] => front,
+        _ => bytes,
+    }
+}

@@ -1,0 +1,17 @@
+//! The script language: from bytes to lines, and from a line to what it says.
+#![tactic(auto)]
+
+mod commands;
+mod cutter;
+mod names;
+mod numbers;
+mod parse;
+mod refusals;
+#[cfg(test)]
+mod tests;
+mod words;
+
+pub use cutter::{Cut, Cutter};
+pub use parse::parse_line;
+pub use refusals::why;
+pub use run_defs::{Command, Line, LineFault};

@@ -1,0 +1,69 @@
+//! What a line says.
+ghost use Rattle.std.specs.Prelude.{◌≡◌};
+ghost use Rattle.std.specs.List.{list_any};
+ghost use Rattle.run_defs.specs.Language.{words_of, is_comment, is_in_no_word};
+ghost use Rattle.run_defs.specs.Script.{parse, line_says, words_say};
+
+use crate::commands::change;
+use crate::names::is_name;
+use crate::words::{from_first_word, next_word, no_word};
+use run_defs::{Command, Line, LineFault};
+
+/// The longest line in bytes.
+pub(crate) const MAX_LINE: usize = 4096;
+
+/// What a line of the script says, given without its newline and without the carriage return before that. Of the faults that apply the
+/// first is answered: a line of more than 4,096 bytes is long, also a comment; one without a form of the language is syntax; and one with a
+/// number outside its interval is range.
+pub fn parse_line(line: &[u8]) -> Result<Line, LineFault>
+    ensures { result ≡ parse line.now }
+{
+    if line.len() > MAX_LINE {
+        return Err(LineFault::Long);
+    }
+    say_line(line)
+}
+
+/// What a line says that is not too long.
+#[tactic(auto, unfolding(run_defs::specs::Script::line_says))]
+fn say_line(line: &[u8]) -> Result<Line, LineFault>
+    ensures { result ≡ line_says line.now }
+{
+    if is_comment(line) {
+        return Ok(Line::Blank);
+    }
+    if has_byte_of_no_word(line) {
+        return Err(LineFault::Syntax);
+    }
+    say_words(line)
+}
+
+/// What the words of these bytes say.
+#[tactic(auto, unfolding(run_defs::specs::Script::words_say))]
+fn say_words(bytes: &[u8]) -> Result<Line, LineFault>
+    ensures { result ≡ words_say (words_of bytes.now) }
+{
+    let Some((name, words)) = next_word(bytes) else {
+        return Ok(Line::Blank);
+    };
+    if is_name(name, "frame") {
+        no_word(words)?;
+        return Ok(Line::Frame);
+    }
+    let change = change(name, words)?;
+    Ok(Line::Make(Command::Change(change)))
+}
+
+/// Whether the first byte that is no space is `#`.
+fn is_comment(line: &[u8]) -> bool
+    ensures { result ≡ is_comment line.now }
+{
+    matches!(from_first_word(line), [b'#', ..])
+}
+
+/// Whether there is a control character or a quote.
+fn has_byte_of_no_word(line: &[u8]) -> bool
+    ensures { result ≡ list_any is_in_no_word line.now }
+{
+    line.iter().any(|b| *b < b' ' || *b == b'"')
+}

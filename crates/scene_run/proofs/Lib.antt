@@ -1,0 +1,8 @@
+pub mod Breaking
+pub mod Going
+pub mod Gone
+pub mod Halting
+pub mod Headlines
+pub mod Known
+pub mod Pools
+pub mod Taking

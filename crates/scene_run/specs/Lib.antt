@@ -1,0 +1,4 @@
+pub mod Effects
+pub mod Headline
+pub mod Reached
+pub mod Reads

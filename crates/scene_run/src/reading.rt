@@ -1,0 +1,54 @@
+//! Reads the script in pieces.
+ghost use Rattle.std.specs.Prelude.{◌≡◌, ◌⊎◌};
+ghost use Rattle.gui_edge.specs.Causes.{Rose};
+ghost use Rattle.gui_core.specs.Machines.{machine_of};
+ghost use Rattle.gui_core.specs.Panels.{HasSizes};
+ghost use Rattle.scene_run.specs.Headline.{Outside};
+ghost use Rattle.scene_run.specs.Reads.{Reads};
+
+use crate::runner::Runner;
+use crate::status::Status;
+use gui_core::Gui;
+use gui_edge::{Failed, Panel, Sink, Source};
+
+/// The longest script in bytes.
+const MAX_SCRIPT: usize = 16_777_216;
+
+/// Reads the script to its end, and answers each of its lines.
+pub fn read_script<S: Source, L: Sink, P: Panel>(
+    gui: Gui,
+    source: &mut S,
+    log: &mut L,
+    panel: &mut P,
+) -> Status
+    requires { HasSizes (P.state panel.old) (machine_of gui).scene.limits }
+    ensures reads { Reads (machine_of gui) (record { source = S.state source.old; log = L.state log.old; panel = P.state panel.old })
+        (record { source = S.state source.new; log = L.state log.new; panel = P.state panel.new }) result }
+    ensures read_fault { result ≡ Status.ReadFault → Rose (S.state source.old).faults (S.state source.new).faults }
+    ensures write_fault { result ≡ Status.WriteFault → Rose (L.state log.old).faults (L.state log.new).faults
+        ⊎ Rose (P.state panel.old).present_faults (P.state panel.new).present_faults }
+{
+    let mut runner = Runner::new(gui);
+    let mut buffer = [0; 4096];
+    let mut room = MAX_SCRIPT;
+    for _ in 0..=MAX_SCRIPT {
+        let count = match source.read(&mut buffer) {
+            Ok(count) => count,
+            Err(Failed) => return Status::ReadFault,
+        };
+        if count == 0 {
+            return runner.finish(log, panel);
+        }
+        let within = buffer.split_at(count.min(room)).0;
+        match runner.take_piece(within, log, panel) {
+            Ok(()) => {}
+            Err(Failed) => return Status::WriteFault,
+        }
+        if count > room {
+            return Status::TooLong;
+        }
+        room -= count;
+    }
+    // Each turn takes a byte at least, so that the room would be used up.
+    unreachable!()
+}

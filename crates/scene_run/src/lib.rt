@@ -4,6 +4,8 @@
 mod answer;
 mod reading;
 mod runner;
+#[cfg(test)]
+mod scene_tests;
 mod status;
 #[cfg(test)]
 mod tests;

@@ -20,7 +20,7 @@ const WHITE_FRAME: &[u8] =
 /// A call that fails: the opening of the panel, or the read, the put on the log, the put on the sink of the frames or the flush of this
 /// number, from 1.
 #[derive(Clone, Copy, Debug)]
-enum Fault {
+pub(crate) enum Fault {
     Open,
     Read(u64),
     Log(u64),
@@ -62,15 +62,20 @@ impl Plan {
 
 /// What a run reads and writes, in memory.
 #[derive(Drop)]
-struct Outside {
+pub(crate) struct Outside {
     source: MemSource,
-    log: MemSink,
-    panel: SimPanel<MemSink>,
+    pub(crate) log: MemSink,
+    pub(crate) panel: SimPanel<MemSink>,
 }
 
 impl Outside {
     /// A script in pieces of so many bytes, an empty log and a panel that is not opened.
-    fn new(alloc: Global, script: Vec<u8>, piece: usize, faults: &[Fault]) -> Result<Outside, Fail>
+    pub(crate) fn new(
+        alloc: Global,
+        script: Vec<u8>,
+        piece: usize,
+        faults: &[Fault],
+    ) -> Result<Outside, Fail>
         ensures { IfOk result (λ outside. outside.panel.limit ≡ 0) }
     {
         let plan = Plan::new(alloc, faults)?;
@@ -87,7 +92,7 @@ impl Outside {
     }
 
     /// Runs with these words.
-    fn run(&mut self, alloc: Global, words: &[&str]) -> Status
+    pub(crate) fn run(&mut self, alloc: Global, words: &[&str]) -> Status
         requires { self.old.panel.limit ≡ 0 }
     {
         run_scene(

@@ -8,10 +8,11 @@ ghost use Rattle.gui_core.specs.Panels.{HasSizes, Refreshes, AreLines, ShowsSlic
 use crate::Refreshed;
 use crate::area::area_from;
 use crate::paint::paint;
-use gui_base::{Area, Limits, NoMemory, Refusal, Steps};
+use gui_base::{Area, Limits, NoMemory, Steps};
 use gui_color::DrawBuf;
-use gui_edge::{Failed, Panel};
+use gui_edge::{Failed, Panel, Sink};
 use gui_store::Store;
+use run_defs::{Command, Reply};
 use scene_defs::Change;
 use std::alloc::Global;
 use std::sync::ledger::Ledger;
@@ -27,9 +28,12 @@ pub struct Gui {
 impl Gui {
     ghost use Rattle.gui_base.specs.Bounded.{bounds_of};
     ghost use Rattle.run_defs.specs.Machine.{first_machine};
+    ghost use Rattle.run_defs.specs.Step.{step, reply_by, IsCommand};
     ghost use Rattle.scene_defs.specs.Change.{answer_of, changed};
     ghost use Rattle.scene_defs.specs.Valid.{IsChange};
-    ghost use Rattle.gui_store.specs.Answers.{result_of};
+    ghost use Rattle.std.specs.Io.KnownBytes.{Appends};
+    ghost use Rattle.gui_edge.specs.Causes.{HasCause};
+    ghost use Rattle.gui_edge.specs.Sink.{AppendsFront};
     ghost use Rattle.gui_core.specs.Machines.{machine_of};
 
     /// The roots 1, 2 and 3, screen 3 active, and the whole panel pending.
@@ -41,14 +45,39 @@ impl Gui {
         Ok(Gui { store, buffer })
     }
 
-    /// Changes the scene, or answers the first refusal of this change, which leaves all as it was. The numbers of the change lie in
-    /// their intervals, and a new object is a plain one.
-    pub fn apply(&mut self, change: &Change) -> Result<(), Refusal>
-        requires { IsChange change.now }
-        ensures answer { result ≡ result_of (answer_of (machine_of self.old).scene change.now) }
-        ensures after { machine_of self.new ≡ record (machine_of self.old) { scene = changed (machine_of self.old).scene change.now } }
+    /// Carries out a command, or answers the first refusal of it, which leaves all as it was. What its events write goes to the log;
+    /// a change has no events. Failed comes only where the log failed: the machine is then as if it had not, and the log holds a front
+    /// of what the events write.
+    pub fn apply<S: Sink>(&mut self, command: &Command, log: &mut S) -> Result<Reply, Failed>
+        requires { IsCommand command.now }
+        ensures machine { machine_of self.new ≡ (step (machine_of self.old) command.now).machine }
+        ensures reply { IfOk result (λ reply. reply ≡ (step (machine_of self.old) command.now).reply) }
+        ensures lines { OnOk result (Appends (S.state log.old).held (S.state log.new).held (step (machine_of self.old) command.now).lines) }
+        ensures cut { OnErr result (AppendsFront (S.state log.old).held (S.state log.new).held (step (machine_of self.old) command.now).lines) }
+        ensures cause { HasCause (S.state log.old).faults (S.state log.new).faults result }
     {
-        self.store.apply(change)
+        match *command {
+            Command::Change(change) => Ok(self.change(&change)),
+        }
+    }
+
+    /// Changes the scene, and replies.
+    fn change(&mut self, change: &Change) -> Reply
+        requires { IsChange change.now }
+        ensures machine { machine_of self.new ≡ record (machine_of self.old) { scene = changed (machine_of self.old).scene change.now } }
+        ensures reply { result ≡ reply_by (answer_of (machine_of self.old).scene change.now) }
+    {
+        match self.store.apply(change) {
+            Ok(()) => Reply::Ok { noted: false },
+            Err(refusal) => Reply::Refused(refusal),
+        }
+    }
+
+    /// The scene.
+    pub fn store(&self) -> &Store
+        ensures { result.now ≡ (machine_of self.now).scene }
+    {
+        &self.store
     }
 
     /// Sends what is pending, in slices of at most the panel's limit, and stops at the first fault.

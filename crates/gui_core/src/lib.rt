@@ -9,6 +9,7 @@ mod paint;
 mod tests;
 
 pub use gui::Gui;
+pub use run_defs::Reply;
 
 /// How a refresh ended.
 #[derive(Clone, Copy, Debug, PartialEq, Eq)]

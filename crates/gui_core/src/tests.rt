@@ -4,11 +4,12 @@ ghost use Rattle.std.specs.Prelude.{◌≡◌, ◌<◌};
 ghost use Rattle.scene_defs.specs.Valid.{IsChange};
 
 use crate::paint::paint;
-use crate::{Gui, Refreshed};
-use gui_base::{Area, Handle, Kind, Length, Limits, Part, Prop, Rgb565, Steps};
+use crate::{Gui, Refreshed, Reply};
+use gui_base::{Area, Handle, Kind, Length, Limits, Part, Prop, Refusal, Rgb565, Steps};
 use gui_color::DrawBuf;
 use gui_edge::{MemSink, Panel, SimPanel, SimPlan};
 use gui_store::Store;
+use run_defs::Command;
 use scene_defs::Change;
 use std::alloc::Global;
 use std::marker::Brand;
@@ -47,6 +48,35 @@ fn refresh_white<L: Ledger>(rt: &impl Abort, alloc: Global, blank: Blank) -> Res
             assert_eq!(rt; panel.shown(x, y), Rgb565::WHITE, "{x}, {y}");
         }
     }
+    Ok(())
+}
+
+/// What the machine replies to a change.
+fn reply(gui: &mut Gui, log: &mut MemSink, change: Change) -> Option<Reply>
+    requires { IsChange change }
+{
+    gui.apply(&Command::Change(change), log).ok()
+}
+
+#[test]
+fn replies_to_changes_and_lends_the_scene(rt: HostRuntime) -> Result<(), Fail> {
+    let alloc = rt.alloc();
+    let mut gui = Gui::open(alloc, &Limits::with_sizes(4, 2, 1))?;
+    let mut log = MemSink::with_capacity(alloc, 0, Vec::new(alloc))?;
+    let (h, done) = (Handle(10), Some(Reply::Ok { noted: false }));
+    let range = Some(Reply::Refused(Refusal::Range));
+    assert_eq!(rt;
+        reply(&mut gui, &mut log, Change::New(h, Handle(3), Kind::Obj)),
+        done
+    );
+    assert_eq!(rt; reply(&mut gui, &mut log, Change::Pos(h, -1, 2)), done);
+    assert_eq!(rt; reply(&mut gui, &mut log, Change::Pos(h, 4001, 0)), range);
+    assert!(rt;
+        gui.store()
+            .row(h)
+            .is_some_and(|row| row.x == -1 && row.y == 2)
+    );
+    assert!(rt; log.bytes().is_empty());
     Ok(())
 }
 

@@ -16,8 +16,8 @@ use Rattle.gui_store.specs.declared.row.Row.{Row}
 use Rattle.scene_defs.specs.declared.Change.{Change}
 use Rattle.scene_defs.specs.declared.Change.TheVariants.{Screen as NewScreen, New, Delete, Parent, Index, Front, Back, Load}
 use Rattle.scene_defs.specs.Scene.{Row as SceneRow, is_at, entry_count, entries_of, new_row}
-use Rattle.scene_defs.specs.Change.{answer_of, scene_after, tree_below, parent_row, at_index_below, last_below, without, with_row, below_root_answer, stands_alone}
-use Rattle.scene_defs.proofs.Changes.{unmet, done_with_room}
+use Rattle.scene_defs.specs.Change.{answer_in_range, scene_after, tree_below, parent_row, at_index_below, last_below, without, with_row, below_root_answer, stands_alone}
+use Rattle.scene_defs.proofs.Changes.{unmet, room_in_range}
 use Rattle.scene_defs.proofs.Distinct.{there, IsDistinct, distinct_once}
 use Rattle.scene_defs.proofs.Totals.{total, total-and_then, total-put_at, total-cut, one, size-total, entries-total}
 use Rattle.scene_defs.proofs.Handles.{put_at-last}
@@ -47,7 +47,7 @@ module _ (p : Parts) (k : AreKept p) where
   written : (n : ℕ) (row : Row) (kind : Kind) → n < 10000 → row_of n row ≡ new_row n kind → row_in (slice_set p.rows n row) n ≡ new_row n kind
   written n row kind fits is = let a = k.long in let lt : n < length p.rows = omega arith in ap (row_of n) (get_or-set_same p.rows n row blank lt) ∙ is
 
-  pub fine-screen : (n : Handle) (row : Row) → n.0 < 10000 → row_of n.0 row ≡ new_row n.0 Screen → answer_of (scene_of p) (NewScreen n) ≡ None → Fine p (NewScreen n) (record p { tree = with_root p.tree n.0; rows = slice_set p.rows n.0 row })
+  pub fine-screen : (n : Handle) (row : Row) → n.0 < 10000 → row_of n.0 row ≡ new_row n.0 Screen → answer_in_range (scene_of p) (NewScreen n) ≡ None → Fine p (NewScreen n) (record p { tree = with_root p.tree n.0; rows = slice_set p.rows n.0 row })
   fine-screen n row fits is e =
       let f = p.tree.forest in
       let rows = slice_set p.rows n.0 row in
@@ -61,14 +61,14 @@ module _ (p : Parts) (k : AreKept p) where
             let a = size-and_then f (leaf n.0) in
             let b = size-is p in
             let c = k.objects in
-            let d = done_with_room (scene_of p) (NewScreen n) Objects e in omega arith;
+            let d = room_in_range (scene_of p) (NewScreen n) Objects e in omega arith;
         entries =
             k.entries ∙ entries-total (shown p.rows f)
             ∙ (let a = total-and_then entry_count (shown p.rows f) (leaf (new_row n.0 Screen)) in let b : total entry_count (shown p.rows f) ≡ total entry_count (and_then (shown p.rows f) (leaf (new_row n.0 Screen))) = omega arith in b)
             ∙ sym (entries-total (and_then (shown p.rows f) (leaf (new_row n.0 Screen)))) ∙ ap entries_of (sym same);
       }
 
-  pub fine-object : (n q : Handle) (kind : Kind) (row : Row) → n.0 < 10000 → row_of n.0 row ≡ new_row n.0 kind → answer_of (scene_of p) (New n q kind) ≡ None → Fine p (New n q kind) (record p { tree = with_child p.tree q.0 n.0; rows = slice_set p.rows n.0 row })
+  pub fine-object : (n q : Handle) (kind : Kind) (row : Row) → n.0 < 10000 → row_of n.0 row ≡ new_row n.0 kind → answer_in_range (scene_of p) (New n q kind) ≡ None → Fine p (New n q kind) (record p { tree = with_child p.tree q.0 n.0; rows = slice_set p.rows n.0 row })
   fine-object n q kind row fits is e =
       let f = p.tree.forest in
       let rows = slice_set p.rows n.0 row in
@@ -87,7 +87,7 @@ module _ (p : Parts) (k : AreKept p) where
         objects =
             let b = size-is p in
             let c = k.objects in
-            let d = done_with_room (scene_of p) (New n q kind) Objects e in
+            let d = room_in_range (scene_of p) (New n q kind) Objects e in
             let s : size (added f q.0 n.0) ≡ total one (with_children_by (is_at q.0) g (shown p.rows f)) = sym (map-size (row_in rows) (added f q.0 n.0)) ∙ ap size same ∙ size-total _ in
             let t = more one in
             let u = size-total (shown p.rows f) in omega arith;
@@ -159,7 +159,7 @@ module _ (p : Parts) (k : AreKept p) where
               let i = k.entries in omega arith;
         }
 
-  pub fine-parent : (h q : Handle) → answer_of (scene_of p) (Parent h q) ≡ None → Fine p (Parent h q) (record p { tree = below p.tree h.0 q.0 })
+  pub fine-parent : (h q : Handle) → answer_in_range (scene_of p) (Parent h q) ≡ None → Fine p (Parent h q) (record p { tree = below p.tree h.0 q.0 })
   fine-parent h q e =
       let f = p.tree.forest in
       let a = unmet _ Unknown _ e in
@@ -212,13 +212,13 @@ module _ (p : Parts) (k : AreKept p) where
         ap (λ (o : Option SceneRow). record (scene_of p) { trees = last_below o (shown p.rows p.tree.forest) h.0 }) above
         ∙ ap (λ (t : Forest SceneRow). record (scene_of p) { trees = t }) (sym (with_children-alike (is_at up.0) (put_at n (tree_below (scene_of p) h.0)) (λ cs. and_then cs (tree_below (scene_of p) h.0)) n bare small (λ cs fits. put_at-last n (tree_below (scene_of p) h.0) cs fits)))
 
-  pub fine-index : (h : Handle) (n : ℕ) → answer_of (scene_of p) (Index h n) ≡ None → Fine p (Index h n) (record p { tree = at_index p.tree h.0 n })
+  pub fine-index : (h : Handle) (n : ℕ) → answer_in_range (scene_of p) (Index h n) ≡ None → Fine p (Index h n) (record p { tree = at_index p.tree h.0 n })
   fine-index h n e = at_place h e (Index h n) n (at_index-is h e n)
 
-  pub fine-back : (h : Handle) → answer_of (scene_of p) (Back h) ≡ None → Fine p (Back h) (record p { tree = at_index p.tree h.0 0 })
+  pub fine-back : (h : Handle) → answer_in_range (scene_of p) (Back h) ≡ None → Fine p (Back h) (record p { tree = at_index p.tree h.0 0 })
   fine-back h e = at_place h e (Back h) 0 (at_index-is h e 0)
 
-  pub fine-front : (h : Handle) (n : ℕ) → p.limits.objects ≤ n → answer_of (scene_of p) (Front h) ≡ None → Fine p (Front h) (record p { tree = at_index p.tree h.0 n })
+  pub fine-front : (h : Handle) (n : ℕ) → p.limits.objects ≤ n → answer_in_range (scene_of p) (Front h) ≡ None → Fine p (Front h) (record p { tree = at_index p.tree h.0 n })
   fine-front h n few e = at_place h e (Front h) n (last-is h e n few)
 
   pub fine-load : (h : Handle) → Fine p (Load h) (record p { active = h.0 })

@@ -11,9 +11,9 @@ use Rattle.gui_base.proofs.Forests.{map-has_by, map-size, map-height, map-tree_b
 use Rattle.gui_tree.specs.Trees.{Trees, Answer, add_root_answer, add_answer, remove_answer, move_answer, set_parent_answer}
 use Rattle.scene_defs.specs.declared.Change.{Change}
 use Rattle.scene_defs.specs.Scene.{Scene, is_at, is_there, entries_of}
-use Rattle.scene_defs.specs.Change.{answer_of, scene_after, changed, lacks, depth_at, tree_below, parent_row, stands_alone, screen_answer, new_answer, delete_answer, parent_answer, below_root_answer}
-use Rattle.scene_defs.specs.Valid.{IsValid, IsChange, IsHandle, IsRow}
-use Rattle.scene_defs.proofs.Validity.{change_keeps_valid}
+use Rattle.scene_defs.specs.Change.{answer_in_range, scene_after, scene_by, lacks, depth_at, tree_below, parent_row, stands_alone, screen_answer, new_answer, delete_answer, parent_answer, below_root_answer}
+use Rattle.scene_defs.specs.Valid.{IsValid, IsOrderly, IsHandle, IsRow}
+use Rattle.scene_defs.proofs.Validity.{after_valid}
 use Rattle.scene_defs.proofs.Changes.{unmet}
 use Rattle.gui_store.specs.Answers.{result_of}
 use Rattle.gui_store.specs.Rows.{row_in}
@@ -78,10 +78,13 @@ module _ (p : Parts) (k : AreKept p) where
       (tested _ _ Taken _ _ (there-is p n) (tested _ _ Place _ _ (ap (λ d. nat_eq d 16) (depth-is p q)) (tested _ _ (Full Objects) None (Ok tt) no-room refl)))
 
   pub delete-answer : (h : ℕ) → eqb h p.active ≡ false → result_of (delete_answer (scene_of p) h) ≡ remove_answer p.tree h
-  delete-answer h other = tested _ _ Unknown _ _ (ap not (there-is p h)) (tested _ _ Place None (Ok tt) low refl)
-    where
-      low : (nat_le h 3 || eqb h p.active) ≡ nat_le h 3
-      low = grind (arith, nat_tests)
+  delete-answer h other = by (has p.tree.forest h) refl where
+    low : IsHandle h → (nat_le h 3 || eqb h p.active) ≡ (nat_le 1 h && nat_le h 3)
+    low a = grind (arith, nat_tests, a.least)
+
+    by : (b : Bool) → has p.tree.forest h ≡ b → result_of (delete_answer (scene_of p) h) ≡ remove_answer p.tree h
+    by true e = tested _ _ Unknown _ _ (ap not (there-is p h)) (tested _ _ Place None (Ok tt) (low (in_range h e)) refl)
+    by false e = rw (there-is p h, e) refl
 
   pub parent-answer : (h q : ℕ) → result_of (parent_answer (scene_of p) h q) ≡ set_parent_answer p.tree h q
   parent-answer h q =
@@ -106,7 +109,7 @@ ok-none (Some y) u e = cc
 -- The parts after a change, or as they were where it is refused.
 pub record Done (p : Parts) (change : Change) (q : Parts) : Type 0 where
   pub kept : AreKept q
-  pub shows : scene_of q ≡ changed (scene_of p) change
+  pub shows : scene_of q ≡ scene_by (answer_in_range (scene_of p) change) (scene_of p) change
 
 -- what has to be shown of a change that is done
 pub record Fine (p : Parts) (change : Change) (q : Parts) : Type 0 where
@@ -115,22 +118,21 @@ pub record Fine (p : Parts) (change : Change) (q : Parts) : Type 0 where
   pub objects : size q.tree.forest + q.tree.spare ≡ q.limits.objects
   pub entries : q.entries ≡ entries_of (scene_of q).trees
 
-module _ (p : Parts) (k : AreKept p) (change : Change) (c : IsChange change) where
-  pub done : (q : Parts) → answer_of (scene_of p) change ≡ None → Fine p change q → Done p change q
+module _ (p : Parts) (k : AreKept p) (change : Change) (c : IsOrderly change) where
+  pub done : (q : Parts) → answer_in_range (scene_of p) change ≡ None → Fine p change q → Done p change q
   done q e fine =
-      let same : changed (scene_of p) change ≡ scene_after (scene_of p) change = ap (λ (o : Option Refusal). if is_some o then scene_of p else scene_after (scene_of p) change) e in
-      let shows : scene_of q ≡ changed (scene_of p) change = fine.shows ∙ sym same in
+      let same : scene_by (answer_in_range (scene_of p) change) (scene_of p) change ≡ scene_after (scene_of p) change = ap (λ (o : Option Refusal). scene_by o (scene_of p) change) e in
       let P : Scene → Type 0 = λ s. IsValid s in
       record {
-        kept = record { valid = subst P (sym shows) (change_keeps_valid (scene_of p) change k.valid c); long = fine.long; objects = fine.objects; entries = fine.entries };
-        shows = shows;
+        kept = record { valid = subst P (sym fine.shows) (after_valid (scene_of p) change c e k.valid); long = fine.long; objects = fine.objects; entries = fine.entries };
+        shows = fine.shows ∙ sym same;
       }
 
-  pub refused : (r : Refusal) → answer_of (scene_of p) change ≡ Some r → Done p change p
-  refused r e = record { kept = k; shows = sym (ap (λ (o : Option Refusal). if is_some o then scene_of p else scene_after (scene_of p) change) e) }
+  pub refused : (r : Refusal) → answer_in_range (scene_of p) change ≡ Some r → Done p change p
+  refused r e = record { kept = k; shows = sym (ap (λ (o : Option Refusal). scene_by o (scene_of p) change) e) }
 
   -- a change that a call of the tree does or refuses
-  by_answer : (o : Option Refusal) → answer_of (scene_of p) change ≡ o → (t u : Trees) (r : Answer) → result_of o ≡ r → OnOk r (t ≡ u) → OnErr r (t ≡ p.tree) → (answer_of (scene_of p) change ≡ None → Fine p change (record p { tree = u })) → Done p change (record p { tree = t })
+  by_answer : (o : Option Refusal) → answer_in_range (scene_of p) change ≡ o → (t u : Trees) (r : Answer) → result_of o ≡ r → OnOk r (t ≡ u) → OnErr r (t ≡ p.tree) → (answer_in_range (scene_of p) change ≡ None → Fine p change (record p { tree = u })) → Done p change (record p { tree = t })
   by_answer None e t u r a ok err fine =
       let is : t ≡ u = subst (λ (x : Answer). OnOk x (t ≡ u)) (sym a) ok in
       subst (λ (x : Trees). Done p change (record p { tree = x })) (sym is) (done (record p { tree = u }) e (fine e))
@@ -138,14 +140,14 @@ module _ (p : Parts) (k : AreKept p) (change : Change) (c : IsChange change) whe
       let is : t ≡ p.tree = subst (λ (y : Answer). OnErr y (t ≡ p.tree)) (sym a) err in
       subst (λ (y : Trees). Done p change (record p { tree = y })) (sym is) (refused x e)
 
-  pub answered : (t u : Trees) (r : Answer) → result_of (answer_of (scene_of p) change) ≡ r → OnOk r (t ≡ u) → OnErr r (t ≡ p.tree) → (answer_of (scene_of p) change ≡ None → Fine p change (record p { tree = u })) → Done p change (record p { tree = t })
-  answered t u r a ok err fine = by_answer (answer_of (scene_of p) change) refl t u r a ok err fine
+  pub answered : (t u : Trees) (r : Answer) → result_of (answer_in_range (scene_of p) change) ≡ r → OnOk r (t ≡ u) → OnErr r (t ≡ p.tree) → (answer_in_range (scene_of p) change ≡ None → Fine p change (record p { tree = u })) → Done p change (record p { tree = t })
+  answered t u r a ok err fine = by_answer (answer_in_range (scene_of p) change) refl t u r a ok err fine
 
   -- a call of the tree that answers a refusal
-  pub failed : (t : Trees) (x : Refusal) (r : Answer) → result_of (answer_of (scene_of p) change) ≡ r → r ≡ Err x → OnErr r (t ≡ p.tree) → Done p change (record p { tree = t })
+  pub failed : (t : Trees) (x : Refusal) (r : Answer) → result_of (answer_in_range (scene_of p) change) ≡ r → r ≡ Err x → OnErr r (t ≡ p.tree) → Done p change (record p { tree = t })
   failed t x r a e err =
       let is : t ≡ p.tree = subst (λ (y : Answer). OnErr y (t ≡ p.tree)) e err in
-      subst (λ (y : Trees). Done p change (record p { tree = y })) (sym is) (refused x (err-some (answer_of (scene_of p) change) x (a ∙ e)))
+      subst (λ (y : Trees). Done p change (record p { tree = y })) (sym is) (refused x (err-some (answer_in_range (scene_of p) change) x (a ∙ e)))
 
 -- Answers told by what is found of h.
 module _ (p : Parts) where

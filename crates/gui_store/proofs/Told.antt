@@ -20,8 +20,8 @@ use Rattle.gui_tree.specs.Handles.{numbers}
 use Rattle.scene_defs.specs.declared.Change.{Change}
 use Rattle.gui_store.specs.declared.row.Row.{Row}
 use Rattle.scene_defs.specs.Scene.{Row as SceneRow, Scene, is_at, local_of, entry_count, entries_of, new_row, first_scene}
-use Rattle.scene_defs.specs.Change.{answer_of, scene_after, is_set, sets, is_screen, has_screen, is_screen_kind, with_row, styled, flag_answer, load_answer, local_answer, delete_answer}
-use Rattle.scene_defs.specs.Valid.{IsChange, is_root_at, IsValid}
+use Rattle.scene_defs.specs.Change.{answer_in_range, scene_after, is_set, sets, is_screen, has_screen, is_screen_kind, with_row, styled, flag_answer, load_answer, local_answer, delete_answer}
+use Rattle.scene_defs.specs.Valid.{IsOrderly, is_root_at, IsValid}
 use Rattle.scene_defs.proofs.Validity.{first_is_valid}
 use Rattle.scene_defs.proofs.Distinct.{there}
 use Rattle.gui_store.specs.Rows.{blank, row_of, row_in, entries_in}
@@ -108,7 +108,7 @@ module _ (p : Parts) (k : AreKept p) where
   pub read-at : (h : ℕ) (row : Row) → has p.tree.forest h ≡ true → row ≡ slice_index_or p.rows h row → row_of h row ≡ row_in p.rows h
   read-at h row on e = ap (row_of h) (e ∙ get_or_default p.rows h row blank (within p k h on))
 
-  pub row-done : (change : Change) (h n : ℕ) (old new : Row) (set : SceneRow → SceneRow) → IsChange change → answer_of (scene_of p) change ≡ None → has p.tree.forest h ≡ true → old ≡ slice_index_or p.rows h old → ((j : ℕ) → row_of j new ≡ set (row_of j old)) → n + entries_in p.rows h ≡ p.entries + entry_count (set (row_in p.rows h)) → scene_after (scene_of p) change ≡ with_row (scene_of p) h set → Done p change (record p { rows = slice_set p.rows h new; entries = n })
+  pub row-done : (change : Change) (h n : ℕ) (old new : Row) (set : SceneRow → SceneRow) → IsOrderly change → answer_in_range (scene_of p) change ≡ None → has p.tree.forest h ≡ true → old ≡ slice_index_or p.rows h old → ((j : ℕ) → row_of j new ≡ set (row_of j old)) → n + entries_in p.rows h ≡ p.entries + entry_count (set (row_in p.rows h)) → scene_after (scene_of p) change ≡ with_row (scene_of p) h set → Done p change (record p { rows = slice_set p.rows h new; entries = n })
   row-done change h n old new set c e on was is count after =
       done p k change c (record p { rows = slice_set p.rows h new; entries = n }) e (fine-row p k change h new set n on (is h ∙ ap set (read-at h old on was)) count after)
 

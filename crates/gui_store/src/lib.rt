@@ -3,10 +3,12 @@
 //! All memory is taken at [`Store::open`]. A change is done as a whole or refused, and a refusal leaves all as it was.
 #![tactic(auto)]
 
+mod range;
 mod row;
 mod store;
 #[cfg(test)]
 mod tests;
 
 pub use row::Row;
+pub use scene_defs::Change;
 pub use store::Store;

@@ -4,11 +4,12 @@ ghost use Rattle.std.specs.Option.{option_copied};
 ghost use Rattle.gui_base.specs.declared.words.Kind.TheVariants.{Obj};
 ghost use Rattle.gui_base.specs.Bounded.{bounds_of};
 ghost use Rattle.scene_defs.specs.Scene.{handles_of, is_there, row_at, value_of, first_scene};
-ghost use Rattle.scene_defs.specs.Change.{answer_of, changed, below_root_answer};
-ghost use Rattle.scene_defs.specs.Valid.{IsValid, IsChange, IsRow, IsNewHandle, IsOffset, IsSize, IsValue};
+ghost use Rattle.scene_defs.specs.Change.{answer_of, answer_in_range, scene_by, changed, below_root_answer};
+ghost use Rattle.scene_defs.specs.Valid.{IsValid, IsChange, IsOrderly, IsRow, IsNewHandle, IsOffset, IsSize, IsValue};
 ghost use Rattle.gui_store.specs.Answers.{result_of};
 ghost use Rattle.gui_store.specs.Rows.{row_of, entries_in};
 
+use crate::range::is_in_range;
 use crate::row::Row;
 use gui_base::{Flag, Handle, Kind, Length, Limits, NoMemory, Part, Pool, Prop, Refusal};
 use gui_tree::Tree;
@@ -93,27 +94,18 @@ impl Store {
         })
     }
 
-    /// Changes the scene, or answers the first refusal of this change, which leaves all as it was. The numbers of the change lie in
-    /// their intervals, and a new object is a plain one.
+    /// Changes the scene, or answers the first refusal of this change, which leaves all as it was: Range where a number of it lies
+    /// outside its interval, and then those of each change. A new object is a plain one.
+    #[tactic(auto, using(scene_defs::proofs::InRange::orderly))]
     pub fn apply(&mut self, change: &Change) -> Result<(), Refusal>
         requires { IsChange change.now }
         ensures answer { result ≡ result_of (answer_of self.old change.now) }
         ensures after { self.new ≡ changed self.old change.now }
     {
-        match *change {
-            Change::Screen(n) => self.add_screen(n),
-            Change::New(n, parent, kind) => self.add_object(n, parent, kind),
-            Change::Delete(h) => self.delete(h),
-            Change::Parent(h, parent) => self.set_parent(h, parent),
-            Change::Index(h, index) => self.move_to_index(h, index),
-            Change::Front(h) => self.move_to_front(h),
-            Change::Back(h) => self.move_to_back(h),
-            Change::Load(h) => self.load(h),
-            Change::Flag(h, flag, on) => self.set_flag(h, flag, on),
-            Change::Pos(h, x, y) => self.set_pos(h, x, y),
-            Change::Size(h, width, height) => self.set_size(h, width, height),
-            Change::Local(h, part, prop, value) => self.set_local(h, part, prop, value),
+        if !is_in_range(change) {
+            return Err(Refusal::Range);
         }
+        self.carry_out(change)
     }
 
     /// The tree of the objects.
@@ -158,10 +150,32 @@ impl Store {
         self.rows[h.0 as usize].value(part, prop)
     }
 
+    /// The same for a change whose numbers lie in their intervals.
+    fn carry_out(&mut self, change: &Change) -> Result<(), Refusal>
+        requires { IsOrderly change.now }
+        ensures answer { result ≡ result_of (answer_in_range self.old change.now) }
+        ensures after { self.new ≡ scene_by (answer_in_range self.old change.now) self.old change.now }
+    {
+        match *change {
+            Change::Screen(n) => self.add_screen(n),
+            Change::New(n, parent, kind) => self.add_object(n, parent, kind),
+            Change::Delete(h) => self.delete(h),
+            Change::Parent(h, parent) => self.set_parent(h, parent),
+            Change::Index(h, index) => self.move_to_index(h, index),
+            Change::Front(h) => self.move_to_front(h),
+            Change::Back(h) => self.move_to_back(h),
+            Change::Load(h) => self.load(h),
+            Change::Flag(h, flag, on) => self.set_flag(h, flag, on),
+            Change::Pos(h, x, y) => self.set_pos(h, x, y),
+            Change::Size(h, width, height) => self.set_size(h, width, height),
+            Change::Local(h, part, prop, value) => self.set_local(h, part, prop, value),
+        }
+    }
+
     fn add_screen(&mut self, n: Handle) -> Result<(), Refusal>
         requires { IsNewHandle n.0 }
-        ensures answer { result ≡ result_of (answer_of self.old (Change.Screen n)) }
-        ensures after { self.new ≡ changed self.old (Change.Screen n) }
+        ensures answer { result ≡ result_of (answer_in_range self.old (Change.Screen n)) }
+        ensures after { self.new ≡ scene_by (answer_in_range self.old (Change.Screen n)) self.old (Change.Screen n) }
     {
         self.tree.add_root(n)?;
         self.rows[n.0 as usize] = Row::new(Kind::Screen);
@@ -170,8 +184,8 @@ impl Store {
 
     fn add_object(&mut self, n: Handle, parent: Handle, kind: Kind) -> Result<(), Refusal>
         requires { IsNewHandle n.0 × (kind ≡ Obj) }
-        ensures answer { result ≡ result_of (answer_of self.old (Change.New n parent kind)) }
-        ensures after { self.new ≡ changed self.old (Change.New n parent kind) }
+        ensures answer { result ≡ result_of (answer_in_range self.old (Change.New n parent kind)) }
+        ensures after { self.new ≡ scene_by (answer_in_range self.old (Change.New n parent kind)) self.old (Change.New n parent kind) }
     {
         self.tree.add(n, parent)?;
         self.rows[n.0 as usize] = Row::new(kind);
@@ -179,8 +193,8 @@ impl Store {
     }
 
     fn delete(&mut self, h: Handle) -> Result<(), Refusal>
-        ensures answer { result ≡ result_of (answer_of self.old (Change.Delete h)) }
-        ensures after { self.new ≡ changed self.old (Change.Delete h) }
+        ensures answer { result ≡ result_of (answer_in_range self.old (Change.Delete h)) }
+        ensures after { self.new ≡ scene_by (answer_in_range self.old (Change.Delete h)) self.old (Change.Delete h) }
     {
         if h == self.active {
             return Err(Refusal::Place);
@@ -192,37 +206,37 @@ impl Store {
     }
 
     fn set_parent(&mut self, h: Handle, parent: Handle) -> Result<(), Refusal>
-        ensures answer { result ≡ result_of (answer_of self.old (Change.Parent h parent)) }
-        ensures after { self.new ≡ changed self.old (Change.Parent h parent) }
+        ensures answer { result ≡ result_of (answer_in_range self.old (Change.Parent h parent)) }
+        ensures after { self.new ≡ scene_by (answer_in_range self.old (Change.Parent h parent)) self.old (Change.Parent h parent) }
     {
         self.tree.set_parent(h, parent)
     }
 
     fn move_to_index(&mut self, h: Handle, index: u16) -> Result<(), Refusal>
-        ensures answer { result ≡ result_of (answer_of self.old (Change.Index h index)) }
-        ensures after { self.new ≡ changed self.old (Change.Index h index) }
+        ensures answer { result ≡ result_of (answer_in_range self.old (Change.Index h index)) }
+        ensures after { self.new ≡ scene_by (answer_in_range self.old (Change.Index h index)) self.old (Change.Index h index) }
     {
         self.tree.move_to_index(h, index)
     }
 
     fn move_to_front(&mut self, h: Handle) -> Result<(), Refusal>
-        ensures answer { result ≡ result_of (answer_of self.old (Change.Front h)) }
-        ensures after { self.new ≡ changed self.old (Change.Front h) }
+        ensures answer { result ≡ result_of (answer_in_range self.old (Change.Front h)) }
+        ensures after { self.new ≡ scene_by (answer_in_range self.old (Change.Front h)) self.old (Change.Front h) }
     {
         // An index past the last is the last.
         self.tree.move_to_index(h, u16::MAX)
     }
 
     fn move_to_back(&mut self, h: Handle) -> Result<(), Refusal>
-        ensures answer { result ≡ result_of (answer_of self.old (Change.Back h)) }
-        ensures after { self.new ≡ changed self.old (Change.Back h) }
+        ensures answer { result ≡ result_of (answer_in_range self.old (Change.Back h)) }
+        ensures after { self.new ≡ scene_by (answer_in_range self.old (Change.Back h)) self.old (Change.Back h) }
     {
         self.tree.move_to_index(h, 0)
     }
 
     fn load(&mut self, h: Handle) -> Result<(), Refusal>
-        ensures answer { result ≡ result_of (answer_of self.old (Change.Load h)) }
-        ensures after { self.new ≡ changed self.old (Change.Load h) }
+        ensures answer { result ≡ result_of (answer_in_range self.old (Change.Load h)) }
+        ensures after { self.new ≡ scene_by (answer_in_range self.old (Change.Load h)) self.old (Change.Load h) }
     {
         if !self.tree.has(h) {
             return Err(Refusal::Unknown);
@@ -237,8 +251,8 @@ impl Store {
     }
 
     fn set_flag(&mut self, h: Handle, flag: Flag, on: bool) -> Result<(), Refusal>
-        ensures answer { result ≡ result_of (answer_of self.old (Change.Flag h flag on)) }
-        ensures after { self.new ≡ changed self.old (Change.Flag h flag on) }
+        ensures answer { result ≡ result_of (answer_in_range self.old (Change.Flag h flag on)) }
+        ensures after { self.new ≡ scene_by (answer_in_range self.old (Change.Flag h flag on)) self.old (Change.Flag h flag on) }
     {
         if !self.tree.has(h) {
             return Err(Refusal::Unknown);
@@ -262,8 +276,8 @@ impl Store {
 
     fn set_pos(&mut self, h: Handle, x: i32, y: i32) -> Result<(), Refusal>
         requires { IsOffset x × IsOffset y }
-        ensures answer { result ≡ result_of (answer_of self.old (Change.Pos h x y)) }
-        ensures after { self.new ≡ changed self.old (Change.Pos h x y) }
+        ensures answer { result ≡ result_of (answer_in_range self.old (Change.Pos h x y)) }
+        ensures after { self.new ≡ scene_by (answer_in_range self.old (Change.Pos h x y)) self.old (Change.Pos h x y) }
     {
         self.has_parent(h)?;
         self.rows[h.0 as usize].place_at(x, y);
@@ -272,8 +286,8 @@ impl Store {
 
     fn set_size(&mut self, h: Handle, width: Length, height: Length) -> Result<(), Refusal>
         requires { IsSize width × IsSize height }
-        ensures answer { result ≡ result_of (answer_of self.old (Change.Size h width height)) }
-        ensures after { self.new ≡ changed self.old (Change.Size h width height) }
+        ensures answer { result ≡ result_of (answer_in_range self.old (Change.Size h width height)) }
+        ensures after { self.new ≡ scene_by (answer_in_range self.old (Change.Size h width height)) self.old (Change.Size h width height) }
     {
         self.has_parent(h)?;
         self.rows[h.0 as usize].resize(width, height);
@@ -282,8 +296,8 @@ impl Store {
 
     fn set_local(&mut self, h: Handle, part: Part, prop: Prop, value: i32) -> Result<(), Refusal>
         requires { IsValue prop value }
-        ensures answer { result ≡ result_of (answer_of self.old (Change.Local h part prop value)) }
-        ensures after { self.new ≡ changed self.old (Change.Local h part prop value) }
+        ensures answer { result ≡ result_of (answer_in_range self.old (Change.Local h part prop value)) }
+        ensures after { self.new ≡ scene_by (answer_in_range self.old (Change.Local h part prop value)) self.old (Change.Local h part prop value) }
     {
         if !self.tree.has(h) {
             return Err(Refusal::Unknown);

@@ -7,36 +7,11 @@ use std::test::Fail;
 
 type Answer = Result<(), Refusal>;
 
-/// Makes the change, after a look at its numbers.
-fn call(rt: &impl Abort, store: &mut Store, change: Change) -> Answer {
+/// Makes the change. A new object is a plain one.
+fn call(store: &mut Store, change: Change) -> Answer {
     match change {
-        Change::Screen(n) => {
-            assert!(rt; n.0 >= 10 && n.0 <= 9999);
-            store.apply(&Change::Screen(n))
-        }
-        Change::New(n, parent, _) => {
-            assert!(rt; n.0 >= 10 && n.0 <= 9999);
-            store.apply(&Change::New(n, parent, Kind::Obj))
-        }
-        Change::Delete(h) => store.apply(&Change::Delete(h)),
-        Change::Parent(h, parent) => store.apply(&Change::Parent(h, parent)),
-        Change::Index(h, n) => store.apply(&Change::Index(h, n)),
-        Change::Front(h) => store.apply(&Change::Front(h)),
-        Change::Back(h) => store.apply(&Change::Back(h)),
-        Change::Load(h) => store.apply(&Change::Load(h)),
-        Change::Flag(h, flag, on) => store.apply(&Change::Flag(h, flag, on)),
-        Change::Pos(h, x, y) => {
-            assert!(rt; x >= -4000 && x <= 4000 && y >= -4000 && y <= 4000);
-            store.apply(&Change::Pos(h, x, y))
-        }
-        Change::Size(h, Length::Pixels(width), Length::Pixels(height)) => {
-            assert!(rt; width <= 4000 && height <= 4000);
-            store.apply(&Change::Size(h, Length::Pixels(width), Length::Pixels(height)))
-        }
-        Change::Local(h, part, prop, value) => {
-            assert!(rt; value >= 0 && value <= 255);
-            store.apply(&Change::Local(h, part, prop, value))
-        }
+        Change::New(n, parent, _) => store.apply(&Change::New(n, parent, Kind::Obj)),
+        _ => store.apply(&change),
     }
 }
 
@@ -138,6 +113,54 @@ const MOVES: [(Change, Answer); 23] = [
     (Change::Load(A), UNKNOWN),
 ];
 
+const RANGE: Answer = Err(Refusal::Range);
+
+const BELOW: Handle = Handle(0);
+
+const PAST: Handle = Handle(10000);
+
+/// Numbers that lie just outside their intervals, before all else that is wrong, and some that lie just inside.
+const OUTSIDE: [(Change, Answer); 26] = [
+    (Change::Screen(Handle(9)), RANGE),
+    (Change::Screen(PAST), RANGE),
+    (Change::New(Handle(9), NOBODY, Kind::Obj), RANGE),
+    (Change::New(A, BELOW, Kind::Obj), RANGE),
+    (Change::New(A, PAST, Kind::Obj), RANGE),
+    (Change::Delete(BELOW), RANGE),
+    (Change::Parent(PAST, FIRST), RANGE),
+    (Change::Parent(NOBODY, BELOW), RANGE),
+    (Change::Index(NOBODY, 4000), RANGE),
+    (Change::Index(NOBODY, 3999), UNKNOWN),
+    (Change::Front(PAST), RANGE),
+    (Change::Back(BELOW), RANGE),
+    (Change::Load(PAST), RANGE),
+    (Change::Flag(BELOW, Flag::Hidden, true), RANGE),
+    (Change::Pos(NOBODY, -4001, 0), RANGE),
+    (Change::Pos(NOBODY, 0, 4001), RANGE),
+    (
+        Change::Size(NOBODY, Length::Pixels(4001), Length::Pixels(0)),
+        RANGE,
+    ),
+    (
+        Change::Size(NOBODY, Length::Pixels(0), Length::Pixels(4001)),
+        RANGE,
+    ),
+    (Change::Local(NOBODY, Part::Main, Prop::BgOpa, 256), RANGE),
+    (Change::Local(NOBODY, Part::Main, Prop::BgOpa, -1), RANGE),
+    (
+        Change::Local(NOBODY, Part::Main, Prop::BgColor, 0x100_0000),
+        RANGE,
+    ),
+    (
+        Change::Local(FIRST, Part::Main, Prop::BgColor, 0xFF_FFFF),
+        Ok(()),
+    ),
+    (Change::Local(BELOW, Part::Main, Prop::BgOpa, 0), RANGE),
+    (Change::Screen(B), Ok(())),
+    (Change::Pos(B, 0, 0), PLACE),
+    (Change::Pos(B, i32::MAX, i32::MIN), RANGE),
+];
+
 /// The row of a new object, but for these.
 const fn row(kind: Kind, flags: u8, bg_opa: Option<i32>) -> Row {
     Row {
@@ -160,7 +183,7 @@ fn has_row(store: &Store, h: Handle, row: Row) -> bool {
 /// Makes all changes of a script and compares the answers.
 fn run(rt: &impl Abort, store: &mut Store, script: &[(Change, Answer)]) {
     for (i, (change, answer)) in script.iter().enumerate() {
-        assert_eq!(rt; call(rt, store, *change), *answer, "change {i}");
+        assert_eq!(rt; call(store, *change), *answer, "change {i}");
     }
 }
 
@@ -216,5 +239,14 @@ fn moves_objects_and_screens(rt: HostRuntime) -> Result<(), Fail> {
         store.row(C).is_some_and(|row| row.is_on(Flag::Clickable) && !row.is_on(Flag::Hidden))
     );
     assert_eq!(rt; store.limits().objects, 256);
+    Ok(())
+}
+
+#[test]
+fn refuses_numbers_outside_their_intervals_first(rt: HostRuntime) -> Result<(), Fail> {
+    let limits = Limits::with_sizes(8, 8, 1);
+    let mut store = Store::open(rt.alloc(), &limits).map_err(|_e| "no memory")?;
+    run(&rt, &mut store, &OUTSIDE);
+    assert!(rt; store.row(A).is_none() && store.tree().next(FIRST) == Some(B));
     Ok(())
 }

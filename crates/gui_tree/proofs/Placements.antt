@@ -1,11 +1,12 @@
 -- How each change of the slots changes what each handle finds.
-use Rattle.std.proofs.Common.{◌≡◌, ◌≢◌, ℕ, zero, suc, ◌<◌, ◌≤◌, List, [], ◌∷◌, map, length, get_or, set, Option, Some, None, refl, sym, ap, ◌∙◌, inl, inr, arith, length-set, IsSome, true≢false}
+use Rattle.std.proofs.Common.{◌≡◌, ◌≢◌, ℕ, zero, suc, ◌+◌, ◌<◌, ◌≤◌, List, [], ◌∷◌, map, length, get_or, set, Option, Some, None, refl, sym, ap, ◌∙◌, inl, inr, arith, length-set, IsSome, true≢false}
 use Rattle.std.proofs.lemmas.Bool.{cases_eq}
 use Rattle.std.proofs.lemmas.List.{get_or-set_same, get_or-set_other, get_or_past, set-get_or, length-map}
 use Rattle.gui_pool.specs.Slots.{Slots, get}
 use Rattle.gui_tree.specs.declared.nodes.Links.{Links}
 use Rattle.gui_tree.specs.declared.nodes.Node.{Node}
 use Rattle.gui_tree.proofs.Changed.{some_within}
+use Rattle.gui_tree.specs.Handles.{no_handle}
 use Rattle.gui_tree.specs.Placed.{IsPlaced, found, links_of}
 
 map_agree : {V : Type 0} (f g : ℕ → V) (xs : List ℕ) → ((k : ℕ) → k < length xs → g (get_or xs k 0) ≡ f (get_or xs k 0)) → map g xs ≡ map f xs
@@ -134,7 +135,7 @@ owner_of s slots h m placed within here =
       | inr there ↦ let one : there.0 ≡ m = cc in sym (ap (λ n. n.handle) one) ∙ there.2
     ]
 
-module _ (s : Slots Node) (few : length s.slots ≤ 65535) where
+module _ (s : Slots Node) (few : length s.slots ≤ 4294967295) where
   pub links-start : (xs : List ℕ) → ((k : ℕ) → k < length xs → get_or xs k 0 ≡ 4294967295) → (h : ℕ) → get_or (map (found s) xs) h None ≡ None
   links-start [] each h = refl
   links-start (x ∷ xs) each zero =
@@ -142,7 +143,7 @@ module _ (s : Slots Node) (few : length s.slots ≤ 65535) where
       ap (found s) (each 0 (omega arith)) ∙ ap links_of past
   links-start (x ∷ xs) each (suc h) = links-start xs (λ k l. each (suc k) (omega arith)) h
 
-  pub IsPlaced-start : (xs : List ℕ) → length xs ≡ 10000 → ((h : ℕ) → h < length xs → get_or xs h 0 ≡ 4294967295) → IsPlaced s xs
+  pub IsPlaced-start : (xs : List ℕ) → length xs ≡ no_handle + 1 → ((h : ℕ) → h < length xs → get_or xs h 0 ≡ 4294967295) → IsPlaced s xs
   IsPlaced-start xs long each = record { all = long; few = few; each = λ h l. inl (each h l) }
 
 pub links_within : (s : Slots Node) (xs : List ℕ) (h : ℕ) → IsSome (get_or (map (found s) xs) h None) → h < length xs

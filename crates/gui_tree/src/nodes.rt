@@ -1,5 +1,6 @@
 //! The links of each handle, in slots of a pool.
 ghost use Rattle.std.specs.Prelude.{◌≡◌, ℕ, ◌+◌, ◌-◌, ◌<◌, ◌≤◌, length, None, Some, IsSome, OnSome, IfNone, IfOk, slice_set};
+ghost use Rattle.gui_tree.specs.Handles.{no_handle};
 ghost use Rattle.gui_tree.specs.Table.{Table, at};
 
 use gui_base::NoMemory;
@@ -7,20 +8,23 @@ use gui_pool::Slab;
 use std::alloc::Global;
 use std::marker::Model;
 
-/// One more than the greatest number of a handle.
-const HANDLES: usize = 10000;
+/// One more than the greatest handle. It stands for none, and for the node above the roots.
+pub const NO_HANDLE: u32 = u16::MAX as u32 + 1;
+
+/// How many numbers a node may have: those of the handles, and [`NO_HANDLE`].
+const HANDLES: usize = NO_HANDLE as usize + 1;
 
 /// Where a handle stands that has no slot.
 const NOWHERE: u32 = u32::MAX;
 
-/// The handles that an object is linked to, 0 for none. Roots are children of 0.
+/// The handles that an object is linked to, [`NO_HANDLE`] for none. Roots are children of that.
 #[derive(Clone, Copy, Drop)]
 pub struct Links {
-    pub parent: u16,
-    pub first: u16,
-    pub last: u16,
-    pub next: u16,
-    pub previous: u16,
+    pub parent: u32,
+    pub first: u32,
+    pub last: u32,
+    pub next: u32,
+    pub previous: u32,
 }
 
 impl Links {
@@ -31,11 +35,11 @@ impl Links {
         ensures { result ≡ lone }
     {
         Links {
-            parent: 0,
-            first: 0,
-            last: 0,
-            next: 0,
-            previous: 0,
+            parent: NO_HANDLE,
+            first: NO_HANDLE,
+            last: NO_HANDLE,
+            next: NO_HANDLE,
+            previous: NO_HANDLE,
         }
     }
 }
@@ -43,7 +47,7 @@ impl Links {
 /// What a slot holds.
 #[derive(Drop)]
 pub struct Node {
-    handle: u16,
+    handle: u32,
     links: Links,
 }
 
@@ -70,8 +74,7 @@ impl Model for Nodes {
 impl Nodes {
     /// A table for so many handles, with none in it.
     pub fn with_capacity(alloc: Global, handles: u32) -> Result<Nodes, NoMemory>
-        requires { handles ≤ 65535 }
-        ensures { IfOk result (λ t. (length t.links ≡ 10000) × ((h : ℕ) → at t h ≡ None) × (t.spare ≡ handles) × (t.total ≡ handles)) }
+        ensures { IfOk result (λ t. (length t.links ≡ no_handle + 1) × ((h : ℕ) → at t h ≡ None) × (t.spare ≡ handles) × (t.total ≡ handles)) }
     {
         let Ok(slab) = Slab::with_capacity(alloc, handles) else {
             return Err(NoMemory);
@@ -90,7 +93,7 @@ impl Nodes {
     }
 
     /// The links of a handle, or none where it is not there.
-    pub fn get(&self, handle: u16) -> Option<Links>
+    pub fn get(&self, handle: u32) -> Option<Links>
         ensures { result ≡ at self.now handle }
     {
         let slot = self.slots.get(handle as usize)?;
@@ -99,7 +102,7 @@ impl Nodes {
     }
 
     /// Gives a handle other links.
-    pub fn set(&mut self, handle: u16, links: Links)
+    pub fn set(&mut self, handle: u32, links: Links)
         requires { IsSome (at self.old handle) }
         ensures { self.new ≡ record self.old { links = slice_set self.old.links handle (Some links) } }
     {
@@ -111,7 +114,7 @@ impl Nodes {
     }
 
     /// Puts a handle in that was not there.
-    pub fn insert(&mut self, handle: u16, links: Links)
+    pub fn insert(&mut self, handle: u32, links: Links)
         requires within { handle < length self.old.links }
         requires vacant { at self.old handle ≡ None }
         requires room { 0 < self.old.spare }
@@ -124,11 +127,12 @@ impl Nodes {
     }
 
     /// Takes a handle out, and gives its links. Where it was not there, nothing changes.
-    pub fn take(&mut self, handle: u16) -> Option<Links>
+    pub fn take(&mut self, handle: u32) -> Option<Links>
         ensures value { result ≡ at self.old handle }
         ensures removes { OnSome result (self.new ≡ record self.old { links = slice_set self.old.links handle None; spare = self.old.spare + 1 }) }
         ensures absent { IfNone result (self.new ≡ self.old) }
         ensures room { OnSome result (self.new.spare ≤ self.new.total) }
+        ensures within { OnSome result (handle ≤ no_handle) }
     {
         if handle as usize >= self.slots.len() {
             return None;

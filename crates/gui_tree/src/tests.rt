@@ -1,8 +1,7 @@
-//! Scripts of calls against a plain tree, and a list as long as there are objects.
+//! Scripts of calls against a plain tree, a list as long as there are objects, and a tree of every handle.
 use crate::Tree;
 use gui_base::{Handle, Pool, Refusal};
 use std::alloc::Global;
-use std::process::Abort;
 use std::test::Fail;
 
 /// One row of a tree written down in preorder: a handle and its depth.
@@ -215,16 +214,10 @@ enum Step {
 }
 
 /// Makes the call.
-fn call(rt: &impl Abort, tree: &mut Tree, step: Step) -> Result<(), Refusal> {
+fn call(tree: &mut Tree, step: Step) -> Result<(), Refusal> {
     match step {
-        Step::Root(h) => {
-            assert!(rt; h >= 10 && h < 10000);
-            tree.add_root(Handle(h))
-        }
-        Step::Add(h, p) => {
-            assert!(rt; h >= 10 && h < 10000);
-            tree.add(Handle(h), Handle(p))
-        }
+        Step::Root(h) => tree.add_root(Handle(h)),
+        Step::Add(h, p) => tree.add(Handle(h), Handle(p)),
         Step::Remove(h) => tree.remove(Handle(h)),
         Step::Below(h, p) => tree.set_parent(Handle(h), Handle(p)),
         Step::Index(h, n) => tree.move_to_index(Handle(h), n),
@@ -278,8 +271,8 @@ const OBJECTS: usize = 24;
 
 const FULL: Refusal = Refusal::Full(Pool::Objects);
 
-/// Fifteen objects, each below the one before, and a list of five: no slot is left.
-const SCRIPT: [(Step, Result<(), Refusal>); 55] = [
+/// Fifteen objects, each below the one before, and a list of five: no slot is left. Then handles of every size.
+const SCRIPT: [(Step, Result<(), Refusal>); 80] = [
     (Step::Add(10, 3), Ok(())),
     (Step::Add(11, 10), Ok(())),
     (Step::Add(12, 11), Ok(())),
@@ -335,6 +328,31 @@ const SCRIPT: [(Step, Result<(), Refusal>); 55] = [
     (Step::Remove(2), Err(Refusal::Place)),
     (Step::Remove(9999), Ok(())),
     (Step::Add(17, 11), Ok(())),
+    (Step::Add(0, 1), Ok(())),
+    (Step::Add(0, 2), Err(Refusal::Taken)),
+    (Step::Root(10000), Ok(())),
+    (Step::Add(65535, 10000), Ok(())),
+    (Step::Add(4, 65535), Ok(())),
+    (Step::Add(9, 65535), Ok(())),
+    (Step::Add(9999, 0), Ok(())),
+    (Step::Index(9, 0), Ok(())),
+    (Step::Below(0, 65535), Ok(())),
+    (Step::Index(0, 1), Ok(())),
+    (Step::Below(65535, 0), Err(Refusal::Place)),
+    (Step::Root(0), Err(Refusal::Taken)),
+    (Step::Remove(0), Ok(())),
+    (Step::Remove(0), Err(Refusal::Unknown)),
+    (Step::Root(0), Ok(())),
+    (Step::Index(0, 0), Err(Refusal::Place)),
+    (Step::Below(65535, 0), Ok(())),
+    (Step::Below(4, 10000), Ok(())),
+    (Step::Remove(1), Err(Refusal::Place)),
+    (Step::Remove(3), Err(Refusal::Place)),
+    (Step::Remove(4), Ok(())),
+    (Step::Remove(0), Ok(())),
+    (Step::Remove(10000), Ok(())),
+    (Step::Root(65535), Ok(())),
+    (Step::Remove(65535), Ok(())),
 ];
 
 #[test]
@@ -347,7 +365,7 @@ fn is_a_plain_tree(rt: HostRuntime) -> Result<(), Fail> {
     let mut removed = Vec::new(rt.alloc());
     assert!(rt; is_same(&tree, &rows, OBJECTS));
     for (step, answer) in SCRIPT {
-        let answered = call(&rt, &mut tree, step) == answer;
+        let answered = call(&mut tree, step) == answer;
         assert!(rt; answered, "{step:?}");
         if answer.is_ok() {
             if let Step::Remove(h) = step {
@@ -380,5 +398,25 @@ fn removes_a_list_of_all_objects(rt: HostRuntime) -> Result<(), Fail> {
     let removed = tree.remove(Handle(10)).is_ok() && tree.first_child(Handle(1)).is_none();
     assert!(rt; full && moved && removed);
     assert!(rt; tree.last_removed().len() == 3997 && tree.spare() == 3997);
+    Ok(())
+}
+
+#[test]
+fn holds_every_handle(rt: HostRuntime) -> Result<(), Fail> {
+    let mut tree = Tree::open(rt.alloc(), 65540).map_err(|_e| "no memory")?;
+    let mut made = tree.add(Handle(0), Handle(3)).is_ok();
+    for h in 4..=u16::MAX {
+        made = made && tree.add(Handle(h), Handle(3)).is_ok();
+    }
+    assert!(rt; made && tree.spare() == 4);
+    let mut taken = true;
+    for h in 0..=u16::MAX {
+        taken = taken && tree.add_root(Handle(h)) == Err(Refusal::Taken);
+    }
+    assert!(rt; taken);
+    let removed = tree.remove(Handle(0)).is_ok() && tree.remove(Handle(65535)).is_ok();
+    let ends = tree.first_child(Handle(3)) == Some(Handle(4))
+        && tree.last_child(Handle(3)) == Some(Handle(65534));
+    assert!(rt; removed && ends && tree.spare() == 6);
     Ok(())
 }

@@ -1,9 +1,8 @@
 -- Laws on scripts and runs.
-use Rattle.std.specs.Prelude.{◌≡◌, ℕ, List, length, Ok, Err, ⊤}
+use Rattle.std.specs.Prelude.{◌≡◌, true, ℕ, List, length, Ok, Err, ⊤}
 use Rattle.run_defs.specs.declared.Outcome.{Outcome}
-use Rattle.scene_defs.specs.Valid.{IsChange}
-use Rattle.run_defs.specs.declared.Command.TheVariants.{Change as CommandOf}
 use Rattle.run_defs.specs.declared.Line.TheVariants.{Blank, Frame, Make}
+use Rattle.run_defs.specs.Step.{is_command_in_range, IsCommand}
 use Rattle.run_defs.specs.Script.{Said, parse}
 use Rattle.run_defs.specs.Run.{Entry, log_text, frame_count}
 
@@ -12,11 +11,11 @@ abbrev pub ShowsOutcomes : Type 0
 ShowsOutcomes = (number frame : ℕ) (es : List Entry) (first second : List Outcome) → length first ≡ frame_count es → length second ≡ frame_count es →
     log_text number frame es first ≡ log_text number frame es second → first ≡ second
 
--- whether the numbers of what a line says lie in their intervals
+-- the numbers of what a line says lie in their intervals, and a command is one that may be asked for
 abbrev pub IsInRange : Said → Type 0
 IsInRange (Ok Blank) = ⊤
 IsInRange (Ok Frame) = ⊤
-IsInRange (Ok (Make (CommandOf change))) = IsChange change
+IsInRange (Ok (Make command)) = (is_command_in_range command ≡ true) × IsCommand command
 IsInRange (Err fault) = ⊤
 
 -- no line says a number outside its interval

@@ -1,18 +1,18 @@
 -- What a run of a script comes to, along the outcomes of its frames.
-use Rattle.std.specs.Prelude.{ℕ, is_some, Bool, true, false, ◌||◌, nat_lt, Some, None, Ok, Err, ◌+◌, List, [], ◌∷◌, ◌++◌, codes, decimal}
+use Rattle.std.specs.Prelude.{ℕ, Bool, true, false, ◌||◌, nat_lt, Some, None, Ok, Err, ◌+◌, List, [], ◌∷◌, ◌++◌, codes, decimal}
 use Rattle.std.specs.declared.option.Option.{Option}
 use Rattle.std.specs.List.{flat_map, list_any}
 use Rattle.scene_defs.specs.Scene.{Scene}
 use Rattle.scene_defs.specs.Picture.{frame_file}
-use Rattle.scene_defs.specs.Change.{answer_of, changed}
-use Rattle.gui_base.specs.declared.refusal.Refusal.{Refusal}
-use Rattle.run_defs.specs.declared.Command.TheVariants.{Change as CommandOf}
 use Rattle.run_defs.specs.declared.Line.TheVariants.{Blank, Frame, Make}
 use Rattle.run_defs.specs.declared.LineFault.{LineFault}
 use Rattle.run_defs.specs.declared.LineFault.TheVariants.{Long, Syntax, Range}
 use Rattle.run_defs.specs.declared.Outcome.{Outcome}
 use Rattle.run_defs.specs.declared.Outcome.TheVariants.{Done, Fault}
+use Rattle.run_defs.specs.declared.Reply.{Reply}
+use Rattle.run_defs.specs.declared.Reply.TheVariants.{Ok as Fine, Refused}
 use Rattle.run_defs.specs.Machine.{Machine}
+use Rattle.run_defs.specs.Step.{step, is_noted}
 use Rattle.run_defs.specs.Script.{Said}
 use Rattle.run_defs.specs.Why.{why}
 
@@ -30,25 +30,25 @@ why_fault Range = codes "range"
 abbrev pub refused_for : List ℕ → Entry
 refused_for why = Replied (codes "refused " ++ why) true
 
--- the reply to a command by why it is refused, if it is
-abbrev pub reply_text : Option Refusal → List ℕ
-reply_text None = codes "ok"
-reply_text (Some refusal) = codes "refused " ++ why refusal
+-- the text of a reply
+abbrev pub reply_text : Reply → List ℕ
+reply_text (Fine noted) = codes "ok"
+reply_text (Refused refusal) = codes "refused " ++ why refusal
 
-abbrev pub reply : Option Refusal → Entry
-reply refusal = Replied (reply_text refusal) (is_some refusal)
+abbrev pub replied : Reply → Entry
+replied reply = Replied (reply_text reply) (is_noted reply)
 
 abbrev pub entry : Machine → Said → Entry
 entry machine (Ok Blank) = Silent
 entry machine (Ok Frame) = Framed machine.scene
-entry machine (Ok (Make (CommandOf change))) = reply (answer_of machine.scene change)
+entry machine (Ok (Make command)) = replied (step machine command).reply
 entry machine (Err fault) = refused_for (why_fault fault)
 
 -- the machine after a line
 abbrev pub after : Machine → Said → Machine
 after machine (Ok Blank) = machine
 after machine (Ok Frame) = machine
-after machine (Ok (Make (CommandOf change))) = record machine { scene = changed machine.scene change }
+after machine (Ok (Make command)) = (step machine command).machine
 after machine (Err fault) = machine
 
 abbrev pub entries : Machine → List Said → List Entry

@@ -4,6 +4,7 @@
 
 ghost use Rattle.run_defs.specs.Laws.{ShowsOutcomes, SaysInRange};
 
+use gui_base::Refusal;
 use scene_defs::Change;
 use thiserror::Error;
 
@@ -12,6 +13,15 @@ use thiserror::Error;
 pub enum Command {
     /// A change of the scene.
     Change(Change),
+}
+
+/// The reply of the machine to a command.
+#[derive(Clone, Copy, Debug, PartialEq, Eq)]
+pub enum Reply {
+    /// It was done. `noted` tells whether an action that an event ran was refused.
+    Ok { noted: bool },
+    /// It was refused, and nothing changed.
+    Refused(Refusal),
 }
 
 /// What a line of the script says.

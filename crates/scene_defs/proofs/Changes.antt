@@ -1,18 +1,21 @@
 -- The laws of changes.
-use Rattle.std.proofs.Common.{◌≡◌, ◌≢◌, ◌<◌, ◌≤◌, subst, ℕ, Bool, true, false, not, Option, Some, None, is_some, refl, arith}
+use Rattle.std.proofs.Common.{ap, ◌≡◌, ◌≢◌, ◌<◌, ◌≤◌, subst, ℕ, Bool, true, false, not, Option, Some, None, is_some, refl, arith}
 use Rattle.std.specs.Prelude.{if◌then◌else◌, nat_lt, ◌+◌}
 use Rattle.std.proofs.lemmas.Bool.{ltb-true, ltb-false}
+use Rattle.gui_base.specs.Limits.{Bounds}
 use Rattle.gui_base.specs.declared.limits.Pool.{Pool}
 use Rattle.gui_base.specs.declared.limits.Pool.TheVariants.{Objects, Entries}
 use Rattle.gui_base.specs.declared.refusal.Refusal.{Refusal}
-use Rattle.gui_base.specs.declared.refusal.Refusal.TheVariants.{Unknown, Taken, Place, Full, Kind as WrongKind}
+use Rattle.gui_base.specs.declared.refusal.Refusal.TheVariants.{Range, Unknown, Taken, Place, Full, Kind as WrongKind}
 use Rattle.gui_base.specs.declared.words.Prop.{Prop}
 use Rattle.scene_defs.specs.declared.Change.{Change}
 use Rattle.scene_defs.specs.declared.Change.TheVariants.{Screen as NewScreen, New, Delete, Parent, Index, Front, Back, Load, Flag as SetFlag, Pos, Size, Local}
 use Rattle.gui_base.specs.Forest.{has_by, height}
 use Rattle.scene_defs.specs.Scene.{Scene, spare, is_at}
-use Rattle.scene_defs.specs.Change.{answer_of, need_of, scene_after, lacks, screen_answer, new_answer, below_root_answer, local_answer, is_set, stands_alone, tree_below, depth_at, max_depth}
-use Rattle.scene_defs.specs.Laws.{ChangeKeepsLimits, FullWithoutRoom, DoneWithRoom, RefusedWhateverLimits}
+use Rattle.scene_defs.specs.Ranges.{is_in_range}
+use Rattle.scene_defs.specs.Change.{answer_of, answer_in_range, scene_by, need_of, scene_after, lacks, screen_answer, new_answer, below_root_answer, local_answer, is_set, stands_alone, tree_below, depth_at, max_depth}
+use Rattle.scene_defs.proofs.InRange.{range_done, range_full, range_same}
+use Rattle.scene_defs.specs.Laws.{ChangeKeepsLimits, RefusedChangesNothing, RangeComesFirst, FullWithoutRoom, DoneWithRoom, RefusedWhateverLimits, with_limits}
 
 after_keeps : (scene : Scene) (change : Change) → (scene_after scene change).limits ≡ scene.limits
 after_keeps scene (NewScreen n) = refl
@@ -34,6 +37,12 @@ chosen false scene other same = same
 
 pub change_keeps_limits : ChangeKeepsLimits
 change_keeps_limits scene change = chosen (is_some (answer_of scene change)) scene (scene_after scene change) (after_keeps scene change)
+
+pub refused_changes_nothing : RefusedChangesNothing
+refused_changes_nothing scene change refusal e = ap (λ (r : Option Refusal). scene_by r scene change) e
+
+pub range_comes_first : RangeComesFirst
+range_comes_first scene change out = ap (λ (b : Bool). if b then answer_in_range scene change else Some Range) out
 
 -- One test of an answer.
 passed : (test : Bool) (other : Refusal) (later : Option Refusal) (pool : Pool) → other ≢ Full pool → (if test then Some other else later) ≡ Some (Full pool) → later ≡ Some (Full pool)
@@ -88,19 +97,22 @@ local_full scene h prop pool e = ended _ Entries pool (passed _ Unknown _ pool (
 short_of : (scene : Scene) (pool full : Pool) (change : Change) (need : ℕ) → need ≡ need_of scene change full → (lacks scene full need ≡ true) × (full ≡ pool) → spare scene pool < need_of scene change pool
 short_of scene pool full change need is e = let low : spare scene full < need_of scene change full = rw is at (ltb-true _ _ e.0) in subst (λ p. spare scene p < need_of scene change p) e.1 low
 
+full_in_range : (scene : Scene) (change : Change) (pool : Pool) → answer_in_range scene change ≡ Some (Full pool) → spare scene pool < need_of scene change pool
+full_in_range scene (NewScreen n) pool e = short_of scene pool Objects (NewScreen n) 1 refl (screen_full scene n.0 pool e)
+full_in_range scene (New n p kind) pool e = short_of scene pool Objects (New n p kind) 1 refl (new_full scene n.0 p.0 pool e)
+full_in_range scene (Delete h) pool e = absurd (finished _ Place pool (no_place pool) (passed _ Unknown _ pool (no_unknown pool) e))
+full_in_range scene (Parent h p) pool e = absurd (not_parent _ (stands_alone scene h.0) (has_by (is_at p.0) (tree_below scene h.0)) (nat_lt max_depth (depth_at scene p.0 + height (tree_below scene h.0))) pool e)
+full_in_range scene (Index h n) pool e = absurd (not_below_root scene h.0 pool e)
+full_in_range scene (Front h) pool e = absurd (not_below_root scene h.0 pool e)
+full_in_range scene (Back h) pool e = absurd (not_below_root scene h.0 pool e)
+full_in_range scene (Load h) pool e = absurd (not_load _ _ pool e)
+full_in_range scene (SetFlag h flag on) pool e = absurd (not_flag _ pool e)
+full_in_range scene (Pos h x y) pool e = absurd (not_below_root scene h.0 pool e)
+full_in_range scene (Size h width height) pool e = absurd (not_below_root scene h.0 pool e)
+full_in_range scene (Local h part prop value) pool e = short_of scene pool Entries (Local h part prop value) _ refl (local_full scene h.0 prop pool e)
+
 pub full_without_room : FullWithoutRoom
-full_without_room scene (NewScreen n) pool e = short_of scene pool Objects (NewScreen n) 1 refl (screen_full scene n.0 pool e)
-full_without_room scene (New n p kind) pool e = short_of scene pool Objects (New n p kind) 1 refl (new_full scene n.0 p.0 pool e)
-full_without_room scene (Delete h) pool e = absurd (finished _ Place pool (no_place pool) (passed _ Unknown _ pool (no_unknown pool) e))
-full_without_room scene (Parent h p) pool e = absurd (not_parent _ (stands_alone scene h.0) (has_by (is_at p.0) (tree_below scene h.0)) (nat_lt max_depth (depth_at scene p.0 + height (tree_below scene h.0))) pool e)
-full_without_room scene (Index h n) pool e = absurd (not_below_root scene h.0 pool e)
-full_without_room scene (Front h) pool e = absurd (not_below_root scene h.0 pool e)
-full_without_room scene (Back h) pool e = absurd (not_below_root scene h.0 pool e)
-full_without_room scene (Load h) pool e = absurd (not_load _ _ pool e)
-full_without_room scene (SetFlag h flag on) pool e = absurd (not_flag _ pool e)
-full_without_room scene (Pos h x y) pool e = absurd (not_below_root scene h.0 pool e)
-full_without_room scene (Size h width height) pool e = absurd (not_below_root scene h.0 pool e)
-full_without_room scene (Local h part prop value) pool e = short_of scene pool Entries (Local h part prop value) _ refl (local_full scene h.0 prop pool e)
+full_without_room scene change pool e = full_in_range scene change pool (range_full (is_in_range change) _ pool e)
 
 -- A test that stops nothing.
 pub unmet : (test : Bool) (other : Refusal) (later : Option Refusal) → (if test then Some other else later) ≡ None → (test ≡ false) × (later ≡ None)
@@ -113,11 +125,14 @@ roomy scene pool need e = ltb-false _ _ (unmet _ (Full pool) None e).0
 nothing_needed : (n : ℕ) → 0 ≤ n
 nothing_needed n = omega arith
 
+pub room_in_range : (scene : Scene) (change : Change) (pool : Pool) → answer_in_range scene change ≡ None → need_of scene change pool ≤ spare scene pool
+room_in_range scene (NewScreen n) Objects e = roomy scene Objects 1 (unmet _ Taken _ e).1
+room_in_range scene (New n p kind) Objects e = roomy scene Objects 1 (unmet _ Place _ (unmet _ Taken _ (unmet _ Unknown _ e).1).1).1
+room_in_range scene (Local h part prop value) Entries e = roomy scene Entries (if is_set scene h.0 prop then 0 else 1) (unmet _ Unknown _ e).1
+room_in_range scene change pool e = nothing_needed _
+
 pub done_with_room : DoneWithRoom
-done_with_room scene (NewScreen n) Objects e = roomy scene Objects 1 (unmet _ Taken _ e).1
-done_with_room scene (New n p kind) Objects e = roomy scene Objects 1 (unmet _ Place _ (unmet _ Taken _ (unmet _ Unknown _ e).1).1).1
-done_with_room scene (Local h part prop value) Entries e = roomy scene Entries (if is_set scene h.0 prop then 0 else 1) (unmet _ Unknown _ e).1
-done_with_room scene change pool e = nothing_needed _
+done_with_room scene change pool e = room_in_range scene change pool (range_done (is_in_range change) _ e).1
 
 -- What comes before the test of the room does not depend on it.
 later_same : (test : Bool) (other refusal : Refusal) (later with : Option Refusal) → (later ≡ Some refusal → with ≡ Some refusal) → (if test then Some other else later) ≡ Some refusal → (if test then Some other else with) ≡ Some refusal
@@ -128,9 +143,12 @@ last_same : (short less : Bool) (full : Pool) (refusal : Refusal) → ((pool : P
 last_same true less full refusal none e = absurd (none full (cc))
 last_same false less full refusal none e = cc
 
-pub refused_whatever_limits : RefusedWhateverLimits
-refused_whatever_limits scene limits (NewScreen n) refusal none e = later_same _ Taken refusal _ _ (last_same _ _ Objects refusal none) e
-refused_whatever_limits scene limits (New n p kind) refusal none e =
+same_in_range : (scene : Scene) (limits : Bounds) (change : Change) (refusal : Refusal) → ((pool : Pool) → refusal ≢ Full pool) → answer_in_range scene change ≡ Some refusal → answer_in_range (with_limits scene limits) change ≡ Some refusal
+same_in_range scene limits (NewScreen n) refusal none e = later_same _ Taken refusal _ _ (last_same _ _ Objects refusal none) e
+same_in_range scene limits (New n p kind) refusal none e =
     later_same _ Unknown refusal _ _ (later_same _ Taken refusal _ _ (later_same _ Place refusal _ _ (last_same _ _ Objects refusal none))) e
-refused_whatever_limits scene limits (Local h part prop value) refusal none e = later_same _ Unknown refusal _ _ (last_same _ _ Entries refusal none) e
-refused_whatever_limits scene limits change refusal none e = e
+same_in_range scene limits (Local h part prop value) refusal none e = later_same _ Unknown refusal _ _ (last_same _ _ Entries refusal none) e
+same_in_range scene limits change refusal none e = e
+
+pub refused_whatever_limits : RefusedWhateverLimits
+refused_whatever_limits scene limits change refusal none e = range_same (is_in_range change) _ _ refusal (same_in_range scene limits change refusal none) e

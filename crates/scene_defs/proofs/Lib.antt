@@ -2,6 +2,7 @@ pub mod Changes
 pub mod Distinct
 pub mod First
 pub mod Handles
+pub mod InRange
 pub mod Heights
 pub mod Pictures
 pub mod RowKinds

@@ -17,9 +17,11 @@ use Rattle.gui_base.specs.Forest.{Forest, and_then, put_at, leaf, size, height, 
 use Rattle.scene_defs.specs.declared.Change.{Change}
 use Rattle.scene_defs.specs.declared.Change.TheVariants.{Screen as NewScreen, New, Delete, Parent, Index, Front, Back, Load, Flag as SetFlag, Pos, Size, Local}
 use Rattle.scene_defs.specs.Scene.{Row, Scene, is_at, is_there, handles_of, row_at, entry_count, entries_of, spare, new_row}
-use Rattle.scene_defs.specs.Change.{max_depth, answer_of, scene_after, depth_at, tree_below, parent_row, sets, is_set, is_screen, with_screen, with_object, without, last_below, at_index_below, flagged, placed_at, sized, styled, with_row}
-use Rattle.scene_defs.specs.Valid.{EachRow, IsOffset, IsSize, IsValue, IsNewHandle, IsRow, IsObj, root_kind, is_root_at, IsValid, IsChange, FirstIsValid, ChangeKeepsValid, ValidIsShowable}
-use Rattle.scene_defs.proofs.Changes.{unmet, done_with_room}
+use Rattle.scene_defs.specs.Change.{max_depth, answer_of, answer_in_range, scene_after, depth_at, tree_below, parent_row, sets, is_set, is_screen, with_screen, with_object, without, last_below, at_index_below, flagged, placed_at, sized, styled, with_row}
+use Rattle.scene_defs.specs.Valid.{EachRow, IsOffset, IsSize, IsValue, IsNewHandle, IsRow, IsObj, root_kind, is_root_at, IsValid, IsOrderly, FirstIsValid, ChangeKeepsValid, ValidIsShowable}
+use Rattle.scene_defs.specs.Ranges.{is_in_range}
+use Rattle.scene_defs.proofs.InRange.{orderly, range_done}
+use Rattle.scene_defs.proofs.Changes.{unmet, room_in_range}
 use Rattle.scene_defs.proofs.Distinct.{there, IsDistinct, distinct_once, count-off}
 use Rattle.scene_defs.proofs.Heights.{height-and_then, height-put_at, height-cut, depth-height, depth-cut, height-with_children, parent-depth}
 use Rattle.scene_defs.proofs.RowKinds.{each-and_then, each-put_at, each-cut, each-tree, each-with_children, each-with_row, kinds-and_then, kinds-cut, kinds-with_children, kinds-with_row, Keeps, objects-tree, screen_root, no_layer, screen_kind, root-and_then, root-cut, root-with_children, root-with_row, root_alone}
@@ -282,14 +284,14 @@ not_low h active e = (grind (arith, nat_tests), grind (arith, nat_tests), grind 
 not_deepest : (depth high : ℕ) → (depth == max_depth) ≡ false → depth ≤ high → high ≤ max_depth → depth + 1 ≤ max_depth
 not_deepest depth high e a b = grind (arith, nat_tests)
 
-after_valid : (scene : Scene) (change : Change) → IsChange change → answer_of scene change ≡ None → IsValid scene → IsValid (scene_after scene change)
-after_valid scene (NewScreen n) c e v = screen_valid scene n.0 c (unmet _ Taken _ e).0 (done_with_room scene (NewScreen n) Objects e) v
+pub after_valid : (scene : Scene) (change : Change) → IsOrderly change → answer_in_range scene change ≡ None → IsValid scene → IsValid (scene_after scene change)
+after_valid scene (NewScreen n) c e v = screen_valid scene n.0 c (unmet _ Taken _ e).0 (room_in_range scene (NewScreen n) Objects e) v
 after_valid scene (New n p kind) c e v =
     let a = unmet _ Unknown _ e in
     let b = unmet _ Taken _ a.1 in
     let d = unmet _ Place _ b.1 in
     subst (λ k. IsValid (record scene { trees = with_object scene.trees n.0 p.0 k })) (sym c.1)
-    (object_valid scene n.0 p.0 c.0 b.0 (not_deepest (depth_at scene p.0) (height scene.trees) d.0 (depth-height (is_at p.0) scene.trees) v.low) (done_with_room scene (New n p kind) Objects e) v)
+    (object_valid scene n.0 p.0 c.0 b.0 (not_deepest (depth_at scene p.0) (height scene.trees) d.0 (depth-height (is_at p.0) scene.trees) v.low) (room_in_range scene (New n p kind) Objects e) v)
 after_valid scene (Delete h) c e v =
     let a = unmet _ Unknown _ e in
     let b = not_low h.0 scene.active (unmet _ Place _ a.1).0 in
@@ -307,14 +309,16 @@ after_valid scene (Load h) c e v = load_valid scene h.0 (screen_from _ _ e) v
 after_valid scene (SetFlag h flag on) c e v = flag_valid scene h.0 flag on v
 after_valid scene (Pos h x y) c e v = pos_valid scene h.0 x y c.0 c.1 v
 after_valid scene (Size h wide high) c e v = size_valid scene h.0 wide high c.0 c.1 v
-after_valid scene (Local h part prop value) c e v = local_valid scene h.0 prop value c (done_with_room scene (Local h part prop value) Entries e) v
+after_valid scene (Local h part prop value) c e v = local_valid scene h.0 prop value c (room_in_range scene (Local h part prop value) Entries e) v
 
 kept : (answer : Option Refusal) (scene other : Scene) → IsValid scene → (answer ≡ None → IsValid other) → IsValid (if is_some answer then scene else other)
 kept None scene other v done = done refl
 kept (Some refusal) scene other v done = v
 
 pub change_keeps_valid : ChangeKeepsValid
-change_keeps_valid scene change v c = kept (answer_of scene change) scene (scene_after scene change) v (λ e. after_valid scene change c e v)
+change_keeps_valid scene change v c =
+    kept (answer_of scene change) scene (scene_after scene change) v (λ e.
+    let a = range_done (is_in_range change) (answer_in_range scene change) e in after_valid scene change (orderly change a.0 c) a.1 v)
 
 first_once : (h : ℕ) → cond (eqb 1 h) 1 0 + (0 + (cond (eqb 2 h) 1 0 + (0 + (cond (eqb 3 h) 1 0 + (0 + 0))))) ≤ 1
 first_once h = grind (arith, nat_tests)

@@ -4,7 +4,7 @@ use Rattle.std.specs.declared.option.Option.{Option}
 use Rattle.gui_base.specs.declared.limits.Pool.{Pool}
 use Rattle.gui_base.specs.declared.limits.Pool.TheVariants.{Objects, Entries}
 use Rattle.gui_base.specs.declared.refusal.Refusal.{Refusal}
-use Rattle.gui_base.specs.declared.refusal.Refusal.TheVariants.{Unknown, Taken, Kind as WrongKind, Place, Full}
+use Rattle.gui_base.specs.declared.refusal.Refusal.TheVariants.{Range, Unknown, Taken, Kind as WrongKind, Place, Full}
 use Rattle.gui_base.specs.declared.words.Flag.{Flag}
 use Rattle.gui_base.specs.declared.words.Flag.TheVariants.{Hidden, Clickable, Checkable, Bubble}
 use Rattle.gui_base.specs.declared.words.Kind.{Kind}
@@ -15,6 +15,7 @@ use Rattle.gui_base.specs.declared.words.Prop.TheVariants.{BgColor, BgOpa}
 use Rattle.gui_base.specs.Forest.{Forest, and_then, put_at, leaf, height, has_by, cut_by, tree_by, depth_by, parent_by, with_children_by, with_row_by}
 use Rattle.scene_defs.specs.declared.Change.{Change}
 use Rattle.scene_defs.specs.declared.Change.TheVariants.{Screen as NewScreen, New, Delete, Parent, Index, Front, Back, Load, Flag as SetFlag, Pos, Size, Local}
+use Rattle.scene_defs.specs.Ranges.{is_in_range}
 use Rattle.scene_defs.specs.Scene.{Flags, Locals, Row, Scene, is_at, is_there, row_at, local_of, spare, new_row}
 
 -- how deep an object may lie, a root having depth 1
@@ -69,7 +70,7 @@ need_of scene (New n p kind) Objects = 1
 need_of scene (Local h part prop value) Entries = if is_set scene h.0 prop then 0 else 1
 need_of scene change pool = 0
 
--- Why a change is refused: the first reason, or none where it is done.
+-- Why a change is refused whose numbers lie in their intervals: the first reason, or none where it is done.
 abbrev pub screen_answer : Scene → ℕ → Option Refusal
 screen_answer scene n = if is_there scene n then Some Taken else if lacks scene Objects 1 then Some (Full Objects) else None
 
@@ -111,19 +112,24 @@ local_answer scene h prop =
     else if lacks scene Entries (if is_set scene h prop then 0 else 1) then Some (Full Entries)
     else None
 
+-- the same of any change whose numbers lie in their intervals
+abbrev pub answer_in_range : Scene → Change → Option Refusal
+answer_in_range scene (NewScreen n) = screen_answer scene n.0
+answer_in_range scene (New n p kind) = new_answer scene n.0 p.0
+answer_in_range scene (Delete h) = delete_answer scene h.0
+answer_in_range scene (Parent h p) = parent_answer scene h.0 p.0
+answer_in_range scene (Index h n) = below_root_answer scene h.0
+answer_in_range scene (Front h) = below_root_answer scene h.0
+answer_in_range scene (Back h) = below_root_answer scene h.0
+answer_in_range scene (Load h) = load_answer scene h.0
+answer_in_range scene (SetFlag h flag on) = flag_answer scene h.0
+answer_in_range scene (Pos h x y) = below_root_answer scene h.0
+answer_in_range scene (Size h width height) = below_root_answer scene h.0
+answer_in_range scene (Local h part prop value) = local_answer scene h.0 prop
+
+-- why a change is refused: the first reason, or none where it is done
 abbrev pub answer_of : Scene → Change → Option Refusal
-answer_of scene (NewScreen n) = screen_answer scene n.0
-answer_of scene (New n p kind) = new_answer scene n.0 p.0
-answer_of scene (Delete h) = delete_answer scene h.0
-answer_of scene (Parent h p) = parent_answer scene h.0 p.0
-answer_of scene (Index h n) = below_root_answer scene h.0
-answer_of scene (Front h) = below_root_answer scene h.0
-answer_of scene (Back h) = below_root_answer scene h.0
-answer_of scene (Load h) = load_answer scene h.0
-answer_of scene (SetFlag h flag on) = flag_answer scene h.0
-answer_of scene (Pos h x y) = below_root_answer scene h.0
-answer_of scene (Size h width height) = below_root_answer scene h.0
-answer_of scene (Local h part prop value) = local_answer scene h.0 prop
+answer_of scene change = if is_in_range change then answer_in_range scene change else Some Range
 
 -- The trees after a change.
 
@@ -198,6 +204,10 @@ scene_after scene (Pos h x y) = with_row scene h.0 (placed_at x y)
 scene_after scene (Size h width height) = with_row scene h.0 (sized width height)
 scene_after scene (Local h part prop value) = with_row scene h.0 (styled prop value)
 
--- the scene after a change, which a refusal leaves as it is
+-- the scene after a change with this answer: a refusal leaves it as it is
+abbrev pub scene_by : Option Refusal → Scene → Change → Scene
+scene_by refusal scene change = if is_some refusal then scene else scene_after scene change
+
+-- the scene after a change
 abbrev pub changed : Scene → Change → Scene
-changed scene change = if is_some (answer_of scene change) then scene else scene_after scene change
+changed scene change = scene_by (answer_of scene change) scene change

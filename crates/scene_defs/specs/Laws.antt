@@ -1,15 +1,24 @@
 -- Laws of the changes of a scene.
-use Rattle.std.specs.Prelude.{◌≡◌, ◌≢◌, ◌<◌, ◌≤◌, Some, None}
+use Rattle.std.specs.Prelude.{false, ◌≡◌, ◌≢◌, ◌<◌, ◌≤◌, Some, None}
 use Rattle.gui_base.specs.Limits.{Bounds}
 use Rattle.gui_base.specs.declared.limits.Pool.{Pool}
 use Rattle.gui_base.specs.declared.refusal.Refusal.{Refusal}
-use Rattle.gui_base.specs.declared.refusal.Refusal.TheVariants.{Full}
+use Rattle.gui_base.specs.declared.refusal.Refusal.TheVariants.{Range, Full}
 use Rattle.scene_defs.specs.declared.Change.{Change}
+use Rattle.scene_defs.specs.Ranges.{is_in_range}
 use Rattle.scene_defs.specs.Scene.{Scene, spare}
 use Rattle.scene_defs.specs.Change.{answer_of, need_of, changed}
 
 abbrev pub ChangeKeepsLimits : Type 0
 ChangeKeepsLimits = (scene : Scene) (change : Change) → (changed scene change).limits ≡ scene.limits
+
+-- a change that is refused leaves the scene
+abbrev pub RefusedChangesNothing : Type 0
+RefusedChangesNothing = (scene : Scene) (change : Change) (refusal : Refusal) → answer_of scene change ≡ Some refusal → changed scene change ≡ scene
+
+-- a number outside its interval is refused before all else
+abbrev pub RangeComesFirst : Type 0
+RangeComesFirst = (scene : Scene) (change : Change) → is_in_range change ≡ false → answer_of scene change ≡ Some Range
 
 -- a pool is full only where it has fewer free slots than are needed
 abbrev pub FullWithoutRoom : Type 0

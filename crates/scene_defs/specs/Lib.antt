@@ -1,6 +1,7 @@
 pub mod Change
 pub mod Laws
 pub mod Picture
+pub mod Ranges
 pub mod Scene
 pub mod Valid
 pub mod Walk

@@ -12,6 +12,7 @@ use Rattle.gui_base.specs.declared.words.Prop.TheVariants.{BgColor, BgOpa}
 use Rattle.gui_base.specs.Forest.{Forest, Empty, Tree, roots, size, height, StandsOnce}
 use Rattle.scene_defs.specs.declared.Change.{Change}
 use Rattle.scene_defs.specs.declared.Change.TheVariants.{Screen as NewScreen, New, Pos, Size, Local}
+use Rattle.scene_defs.specs.Ranges.{greatest}
 use Rattle.scene_defs.specs.Scene.{Row, Scene, is_at, handles_of, entries_of, first_scene}
 use Rattle.scene_defs.specs.Change.{max_depth, changed}
 use Rattle.scene_defs.specs.Walk.{IsShowable}
@@ -29,10 +30,6 @@ pub record IsOffset (n : ℤ) : Type 0 where
 -- a wanted width or height in pixels
 abbrev pub IsSize : Length → Type 0
 IsSize (Pixels n) = n ≤ 4000
-
-abbrev pub greatest : Prop → ℕ
-greatest BgColor = 16777215
-greatest BgOpa = 255
 
 pub record IsValue (prop : Prop) (value : ℤ) : Type 0 where
   pub least : pos 0 ≤ℤ value
@@ -88,14 +85,19 @@ pub record IsValid (scene : Scene) : Type 0 where
   pub entries : entries_of scene.trees ≤ scene.limits.entries
   pub rows : EachRow IsRow scene.trees
 
--- each number of a change lies in its interval, and its kind is one that a new object may have
+-- a change that may be asked for: below a parent stand plain objects, and no screens or layers
 abbrev pub IsChange : Change → Type 0
-IsChange (NewScreen n) = IsNewHandle n.0
-IsChange (New n p kind) = IsNewHandle n.0 × (kind ≡ Obj)
-IsChange (Pos h x y) = IsOffset x × IsOffset y
-IsChange (Size h width height) = IsSize width × IsSize height
-IsChange (Local h part prop value) = IsValue prop value
+IsChange (New n p kind) = kind ≡ Obj
 IsChange change = Unit {0}
+
+-- one that may be done: its numbers lie in their intervals too
+abbrev pub IsOrderly : Change → Type 0
+IsOrderly (NewScreen n) = IsNewHandle n.0
+IsOrderly (New n p kind) = IsNewHandle n.0 × (kind ≡ Obj)
+IsOrderly (Pos h x y) = IsOffset x × IsOffset y
+IsOrderly (Size h width height) = IsSize width × IsSize height
+IsOrderly (Local h part prop value) = IsValue prop value
+IsOrderly change = Unit {0}
 
 -- what is shown of a scene in order is met by a walk
 abbrev pub ValidIsShowable : Type 0

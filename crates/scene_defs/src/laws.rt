@@ -1,11 +1,17 @@
 //! What follows from the definitions. Each function does nothing: its contract is a law, which is proved.
-ghost use Rattle.scene_defs.specs.Laws.{ChangeKeepsLimits, FullWithoutRoom, DoneWithRoom, RefusedWhateverLimits};
+ghost use Rattle.scene_defs.specs.Laws.{ChangeKeepsLimits, RefusedChangesNothing, RangeComesFirst, FullWithoutRoom, DoneWithRoom, RefusedWhateverLimits};
 ghost use Rattle.scene_defs.specs.Valid.{FirstIsValid, ChangeKeepsValid, ValidIsShowable};
 ghost use Rattle.scene_defs.specs.Walk.{ShownByWalk, NothingBelowNothing, WalkedInside, ShownInside};
 
 /// A change leaves the limits.
 pub fn change_keeps_limits()
     ensures { ChangeKeepsLimits }
+{}
+
+/// A refused change leaves the scene, and a number outside its interval is refused before all else.
+pub fn refusals_change_nothing()
+    ensures nothing { RefusedChangesNothing }
+    ensures range { RangeComesFirst }
 {}
 
 /// A change is refused for a full pool where it needs more slots than are free, after all other refusals, which do not look at the limits.
@@ -27,7 +33,7 @@ pub fn shown_inside()
     ensures walked { WalkedInside }
 {}
 
-/// The first scene is in order, a change whose numbers are in range keeps a scene so, and one walk meets what is shown of it.
+/// The first scene is in order, a change keeps a scene so, and one walk meets what is shown of it.
 pub fn scenes_are_valid()
     ensures first { FirstIsValid }
     ensures changed { ChangeKeepsValid }

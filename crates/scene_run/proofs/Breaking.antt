@@ -1,10 +1,7 @@
 -- What a line does before a write fails.
-use Rattle.std.proofs.Common.{◌≡◌, sym, subst, ℕ, ◌≤◌, List, [], ◌∷◌, Bool, arith, refl}
-use Rattle.std.specs.Prelude.{OnOk, OnErr, Ok, Err, Some, None}
+use Rattle.std.proofs.Common.{◌≡◌, ◌∙◌, ◌++◌, sym, subst, ℕ, ◌≤◌, List, [], ◌∷◌, Bool, arith, refl}
+use Rattle.std.specs.Prelude.{OnOk, OnErr, Ok, Err}
 use Rattle.std.specs.declared.option.Option.{Option}
-use Rattle.std.specs.Result.{result_err}
-use Rattle.gui_base.specs.declared.refusal.Refusal.{Refusal}
-use Rattle.gui_store.specs.Answers.{result_of}
 use Rattle.std.specs.declared.result.Result.{Result}
 use Rattle.std.proofs.lemmas.List.{append-nil}
 use Rattle.std.specs.Io.KnownBytes.{Appends}
@@ -12,11 +9,15 @@ use Rattle.scene_defs.specs.Scene.{Scene}
 use Rattle.scene_defs.specs.Picture.{frame_file}
 use Rattle.run_defs.specs.declared.Outcome.{Outcome}
 use Rattle.run_defs.specs.declared.Outcome.TheVariants.{Done, Fault}
+use Rattle.run_defs.specs.declared.Command.{Command}
+use Rattle.run_defs.specs.declared.Command.TheVariants.{Change as CommandOf}
+use Rattle.run_defs.specs.Machine.{Machine}
+use Rattle.run_defs.specs.Step.{step}
 use Rattle.run_defs.specs.Run.{Replied, Framed, reply_line, frame_line}
 use Rattle.gui_edge.specs.Sink.{SinkState, AppendsFront}
 use Rattle.gui_edge.specs.Panel.{PanelState}
 use Rattle.scene_run.specs.Effects.{Output, PanelKeeps, Keeps, Breaks, FrameShown, FrameBroke}
-use Rattle.scene_run.proofs.Known.{AppendsFront-nothing}
+use Rattle.scene_run.proofs.Known.{Appends-more, AppendsFront-nothing}
 
 pub on_err : {T E P : Type 0} (r : Result T E) → P → OnErr r P
 on_err (Ok x) p = tt
@@ -83,7 +84,30 @@ err_on (Err e) f p = f p
 pub Keeps-self : (o : Output) → Keeps o o
 Keeps-self o = record { panel = PanelKeeps-self o.panel; log_faults = omega arith }
 
--- the error of an answer is the refusal
-pub err-of : (refusal : Option Refusal) → result_err (result_of refusal) ≡ refusal
-err-of None = refl
-err-of (Some refusal) = refl
+-- A command writes nothing but its reply, since no event writes yet.
+no_lines : (m : Machine) (command : Command) → (step m command).lines ≡ []
+no_lines m (CommandOf change) = refl
+
+pub reply_after : (m : Machine) (command : Command) (a b c : Option (List ℕ)) (text : List ℕ) → Appends a b (step m command).lines → Appends b c text → Appends a c text
+reply_after m command a b c text first second =
+    Appends-more a b c [] text (subst (Appends a b) (no_lines m command) first) second
+
+pub front_after : (m : Machine) (command : Command) (a b c : Option (List ℕ)) (text : List ℕ) → Appends a b (step m command).lines → AppendsFront b c text → AppendsFront a c text
+front_after m command a b c text first second = record {
+  front = second.front;
+  rest = second.rest;
+  whole = second.whole;
+  grows = reply_after m command a b c second.front first second.grows;
+}
+
+front_of_nothing : (front rest : List ℕ) → front ++ rest ≡ [] → front ≡ []
+front_of_nothing [] rest e = refl
+front_of_nothing (b ∷ front) rest e = cc
+
+pub front_before : (m : Machine) (command : Command) (a b : Option (List ℕ)) (text : List ℕ) → AppendsFront a b (step m command).lines → AppendsFront a b text
+front_before m command a b text cut = record {
+  front = [];
+  rest = text;
+  whole = refl;
+  grows = subst (Appends a b) (front_of_nothing cut.front cut.rest (cut.whole ∙ no_lines m command)) cut.grows;
+}

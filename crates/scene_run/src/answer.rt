@@ -1,18 +1,21 @@
 //! Answers one line of the script.
-ghost use Rattle.std.specs.Prelude.{◌≡◌, ◌<◌, ◌++◌, ◌∷◌, [], ◌⊎◌, Ok, IfOk, IfSome, OnErr, codes};
+ghost use Rattle.std.specs.Prelude.{◌≡◌, ◌<◌, ◌++◌, ◌∷◌, [], ◌⊎◌, IfOk, IfSome, OnOk, OnErr, codes};
 ghost use Rattle.std.specs.declared.option.Option.{Option};
 ghost use Rattle.std.specs.Option.{option_to_list};
 ghost use Rattle.scene_defs.specs.Scene.{Scene};
 ghost use Rattle.run_defs.specs.Laws.{IsInRange};
-ghost use Rattle.run_defs.specs.Run.{entry, after, is_refused, reply, reply_line, reply_text, frame_line, why_fault};
-ghost use Rattle.gui_edge.specs.Causes.{Rose};
+ghost use Rattle.run_defs.specs.Step.{step, is_noted, IsCommand};
+ghost use Rattle.run_defs.specs.Run.{entry, after, is_refused, reply_line, reply_text, frame_line, why_fault};
+ghost use Rattle.std.specs.Io.KnownBytes.{Appends};
+ghost use Rattle.gui_edge.specs.Causes.{Rose, HasCause};
+ghost use Rattle.gui_edge.specs.Sink.{AppendsFront};
 ghost use Rattle.gui_core.specs.Machines.{machine_of};
 ghost use Rattle.gui_core.specs.Panels.{HasSizes, ShowsScene, Refreshes};
 ghost use Rattle.scene_run.specs.Effects.{Output, PanelKeeps, Keeps, Effects, Breaks, FrameShown, FrameBroke};
 
 use arrayvec::ArrayVec;
-use gui_base::{Refusal, Steps};
-use gui_core::{Gui, Refreshed};
+use gui_base::Steps;
+use gui_core::{Gui, Refreshed, Reply};
 use gui_edge::text::{push_bytes, push_number};
 use gui_edge::{Failed, Panel, Sink};
 use run_defs::Outcome;
@@ -21,10 +24,10 @@ use std::marker::Brand;
 use std::sync::ledger::{Blank, Ledger};
 
 /// A line of the log: two numbers of ten digits and the words fit.
-type Reply = ArrayVec<u8, 64>;
+type LogLine = ArrayVec<u8, 64>;
 
 /// The line of the log for a line that says nothing of the language.
-fn fault_text(number: u32, fault: LineFault) -> Reply
+fn fault_text(number: u32, fault: LineFault) -> LogLine
     ensures { result.items ≡ reply_line number (codes "refused " ++ why_fault fault) }
 {
     let mut text = ArrayVec::new();
@@ -39,7 +42,7 @@ fn fault_text(number: u32, fault: LineFault) -> Reply
 }
 
 /// The line of the log for a frame.
-fn frame_text(number: u32, frame: u32, outcome: Outcome) -> Reply
+fn frame_text(number: u32, frame: u32, outcome: Outcome) -> LogLine
     ensures { result.items ≡ frame_line number frame outcome }
 {
     let mut text = ArrayVec::new();
@@ -53,15 +56,15 @@ fn frame_text(number: u32, frame: u32, outcome: Outcome) -> Reply
     text
 }
 
-/// The line of the log for a command that is done or refused.
-fn command_text(number: u32, refusal: Option<Refusal>) -> Reply
-    ensures { result.items ≡ reply_line number (reply_text refusal) }
+/// The line of the log for a reply.
+fn reply_text(number: u32, reply: Reply) -> LogLine
+    ensures { result.items ≡ reply_line number (reply_text reply) }
 {
     let mut text = ArrayVec::new();
     push_number(&mut text, number);
-    match refusal {
-        None => push_bytes(&mut text, b" ok\n"),
-        Some(refusal) => {
+    match reply {
+        Reply::Ok { .. } => push_bytes(&mut text, b" ok\n"),
+        Reply::Refused(refusal) => {
             push_bytes(&mut text, b" refused ");
             push_bytes(&mut text, why(refusal).as_bytes());
             push_bytes(&mut text, b"\n");
@@ -70,15 +73,28 @@ fn command_text(number: u32, refusal: Option<Refusal>) -> Reply
     text
 }
 
-/// Carries out a command, or tells why it is refused.
-fn carry_out(gui: &mut Gui, command: Command) -> Option<Refusal>
-    requires { IsInRange (Ok (Line.Make command)) }
-    ensures machine { machine_of gui.new ≡ after (machine_of gui.old) (Ok (Line.Make command)) }
-    ensures reply { reply result ≡ entry (machine_of gui.old) (Ok (Line.Make command)) }
+/// Whether a reply is that of a refusal, or has one to note.
+fn is_noted(reply: Reply) -> bool
+    ensures { result ≡ is_noted reply }
 {
-    match command {
-        Command::Change(change) => gui.apply(&change).err(),
+    match reply {
+        Reply::Ok { noted } => noted,
+        Reply::Refused(_) => true,
     }
+}
+
+/// Carries out a command and writes the reply. It tells whether there is something to note.
+fn make<L: Sink>(gui: &mut Gui, command: Command, number: u32, log: &mut L) -> Result<bool, Failed>
+    requires { IsCommand command }
+    ensures machine { machine_of gui.new ≡ (step (machine_of gui.old) command).machine }
+    ensures ok { OnOk result (Appends (L.state log.old).held (L.state log.new).held (reply_line number (reply_text (step (machine_of gui.old) command).reply))) }
+    ensures noted { IfOk result (λ noted. noted ≡ is_noted (step (machine_of gui.old) command).reply) }
+    ensures err { OnErr result (AppendsFront (L.state log.old).held (L.state log.new).held (reply_line number (reply_text (step (machine_of gui.old) command).reply))) }
+    ensures cause { HasCause (L.state log.old).faults (L.state log.new).faults result }
+{
+    let reply = gui.apply(&command, log)?;
+    log.put(reply_text(number, reply).as_slice())?;
+    Ok(is_noted(reply))
 }
 
 /// Sends the picture to the panel with an empty count of steps, which no clause of a run speaks of.
@@ -151,9 +167,7 @@ pub fn answer<L: Sink, P: Panel>(
         Ok(line) => match line {
             Line::Blank => Ok(end),
             Line::Make(command) => {
-                let refusal = carry_out(gui, command);
-                log.put(command_text(number, refusal).as_slice())?;
-                end.refused = refusal.is_some();
+                end.refused = make(gui, command, number, log)?;
                 Ok(end)
             }
             Line::Frame => {

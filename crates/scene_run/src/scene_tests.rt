@@ -3,6 +3,10 @@
 use crate::Status;
 use crate::tests::Fault::{self, Flush};
 use crate::tests::Outside;
+use gui_base::{Handle, Length, Limits, Refusal};
+use gui_core::{Gui, Reply};
+use gui_edge::MemSink;
+use scene_script::{Line, parse_line};
 use std::alloc::{AllocError, Global};
 use std::process::Abort;
 use std::test::Fail;
@@ -597,5 +601,34 @@ fn thirty_three_objects_turn_black(rt: HostRuntime) -> Result<(), Fail> {
     assert_eq!(rt; outside.run(alloc, &words), Status::Done);
     assert_eq!(rt; outside.log.bytes(), told.log.as_slice());
     assert!(rt; outside.panel.into_frames().bytes() == frames.as_slice());
+    Ok(())
+}
+
+/// What the machine replies to a line, where it is a command.
+#[tactic(auto, using(run_defs::proofs::Ranges::says_in_range))]
+fn reply_to(gui: &mut Gui, log: &mut MemSink, line: &str) -> Option<Reply> {
+    match parse_line(line.as_bytes()) {
+        Ok(Line::Make(command)) => gui.apply(&command, log).ok(),
+        _ => None,
+    }
+}
+
+/// The wanted places and sizes that a script sets are those that the store lends.
+#[test]
+fn the_store_lends_what_lines_have_set(rt: HostRuntime) -> Result<(), Fail> {
+    let alloc = rt.alloc();
+    let mut gui = Gui::open(alloc, &Limits::with_sizes(8, 6, 6))?;
+    let mut log = MemSink::with_capacity(alloc, 0, Vec::new(alloc))?;
+    for line in ["new 10 3 obj", "size 10 3 2", "pos 10 1 1", "pos 10 2 1"] {
+        assert!(rt; reply_to(&mut gui, &mut log, line) == Some(Reply::Ok { noted: false }));
+    }
+    let place = Some(Reply::Refused(Refusal::Place));
+    assert!(rt; reply_to(&mut gui, &mut log, "pos 3 0 0") == place);
+    let row = gui.store().row(Handle(10)).copied();
+    assert!(rt; row.is_some_and(|row| row.x == 2 && row.y == 1));
+    assert!(rt;
+        row.is_some_and(|row| row.width == Length::Pixels(3) && row.height == Length::Pixels(2))
+    );
+    assert!(rt; log.bytes().is_empty() && gui.store().active() == Handle(3));
     Ok(())
 }

@@ -9,14 +9,14 @@ returns-in_err-outcome-in-Frame-clause-err g c =
 pub returns-in_err-put-in-Frame-clause-err : goal.returns-in_err-put-in-Frame-clause-err
 returns-in_err-put-in-Frame-clause-err g c =
     on_err c.from_residual-in_err-put-in-Frame.result (rw (c.in-Ok.is, c.in-Frame.is)
-    (breaks_frame _ _ _ _ _ _ _ _ c.in_ok-outcome-in-Frame.ensures.ok (rw (← c.frame_text.ensures, ← c.as_slice-in-Frame.ensures.value) c.in_err-put-in-Frame.ensures.err) c.in_err-put-in-Frame.ensures.cause.later))
+    (breaks_frame _ _ _ _ _ _ _ _ c.in_ok-outcome-in-Frame.ensures.ok (rw (← c.frame_text.ensures, ← c.as_slice.ensures.value) c.in_err-put-in-Frame.ensures.err) c.in_err-put-in-Frame.ensures.cause.later))
 
 pub returns-in_err-put-in-Err-clause-err : goal.returns-in_err-put-in-Err-clause-err
 returns-in_err-put-in-Err-clause-err g c =
     on_err c.from_residual-in_err-put-in-Err.result (rw c.in-Err.is
     (breaks_reply _ _ _ _ _ _ _ (rw (← c.fault_text.ensures, ← c.as_slice-in-Err.ensures.value) c.in_err-put-in-Err.ensures.err) c.in_err-put-in-Err.ensures.cause.later))
 
-pub returns-in_err-put-in-Make-clause-err : goal.returns-in_err-put-in-Make-clause-err
-returns-in_err-put-in-Make-clause-err g c =
-    on_err c.from_residual.result (rw (c.in-Ok.is, c.in-Make.is, ← c.carry_out-refusal.ensures.reply)
-    (breaks_reply _ _ _ _ _ _ _ (rw (← c.command_text.ensures, ← c.as_slice.ensures.value) c.in_err-put-in-Make.ensures.err) c.in_err-put-in-Make.ensures.cause.later))
+pub returns-in_err-end-in-Make-clause-err : goal.returns-in_err-end-in-Make-clause-err
+returns-in_err-end-in-Make-clause-err g c =
+    on_err c.from_residual.result (rw (c.in-Ok.is, c.in-Make.is)
+    (breaks_reply _ _ _ _ _ _ _ c.in_err-end-in-Make.ensures.err c.in_err-end-in-Make.ensures.cause.later))

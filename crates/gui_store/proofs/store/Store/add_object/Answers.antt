@@ -3,7 +3,7 @@ use Rattle.std.specs.Prelude.{OnOk}
 use Rattle.std.proofs.lemmas.Result.{err_from_is_err_and}
 use Rattle.gui_tree.specs.Trees.{Trees, Answer, with_child}
 use Rattle.scene_defs.specs.declared.Change.TheVariants.{New}
-use Rattle.scene_defs.specs.Change.{answer_of}
+use Rattle.scene_defs.specs.Change.{answer_in_range}
 use Rattle.gui_store.specs.Answers.{result_of}
 use Rattle.gui_store.specs.Parts.{scene_of}
 use Rattle.gui_store.specs.Views.{parts_of}
@@ -15,7 +15,7 @@ added : (c : goal.After-self-1) → Done (parts_of c.self.inside) (New c.args.n 
 added c =
     let p = parts_of c.self.inside in
     let fits : c.args.n.0 < 10000 = let a = c.requires.0.most in omega arith in
-    let e : answer_of (scene_of p) (New c.args.n c.args.parent c.args.kind) ≡ None = ok-none _ _ (new-answer p c.self.invariant c.args.n.0 c.args.parent.0 ∙ sym c.add.ensures.answer ∙ c.in_ok-add.was) in
+    let e : answer_in_range (scene_of p) (New c.args.n c.args.parent c.args.kind) ≡ None = ok-none _ _ (new-answer p c.self.invariant c.args.n.0 c.args.parent.0 ∙ sym c.add.ensures.answer ∙ c.in_ok-add.was) in
     let tree : c.add.new.self ≡ with_child p.tree c.args.parent.0 c.args.n.0 = subst (λ (x : Answer). OnOk x (c.add.new.self ≡ with_child p.tree c.args.parent.0 c.args.n.0)) c.in_ok-add.was c.add.ensures.ok in
     subst (λ (x : Trees). Done p (New c.args.n c.args.parent c.args.kind) (record p { tree = x; rows = slice_set p.rows c.args.n.0 c.new.result })) (sym tree)
     (done p c.self.invariant (New c.args.n c.args.parent c.args.kind) c.requires _ e (fine-object p c.self.invariant c.args.n c.args.parent c.args.kind c.new.result fits (c.new.ensures c.args.n.0) e))

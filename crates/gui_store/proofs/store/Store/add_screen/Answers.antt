@@ -3,7 +3,7 @@ use Rattle.std.specs.Prelude.{OnOk}
 use Rattle.std.proofs.lemmas.Result.{err_from_is_err_and}
 use Rattle.gui_tree.specs.Trees.{Trees, Answer, with_root}
 use Rattle.scene_defs.specs.declared.Change.TheVariants.{Screen as NewScreen}
-use Rattle.scene_defs.specs.Change.{answer_of}
+use Rattle.scene_defs.specs.Change.{answer_in_range}
 use Rattle.gui_store.specs.Answers.{result_of}
 use Rattle.gui_store.specs.Parts.{scene_of}
 use Rattle.gui_store.specs.Views.{parts_of}
@@ -15,7 +15,7 @@ added : (c : goal.After-self-1) → Done (parts_of c.self.inside) (NewScreen c.a
 added c =
     let p = parts_of c.self.inside in
     let fits : c.args.n.0 < 10000 = let a = c.requires.most in omega arith in
-    let e : answer_of (scene_of p) (NewScreen c.args.n) ≡ None = ok-none _ _ (screen-answer p c.self.invariant c.args.n.0 ∙ sym c.add_root.ensures.answer ∙ c.in_ok-add_root.was) in
+    let e : answer_in_range (scene_of p) (NewScreen c.args.n) ≡ None = ok-none _ _ (screen-answer p c.self.invariant c.args.n.0 ∙ sym c.add_root.ensures.answer ∙ c.in_ok-add_root.was) in
     let tree : c.add_root.new.self ≡ with_root p.tree c.args.n.0 = subst (λ (x : Answer). OnOk x (c.add_root.new.self ≡ with_root p.tree c.args.n.0)) c.in_ok-add_root.was c.add_root.ensures.ok in
     subst (λ (x : Trees). Done p (NewScreen c.args.n) (record p { tree = x; rows = slice_set p.rows c.args.n.0 c.new.result })) (sym tree)
     (done p c.self.invariant (NewScreen c.args.n) c.requires _ e (fine-screen p c.self.invariant c.args.n c.new.result fits (c.new.ensures c.args.n.0) e))

@@ -3,7 +3,7 @@ use Rattle.std.specs.Prelude.{OnOk}
 use Rattle.std.proofs.lemmas.Result.{err_from_is_err_and}
 use Rattle.gui_tree.specs.Trees.{Trees, Answer, without}
 use Rattle.scene_defs.specs.declared.Change.TheVariants.{Delete}
-use Rattle.scene_defs.specs.Change.{answer_of}
+use Rattle.scene_defs.specs.Change.{answer_in_range}
 use Rattle.gui_store.specs.Answers.{result_of}
 use Rattle.gui_store.specs.Parts.{scene_of}
 use Rattle.gui_store.specs.Views.{parts_of}
@@ -15,7 +15,7 @@ use Rattle.gui_store.proofs.store.Store.delete.Goals as goal
 deleted : (c : goal.After-self-1) → Done (parts_of c.self.inside) (Delete c.args.h) (record (parts_of c.self.inside) { tree = c.remove.new.self; entries = c.self.inside.entries - c.entries_of.result })
 deleted c =
     let p = parts_of c.self.inside in
-    let e : answer_of (scene_of p) (Delete c.args.h) ≡ None = ok-none _ _ (delete-answer p c.self.invariant c.args.h.0 (sym c.eq.ensures ∙ c.if-eq.false) ∙ sym c.remove.ensures.answer ∙ c.in_ok-remove.was) in
+    let e : answer_in_range (scene_of p) (Delete c.args.h) ≡ None = ok-none _ _ (delete-answer p c.self.invariant c.args.h.0 (sym c.eq.ensures ∙ c.if-eq.false) ∙ sym c.remove.ensures.answer ∙ c.in_ok-remove.was) in
     let tree : c.remove.new.self ≡ without p.tree c.args.h.0 = subst (λ (x : Answer). OnOk x (c.remove.new.self ≡ without p.tree c.args.h.0)) c.in_ok-remove.was c.remove.ensures.ok in
     subst (λ (x : Trees). Done p (Delete c.args.h) (record p { tree = x; entries = p.entries - c.entries_of.result })) (sym tree)
     (done p c.self.invariant (Delete c.args.h) tt _ e (fine-delete p c.self.invariant c.args.h c.entries_of.result (c.entries_of.ensures ∙ removed-sum p c.self.invariant c.as_slice.result.now c.as_slice.ensures.value c.last_removed-removed.result.now c.args.h.0 c.remove.new.self tree c.last_removed-removed.ensures)))

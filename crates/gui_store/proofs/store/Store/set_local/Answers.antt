@@ -4,7 +4,7 @@ use Rattle.gui_base.specs.declared.limits.Pool.TheVariants.{Entries}
 use Rattle.gui_base.specs.declared.refusal.Refusal.TheVariants.{Unknown, Full}
 use Rattle.scene_defs.specs.declared.Change.TheVariants.{Local}
 use Rattle.scene_defs.specs.Scene.{local_of}
-use Rattle.scene_defs.specs.Change.{answer_of, styled}
+use Rattle.scene_defs.specs.Change.{answer_in_range, styled}
 use Rattle.gui_store.specs.Answers.{result_of}
 use Rattle.gui_store.specs.Parts.{scene_of}
 use Rattle.gui_store.specs.Rows.{row_of, row_in}
@@ -23,7 +23,7 @@ set_done c =
     let p = parts_of c.self.inside in
     let need : c.from-added.result ≡ (if is_some (local_of (row_in p.rows c.args.h.0).locals c.args.prop) then 0 else 1) = need-is p c.self.invariant c.args.h.0 c.args.prop c.index.result.now c.local.result c.is_none.result c.from-added.result (sym c.has.ensures ∙ c.if-not-has.false) c.index.ensures (c.local.ensures c.args.h.0) c.is_none.ensures c.from-added.ensures in
     let more = styled-count c.args.prop c.args.value (row_in p.rows c.args.h.0) in
-    let e : answer_of (scene_of p) (Local c.args.h c.args.part c.args.prop c.args.value) ≡ None = local-told p c.self.invariant c.args.h.0 c.args.prop c.from-added.result false (sym c.has.ensures ∙ c.if-not-has.false) need (enough _ _ c.if-self-added.false) in
+    let e : answer_in_range (scene_of p) (Local c.args.h c.args.part c.args.prop c.args.value) ≡ None = local-told p c.self.invariant c.args.h.0 c.args.prop c.from-added.result false (sym c.has.ensures ∙ c.if-not-has.false) need (enough _ _ c.if-self-added.false) in
     row-done p c.self.invariant (Local c.args.h c.args.part c.args.prop c.args.value) c.args.h.0 (p.entries + c.from-added.result) c.index_mut.result.now c.set_local.new.self (styled c.args.prop c.args.value) c.requires e
     (sym c.has.ensures ∙ c.if-not-has.false) c.index_mut.ensures.value (set_is c) (omega arith) refl
 

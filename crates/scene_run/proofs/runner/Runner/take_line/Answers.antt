@@ -20,3 +20,8 @@ pub returns-in_err-end-clause-sizes : goal.returns-in_err-end-clause-sizes
 returns-in_err-end-clause-sizes g c =
     subst (HasSizes _)
     (sym (ap (λ (m : Machine). m.scene.limits) c.in_err-end.ensures.machine ∙ after-limits (machine_of c.args.self.now.gui) c.args.said)) c.in_err-end.ensures.sizes
+
+pub returns-clause-sizes : goal.returns-clause-sizes
+returns-clause-sizes g c =
+    subst (HasSizes _)
+    (sym (ap (λ (m : Machine). m.scene.limits) (ap machine_of c.go_on.ensures.gui ∙ c.in_ok-end.ensures.machine) ∙ after-limits (machine_of c.args.self.now.gui) c.args.said)) c.in_ok-end.ensures.sizes

@@ -1,0 +1,50 @@
+-- The intervals of the numbers of a change.
+use Rattle.std.specs.Prelude.{ℕ, Bool, ◌&&◌, nat_le, ℤ, pos, negsuc, int_le}
+use Rattle.gui_base.specs.declared.words.Length.{Length}
+use Rattle.gui_base.specs.declared.words.Length.TheVariants.{Pixels}
+use Rattle.gui_base.specs.declared.words.Prop.{Prop}
+use Rattle.gui_base.specs.declared.words.Prop.TheVariants.{BgColor, BgOpa}
+use Rattle.scene_defs.specs.declared.Change.{Change}
+use Rattle.scene_defs.specs.declared.Change.TheVariants.{Screen as NewScreen, New, Delete, Parent, Index, Front, Back, Load, Flag as SetFlag, Pos, Size, Local}
+
+-- the handle of an object, and one that a caller may choose for a new one
+abbrev pub is_handle : ℕ → Bool
+is_handle h = nat_le 1 h && nat_le h 9999
+
+abbrev pub is_new_handle : ℕ → Bool
+is_new_handle h = nat_le 10 h && nat_le h 9999
+
+-- a place among siblings
+abbrev pub is_index : ℕ → Bool
+is_index n = nat_le n 3999
+
+-- a wanted coordinate in pixels
+abbrev pub is_offset : ℤ → Bool
+is_offset n = int_le (negsuc 3999) n && int_le n (pos 4000)
+
+-- a wanted width or height
+abbrev pub is_size : Length → Bool
+is_size (Pixels n) = nat_le n 4000
+
+-- the greatest value of a property, whose least is 0
+abbrev pub greatest : Prop → ℕ
+greatest BgColor = 16777215
+greatest BgOpa = 255
+
+abbrev pub is_value : Prop → ℤ → Bool
+is_value prop value = int_le (pos 0) value && int_le value (pos (greatest prop))
+
+-- whether each number of a change lies in its interval
+abbrev pub is_in_range : Change → Bool
+is_in_range (NewScreen n) = is_new_handle n.0
+is_in_range (New n p kind) = is_new_handle n.0 && is_handle p.0
+is_in_range (Delete h) = is_handle h.0
+is_in_range (Parent h p) = is_handle h.0 && is_handle p.0
+is_in_range (Index h n) = is_handle h.0 && is_index n
+is_in_range (Front h) = is_handle h.0
+is_in_range (Back h) = is_handle h.0
+is_in_range (Load h) = is_handle h.0
+is_in_range (SetFlag h flag on) = is_handle h.0
+is_in_range (Pos h x y) = is_handle h.0 && (is_offset x && is_offset y)
+is_in_range (Size h width height) = is_handle h.0 && (is_size width && is_size height)
+is_in_range (Local h part prop value) = is_handle h.0 && is_value prop value

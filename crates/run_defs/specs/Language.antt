@@ -16,6 +16,7 @@ use Rattle.gui_base.specs.declared.words.Prop.{Prop}
 use Rattle.gui_base.specs.declared.words.Prop.TheVariants.{BgColor, BgOpa}
 use Rattle.scene_defs.specs.declared.Change.{Change}
 use Rattle.scene_defs.specs.declared.Change.TheVariants as change
+use Rattle.scene_defs.specs.Ranges.{last_handle, first_chosen, last_index, farthest, largest, greatest}
 use Rattle.run_defs.specs.declared.LineFault.{LineFault}
 use Rattle.run_defs.specs.declared.LineFault.TheVariants.{Long, Syntax, Range}
 use Rattle.run_defs.specs.Words.{is_number, value_of, is_digit}
@@ -118,20 +119,20 @@ color word = Err Syntax
 
 -- the name of a new object, and that of an object
 abbrev pub new_handle : Word → Reading Handle
-new_handle word = mapped (λ n. record { 0 = n }) (natural 10 9999 word)
+new_handle word = mapped (λ n. record { 0 = n }) (natural first_chosen last_handle word)
 
 abbrev pub handle : Word → Reading Handle
-handle word = mapped (λ n. record { 0 = n }) (natural 1 9999 word)
+handle word = mapped (λ n. record { 0 = n }) (natural 1 last_handle word)
 
 abbrev pub coordinate : Word → Reading ℤ
-coordinate word = number (neg_ℤ (pos 4000)) (pos 4000) word
+coordinate word = number (neg_ℤ (pos farthest)) (pos farthest) word
 
 -- where an object stands among its siblings
 abbrev pub sibling_index : Word → Reading ℕ
-sibling_index word = natural 0 3999 word
+sibling_index word = natural 0 last_index word
 
 abbrev pub extent : Word → Reading Length
-extent word = mapped Pixels (natural 0 4000 word)
+extent word = mapped Pixels (natural 0 largest word)
 
 -- whether a word is this name
 abbrev pub is_name : List ℕ → Word → Bool
@@ -160,7 +161,7 @@ property word = if is_name (codes "bg_color") word then Ok BgColor else if is_na
 -- a value of the property
 abbrev pub value_for : Prop → Word → Reading ℤ
 value_for BgColor word = color word
-value_for BgOpa word = number (pos 0) (pos 255) word
+value_for BgOpa word = number (pos 0) (pos (greatest BgOpa)) word
 
 -- a value of the property that was read
 abbrev pub value_by : Reading Prop → Word → Reading (Prop × ℤ)

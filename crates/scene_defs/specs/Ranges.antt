@@ -1,5 +1,5 @@
 -- The intervals of the numbers of a change.
-use Rattle.std.specs.Prelude.{ℕ, Bool, ◌&&◌, nat_le, ℤ, pos, negsuc, int_le}
+use Rattle.std.specs.Prelude.{ℕ, Bool, ◌&&◌, nat_le, ℤ, pos, neg_ℤ, int_le}
 use Rattle.gui_base.specs.declared.words.Length.{Length}
 use Rattle.gui_base.specs.declared.words.Length.TheVariants.{Pixels}
 use Rattle.gui_base.specs.declared.words.Prop.{Prop}
@@ -7,24 +7,38 @@ use Rattle.gui_base.specs.declared.words.Prop.TheVariants.{BgColor, BgOpa}
 use Rattle.scene_defs.specs.declared.Change.{Change}
 use Rattle.scene_defs.specs.declared.Change.TheVariants.{Screen as NewScreen, New, Delete, Parent, Index, Front, Back, Load, Flag as SetFlag, Pos, Size, Local}
 
--- the handle of an object, and one that a caller may choose for a new one
+-- handles: the last one, and the first that a caller may choose for a new object
+abbrev pub last_handle : ℕ
+last_handle = 9999
+
+abbrev pub first_chosen : ℕ
+first_chosen = 10
+
+-- the last place among siblings, counted from 0
+abbrev pub last_index : ℕ
+last_index = 3999
+
+-- the greatest wanted coordinate on either side of 0, and the greatest wanted width or height, in pixels
+abbrev pub farthest : ℕ
+farthest = 4000
+
+abbrev pub largest : ℕ
+largest = 4000
+
 abbrev pub is_handle : ℕ → Bool
-is_handle h = nat_le 1 h && nat_le h 9999
+is_handle h = nat_le 1 h && nat_le h last_handle
 
 abbrev pub is_new_handle : ℕ → Bool
-is_new_handle h = nat_le 10 h && nat_le h 9999
+is_new_handle h = nat_le first_chosen h && nat_le h last_handle
 
--- a place among siblings
 abbrev pub is_index : ℕ → Bool
-is_index n = nat_le n 3999
+is_index n = nat_le n last_index
 
--- a wanted coordinate in pixels
 abbrev pub is_offset : ℤ → Bool
-is_offset n = int_le (negsuc 3999) n && int_le n (pos 4000)
+is_offset n = int_le (neg_ℤ (pos farthest)) n && int_le n (pos farthest)
 
--- a wanted width or height
 abbrev pub is_size : Length → Bool
-is_size (Pixels n) = nat_le n 4000
+is_size (Pixels n) = nat_le n largest
 
 -- the greatest value of a property, whose least is 0
 abbrev pub greatest : Prop → ℕ

@@ -1,5 +1,5 @@
 -- Scenes and changes that are in order.
-use Rattle.std.specs.Prelude.{◌≡◌, ◌≢◌, ◌≤◌, ℕ, Bool, true, ◌||◌, ◌==◌, if◌then◌else◌, ℤ, pos, negsuc, ◌≤ℤ◌}
+use Rattle.std.specs.Prelude.{◌≡◌, ◌≢◌, ◌≤◌, ℕ, Bool, true, ◌||◌, ◌==◌, if◌then◌else◌, ℤ, pos, neg_ℤ, ◌≤ℤ◌}
 use Rattle.std.specs.List.{list_any}
 use Rattle.std.specs.Option.{IfSome}
 use Rattle.gui_base.specs.Limits.{Bounds}
@@ -12,7 +12,7 @@ use Rattle.gui_base.specs.declared.words.Prop.TheVariants.{BgColor, BgOpa}
 use Rattle.gui_base.specs.Forest.{Forest, Empty, Tree, roots, size, height, StandsOnce}
 use Rattle.scene_defs.specs.declared.Change.{Change}
 use Rattle.scene_defs.specs.declared.Change.TheVariants.{Screen as NewScreen, New, Pos, Size, Local}
-use Rattle.scene_defs.specs.Ranges.{greatest}
+use Rattle.scene_defs.specs.Ranges.{last_handle, first_chosen, farthest, largest, greatest}
 use Rattle.scene_defs.specs.Scene.{Row, Scene, is_at, handles_of, entries_of, first_scene}
 use Rattle.scene_defs.specs.Change.{max_depth, changed}
 use Rattle.scene_defs.specs.Walk.{IsShowable}
@@ -24,12 +24,12 @@ EachRow P (Tree row cs rest) = P row × EachRow P cs × EachRow P rest
 
 -- a wanted coordinate in pixels
 pub record IsOffset (n : ℤ) : Type 0 where
-  pub least : negsuc 3999 ≤ℤ n
-  pub most : n ≤ℤ pos 4000
+  pub least : neg_ℤ (pos farthest) ≤ℤ n
+  pub most : n ≤ℤ pos farthest
 
 -- a wanted width or height in pixels
 abbrev pub IsSize : Length → Type 0
-IsSize (Pixels n) = n ≤ 4000
+IsSize (Pixels n) = n ≤ largest
 
 pub record IsValue (prop : Prop) (value : ℤ) : Type 0 where
   pub least : pos 0 ≤ℤ value
@@ -37,12 +37,12 @@ pub record IsValue (prop : Prop) (value : ℤ) : Type 0 where
 
 pub record IsHandle (h : ℕ) : Type 0 where
   pub least : 1 ≤ h
-  pub most : h ≤ 9999
+  pub most : h ≤ last_handle
 
 -- a handle that a caller may choose
 pub record IsNewHandle (h : ℕ) : Type 0 where
-  pub least : 10 ≤ h
-  pub most : h ≤ 9999
+  pub least : first_chosen ≤ h
+  pub most : h ≤ last_handle
 
 -- each number of a row lies in its interval
 pub record IsRow (row : Row) : Type 0 where

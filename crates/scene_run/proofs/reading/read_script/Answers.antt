@@ -2,6 +2,7 @@ use Rattle.std.proofs.Common.{arith, ◌∙◌, sym, ap, subst, take}
 use Rattle.gui_core.specs.declared.gui.Gui.{Gui}
 use Rattle.gui_core.specs.Machines.{machine_of}
 use Rattle.gui_core.specs.Panels.{HasSizes}
+use Rattle.scene_run.specs.Headline.{Outside, output_of}
 use Rattle.scene_run.proofs.Breaking.{Keeps-self}
 use Rattle.scene_run.proofs.Going.{Keeps-more}
 use Rattle.scene_run.proofs.Gone.{gone_start, gone_last, read_broken, read_long, read_more}
@@ -10,21 +11,24 @@ use Rattle.scene_run.proofs.reading.read_script.Goals as goal
 pub loop-init : goal.loop-init
 loop-init g c =
     let e = c.new-runner.ensures in
+    let start : Outside = record { source = g.S.Source.state c.args.source.now; log = g.L.Sink.state c.args.log.now; panel = g.P.Panel.state c.args.panel.now } in
     record {
-      gone = gone_start (machine_of c.args.gui) _ c.new-runner.result (ap machine_of e.gui) c.requires e.line e.number e.frame e.noted;
+      gone = gone_start (machine_of c.args.gui) start c.new-runner.result (ap machine_of e.gui) c.requires e.line e.number e.frame e.noted;
       within = omega arith;
       turns = omega arith;
       number = omega arith;
       frame = omega arith;
       sizes = subst (λ (gui : Gui). HasSizes (g.P.Panel.state c.args.panel.now) (machine_of gui).scene.limits) (sym e.gui) c.requires;
-      keeps = Keeps-self _;
+      keeps = Keeps-self (output_of start);
       source_faults = omega arith;
     }
 
 pub returns-then-count-eq0-clause-reads : goal.returns-then-count-eq0-clause-reads
 returns-then-count-eq0-clause-reads g c =
     let none = c.in-Ok.ensures.bytes in
-    gone_last _ _ _ _ _ _ _ _ c.loop.invariant.gone (rw c.if-count-eq0.true at none.0) (none.1 c.if-count-eq0.true (omega arith)) (λ start taken t. c.finish.ensures.ends _ start taken t)
+    let old : Outside = record { source = g.S.Source.state c.args.source.now; log = g.L.Sink.state c.args.log.now; panel = g.P.Panel.state c.args.panel.now } in
+    let mid : Outside = record { source = g.S.Source.state c.loop.source; log = g.L.Sink.state c.loop.log; panel = g.P.Panel.state c.loop.panel } in
+    gone_last (machine_of c.args.gui) old mid _ _ c.loop.runner c.loop.room _ c.loop.invariant.gone (rw c.if-count-eq0.true at none.0) (none.1 c.if-count-eq0.true (omega arith)) (λ start taken t. c.finish.ensures.ends _ start taken t)
 
 pub returns-then-count-eq0-clause-read_fault : goal.returns-then-count-eq0-clause-read_fault
 returns-then-count-eq0-clause-read_fault g c = λ e. absurd (c.finish.ensures.ended e)

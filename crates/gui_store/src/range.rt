@@ -14,9 +14,10 @@ const FIRST_CHOSEN: u16 = 10;
 /// The greatest place among siblings.
 const LAST_INDEX: u16 = 3999;
 
-/// The greatest wanted coordinate and the greatest wanted size, in pixels.
+/// The greatest wanted coordinate on either side of 0, in pixels.
 const FARTHEST: i32 = 4000;
 
+/// The greatest wanted width or height, in pixels.
 const LARGEST: u16 = 4000;
 
 fn is_handle(h: Handle) -> bool

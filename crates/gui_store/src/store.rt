@@ -150,7 +150,7 @@ impl Store {
         self.rows[h.0 as usize].value(part, prop)
     }
 
-    /// The same for a change whose numbers lie in their intervals.
+    /// Does a change whose numbers lie in their intervals, or answers why not.
     fn carry_out(&mut self, change: &Change) -> Result<(), Refusal>
         requires { IsOrderly change.now }
         ensures answer { result ≡ result_of (answer_in_range self.old change.now) }

@@ -14,7 +14,7 @@ use Rattle.scene_defs.specs.declared.Change.TheVariants.{Screen as NewScreen, Ne
 use Rattle.scene_defs.specs.Ranges.{is_handle, is_new_handle, is_offset, is_size, is_value, is_in_range}
 use Rattle.scene_defs.specs.Valid.{IsNewHandle, IsOffset, IsSize, IsValue, IsChange, IsOrderly}
 
-pub both_hold : (a b : Bool) → (a && b) ≡ true → (a ≡ true) × (b ≡ true)
+both_hold : (a b : Bool) → (a && b) ≡ true → (a ≡ true) × (b ≡ true)
 both_hold true b e = (refl, e)
 both_hold false b e = cc
 

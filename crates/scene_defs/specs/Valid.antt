@@ -90,7 +90,7 @@ abbrev pub IsChange : Change → Type 0
 IsChange (New n p kind) = kind ≡ Obj
 IsChange change = Unit {0}
 
--- one that may be done: its numbers lie in their intervals too
+-- such a change of which each number that a row would keep lies in its interval
 abbrev pub IsOrderly : Change → Type 0
 IsOrderly (NewScreen n) = IsNewHandle n.0
 IsOrderly (New n p kind) = IsNewHandle n.0 × (kind ≡ Obj)

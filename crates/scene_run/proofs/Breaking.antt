@@ -17,7 +17,7 @@ use Rattle.run_defs.specs.Run.{Replied, Framed, reply_line, frame_line}
 use Rattle.gui_edge.specs.Sink.{SinkState, AppendsFront}
 use Rattle.gui_edge.specs.Panel.{PanelState}
 use Rattle.scene_run.specs.Effects.{Output, PanelKeeps, Keeps, Breaks, FrameShown, FrameBroke}
-use Rattle.scene_run.proofs.Known.{Appends-more, AppendsFront-nothing}
+use Rattle.scene_run.proofs.Known.{AppendsFront-nothing}
 
 pub on_err : {T E P : Type 0} (r : Result T E) → P → OnErr r P
 on_err (Ok x) p = tt
@@ -87,18 +87,6 @@ Keeps-self o = record { panel = PanelKeeps-self o.panel; log_faults = omega arit
 -- A command writes nothing but its reply, since no event writes yet.
 no_lines : (m : Machine) (command : Command) → (step m command).lines ≡ []
 no_lines m (CommandOf change) = refl
-
-pub reply_after : (m : Machine) (command : Command) (a b c : Option (List ℕ)) (text : List ℕ) → Appends a b (step m command).lines → Appends b c text → Appends a c text
-reply_after m command a b c text first second =
-    Appends-more a b c [] text (subst (Appends a b) (no_lines m command) first) second
-
-pub front_after : (m : Machine) (command : Command) (a b c : Option (List ℕ)) (text : List ℕ) → Appends a b (step m command).lines → AppendsFront b c text → AppendsFront a c text
-front_after m command a b c text first second = record {
-  front = second.front;
-  rest = second.rest;
-  whole = second.whole;
-  grows = reply_after m command a b c second.front first second.grows;
-}
 
 front_of_nothing : (front rest : List ℕ) → front ++ rest ≡ [] → front ≡ []
 front_of_nothing [] rest e = refl

@@ -3,6 +3,7 @@
 
 pub mod area;
 pub mod color;
+pub mod intervals;
 pub mod limits;
 pub mod refusal;
 pub mod steps;

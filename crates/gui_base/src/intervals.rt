@@ -1,0 +1,71 @@
+//! The intervals of the numbers that scripts, changes and rows have. Each stands here alone: code, definitions and proofs cite it.
+ghost use Rattle.std.specs.Prelude.{◌≡◌};
+
+/// Whole numbers from `low` to `high`, both included, none below 0.
+#[derive(Clone, Copy, Debug, PartialEq, Eq)]
+pub struct Count {
+    pub low: u16,
+    pub high: u16,
+}
+
+/// Whole numbers from `low` to `high`, both included.
+#[derive(Clone, Copy, Debug, PartialEq, Eq)]
+pub struct Interval {
+    pub low: i32,
+    pub high: i32,
+}
+
+/// The name of an object.
+pub const HANDLE: Count = Count { low: 1, high: 9999 };
+
+/// A name that a caller may choose for a new object.
+pub const NEW_HANDLE: Count = Count {
+    low: 10,
+    high: 9999,
+};
+
+/// Where an object stands among its siblings, from 0.
+pub const INDEX: Count = Count { low: 0, high: 3999 };
+
+/// A wanted width or height in pixels.
+pub const EXTENT: Count = Count { low: 0, high: 4000 };
+
+/// A wanted coordinate in pixels.
+pub const COORDINATE: Interval = Interval {
+    low: -4000,
+    high: 4000,
+};
+
+/// An opacity: 0 covers nothing, 255 all.
+pub const OPACITY: Interval = Interval { low: 0, high: 255 };
+
+/// A colour: 65536 * red + 256 * green + blue, each from 0 to 255.
+pub const COLOR: Interval = Interval {
+    low: 0,
+    high: 16_777_215,
+};
+
+/// How deep an object may lie, a root having depth 1.
+pub const MAX_DEPTH: u8 = 16;
+
+impl Count {
+    ghost use Rattle.gui_base.specs.Intervals.{is_counted};
+
+    /// Whether a number lies in it.
+    pub fn holds(self, n: u16) -> bool
+        ensures { result ≡ is_counted self n }
+    {
+        self.low <= n && n <= self.high
+    }
+}
+
+impl Interval {
+    ghost use Rattle.gui_base.specs.Intervals.{is_within};
+
+    /// Whether a number lies in it.
+    pub fn holds(self, n: i32) -> bool
+        ensures { result ≡ is_within self n }
+    {
+        self.low <= n && n <= self.high
+    }
+}

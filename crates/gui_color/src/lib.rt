@@ -4,8 +4,6 @@
 pub mod buffer;
 pub mod mixing;
 pub mod row;
-#[cfg(test)]
-mod tests;
 
 pub use buffer::DrawBuf;
 pub use mixing::{combine, mix};

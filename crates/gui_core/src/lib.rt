@@ -5,8 +5,6 @@ mod area;
 mod fill;
 mod gui;
 mod paint;
-#[cfg(test)]
-mod tests;
 
 pub use gui::Gui;
 pub use run_defs::Reply;

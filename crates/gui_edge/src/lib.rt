@@ -9,8 +9,6 @@ mod screen;
 pub mod sim_panel;
 pub mod sink;
 pub mod source;
-#[cfg(test)]
-mod tests;
 pub mod text;
 
 pub use panel::{OpenFault, Panel};

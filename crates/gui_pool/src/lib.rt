@@ -7,8 +7,6 @@
 mod block;
 mod raw;
 mod slab;
-#[cfg(test)]
-mod tests;
 
 pub use block::NoMemory;
 pub use slab::Slab;

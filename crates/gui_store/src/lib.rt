@@ -6,8 +6,6 @@
 mod range;
 mod row;
 mod store;
-#[cfg(test)]
-mod tests;
 
 pub use row::Row;
 pub use scene_defs::Change;

@@ -1,11 +1,11 @@
 //! What no clause says: what the adapters make of a reader's and a writer's answers, and the numbers of faults and colours from outside.
 ghost use Rattle.std.specs.Prelude.{◌≤◌, IfOk};
 
-use crate::{
+use gui_base::{Area, Rgb565};
+use gui_edge::{
     Failed, MemSink, MemSource, OpenFault, Panel, SimPanel, SimPlan, Sink, Source, StdSink,
     StdSource,
 };
-use gui_base::{Area, Rgb565};
 use std::io;
 use std::io::{ErrorKind, Read, Write};
 use std::test::Fail;

@@ -1,14 +1,10 @@
-//! What no clause says: that a machine opens where memory is ample, that a whole refresh comes to a panel in its slices, and pixels of a
-//! picture that was worked out by hand.
+//! What no clause says: that a machine opens where memory is ample, and that a whole refresh comes to a panel in its slices.
 ghost use Rattle.std.specs.Prelude.{◌≡◌, ◌<◌};
 ghost use Rattle.scene_defs.specs.Valid.{IsChange};
 
-use crate::paint::paint;
-use crate::{Gui, Refreshed, Reply};
-use gui_base::{Area, Handle, Kind, Length, Limits, Part, Prop, Refusal, Rgb565, Steps};
-use gui_color::DrawBuf;
+use gui_base::{Handle, Kind, Limits, Refusal, Rgb565, Steps};
+use gui_core::{Gui, Refreshed, Reply};
 use gui_edge::{MemSink, Panel, SimPanel, SimPlan};
-use gui_store::Store;
 use run_defs::Command;
 use scene_defs::Change;
 use std::alloc::Global;
@@ -77,71 +73,5 @@ fn replies_to_changes_and_lends_the_scene(rt: HostRuntime) -> Result<(), Fail> {
             .is_some_and(|row| row.x == -1 && row.y == 2)
     );
     assert!(rt; log.bytes().is_empty());
-    Ok(())
-}
-
-#[test]
-fn a_child_is_cut_off_at_its_parent(rt: HostRuntime) -> Result<(), Fail> {
-    paint_two::<Brand>(&rt, rt.alloc(), Blank::new(1))
-}
-
-fn change(rt: &impl Abort, store: &mut Store, change: Change)
-    requires { IsChange change }
-{
-    assert!(rt; store.apply(&change).is_ok());
-}
-
-/// A red object of which half is seen through, and on it a white one that is larger than what is left for it.
-fn stack_two(rt: &impl Abort, store: &mut Store) {
-    let (below, above) = (Handle(10), Handle(11));
-    change(rt, store, Change::New(below, Handle(3), Kind::Obj));
-    change(rt, store, Change::Pos(below, 2, 1));
-    change(
-        rt,
-        store,
-        Change::Size(below, Length::Pixels(4), Length::Pixels(3)),
-    );
-    change(
-        rt,
-        store,
-        Change::Local(below, Part::Main, Prop::BgColor, 0xff_0000),
-    );
-    change(
-        rt,
-        store,
-        Change::Local(below, Part::Main, Prop::BgOpa, 128),
-    );
-    change(rt, store, Change::New(above, below, Kind::Obj));
-    change(rt, store, Change::Pos(above, 2, 1));
-    change(
-        rt,
-        store,
-        Change::Local(above, Part::Main, Prop::BgOpa, 255),
-    );
-}
-
-fn paint_two<L: Ledger>(rt: &impl Abort, alloc: Global, blank: Blank) -> Result<(), Fail>
-    requires name { blank.name ≡ L.name }
-    requires parts { blank.parts ≡ L.parts }
-    requires some { 0 < blank.parts }
-{
-    let (book, all) = blank.open::<L>();
-    let mut steps = Steps::new(book, all);
-    let mut store = Store::open(alloc, &Limits::with_sizes(8, 6, 3))?;
-    stack_two(rt, &mut store);
-    let mut buf = DrawBuf::open(alloc, 24)?;
-    let middle = Area {
-        x1: 0,
-        y1: 1,
-        x2: 7,
-        y2: 3,
-    };
-    buf.begin(middle, &mut steps);
-    paint(&store, &mut buf);
-    let (w, r) = (Rgb565::WHITE, Rgb565(0xFBEF));
-    let drawn = [
-        w, w, r, r, r, r, w, w, w, w, r, r, w, w, w, w, w, w, r, r, w, w, w, w,
-    ];
-    assert_eq!(rt; buf.pixels(), drawn.as_slice());
     Ok(())
 }

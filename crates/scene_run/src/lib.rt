@@ -4,11 +4,7 @@
 mod answer;
 mod reading;
 mod runner;
-#[cfg(test)]
-mod scene_tests;
 mod status;
-#[cfg(test)]
-mod tests;
 mod top;
 mod words;
 

@@ -7,8 +7,6 @@ mod names;
 mod numbers;
 mod parse;
 mod refusals;
-#[cfg(test)]
-mod tests;
 mod words;
 
 pub use cutter::{Cut, Cutter};

@@ -1,0 +1,115 @@
+//! The areas in which a frame comes to a panel, and what a panel shows that was never sent anything.
+ghost use Rattle.std.specs.Prelude.{◌≡◌, ◌≤◌};
+
+use crate::runs::{Outside, WHITE_FRAME, WORDS};
+use arrayvec::ArrayVec;
+use gui_base::{Area, Rgb565};
+use gui_edge::{Failed, MemSink, OpenFault, Panel, SimPanel};
+use scene_run::{Status, run_scene};
+use std::alloc::Global;
+use std::process::Abort;
+use std::test::Fail;
+
+/// A panel in memory that lists the corners of the areas of its flushes, and knows the sizes that it was opened with.
+#[derive(Drop)]
+struct ListingPanel {
+    corners: ArrayVec<[i32; 4], 8>,
+    width: u16,
+    height: u16,
+    panel: SimPanel<MemSink>,
+    ghost wide: { width ≤ panel.width },
+    ghost high: { height ≤ panel.height },
+}
+
+impl ListingPanel {
+    fn new(panel: SimPanel<MemSink>) -> ListingPanel
+        ensures { result.panel ≡ panel }
+    {
+        ListingPanel {
+            corners: ArrayVec::new(),
+            width: 0,
+            height: 0,
+            panel,
+        }
+    }
+}
+
+impl Panel for ListingPanel {
+    ghost use Rattle.std.specs.Prelude.{Some};
+    ghost use Rattle.gui_edge.specs.Panel.Areas.{box_of};
+    ghost use Rattle.gui_edge.specs.SimPanel.{panel_state};
+
+    ghost state = { λ p. panel_state (Some p.panel.frames.held) p.panel };
+
+    fn open(
+        &mut self,
+        alloc: Global,
+        width: u16,
+        height: u16,
+        limit: u32,
+    ) -> Result<(), OpenFault> {
+        self.width = 0;
+        self.height = 0;
+        self.panel.open(alloc, width, height, limit)?;
+        self.width = width;
+        self.height = height;
+        Ok(())
+    }
+
+    fn flush(&mut self, area: Area, pixels: &[Rgb565]) -> Result<(), Failed> {
+        let _ = self.corners.try_push([area.x1, area.y1, area.x2, area.y2]);
+        self.panel.flush(area, pixels)
+    }
+
+    fn present(&mut self) -> Result<(), Failed> {
+        self.panel.present()
+    }
+}
+
+#[test]
+fn two_slices_of_a_white_frame(rt: HostRuntime) -> Result<(), Fail> {
+    let alloc = rt.alloc();
+    let script = Vec::from_slice(alloc, b"frame")?;
+    let mut outside = Outside::new(alloc, script, 4096, &[])?;
+    let mut panel = ListingPanel::new(outside.panel);
+    let status = run_scene(
+        alloc,
+        &WORDS,
+        &mut outside.source,
+        &mut outside.log,
+        &mut panel,
+    );
+    assert_eq!(rt; status, Status::Done);
+    assert_eq!(rt; outside.log.bytes(), &b"1 frame 1 done\n"[..]);
+    assert_eq!(rt;
+        panel.corners.as_slice(),
+        [[0, 0, 3, 0], [0, 1, 3, 1]].as_slice()
+    );
+    assert_eq!(rt; panel.panel.into_frames().bytes(), WHITE_FRAME);
+    Ok(())
+}
+
+#[test]
+fn the_empty_script_leaves_the_panel_as_it_was_opened(rt: HostRuntime) -> Result<(), Fail> {
+    let alloc = rt.alloc();
+    let mut outside = Outside::new(alloc, Vec::new(alloc), 4096, &[])?;
+    let mut panel = ListingPanel::new(outside.panel);
+    let status = run_scene(
+        alloc,
+        &WORDS,
+        &mut outside.source,
+        &mut outside.log,
+        &mut panel,
+    );
+    assert_eq!(rt; status, Status::Done);
+    assert_eq!(rt; outside.log.bytes(), &b""[..]);
+    assert_eq!(rt; panel.width, 4);
+    assert_eq!(rt; panel.height, 2);
+    for y in 0..2 {
+        for x in 0..4 {
+            assert_eq!(rt; panel.panel.shown(x, y), Rgb565(0xA5A5), "at {x}, {y}");
+        }
+    }
+    assert_eq!(rt; panel.panel.into_frames().bytes(), &b""[..]);
+    Ok(())
+}

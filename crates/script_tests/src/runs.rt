@@ -1,0 +1,103 @@
+//! What a run reads and writes, in memory, and the calls on it that fail.
+ghost use Rattle.std.specs.Prelude.{◌≡◌, IfOk};
+
+use self::Fault::{Flush, Frames, Log, Open, Read};
+use gui_edge::{MemSink, MemSource, SimPanel, SimPlan};
+use scene_run::{Status, run_scene};
+use std::alloc::{AllocError, Global};
+use std::test::Fail;
+
+/// The words of most runs: 4 by 2 pixels, in slices of one line.
+pub(crate) const WORDS: [&str; 3] = ["4", "2", "1"];
+
+/// The file of the white frame of these words.
+pub(crate) const WHITE_FRAME: &[u8] =
+    b"P6\n4 2\n255\n\xFF\xFF\xFF\xFF\xFF\xFF\xFF\xFF\xFF\xFF\xFF\xFF\xFF\xFF\xFF\xFF\xFF\xFF\xFF\xFF\xFF\xFF\xFF\xFF";
+
+/// A call that fails: the opening of the panel, or the read, the put on the log, the put on the sink of the frames or the flush of this
+/// number, from 1.
+#[derive(Clone, Copy, Debug)]
+pub(crate) enum Fault {
+    Open,
+    Read(u64),
+    Log(u64),
+    Frames(u64),
+    Flush(u64),
+}
+
+/// The numbers of the calls that fail.
+#[derive(Drop)]
+struct Plan {
+    open: bool,
+    reads: Vec<u64>,
+    log: Vec<u64>,
+    frames: Vec<u64>,
+    flushes: Vec<u64>,
+}
+
+impl Plan {
+    fn new(alloc: Global, faults: &[Fault]) -> Result<Plan, AllocError> {
+        let mut plan = Plan {
+            open: false,
+            reads: Vec::new(alloc),
+            log: Vec::new(alloc),
+            frames: Vec::new(alloc),
+            flushes: Vec::new(alloc),
+        };
+        for fault in faults {
+            match *fault {
+                Open => plan.open = true,
+                Read(call) => plan.reads.push(call)?,
+                Log(call) => plan.log.push(call)?,
+                Frames(call) => plan.frames.push(call)?,
+                Flush(call) => plan.flushes.push(call)?,
+            }
+        }
+        Ok(plan)
+    }
+}
+
+/// What a run reads and writes, in memory.
+#[derive(Drop)]
+pub(crate) struct Outside {
+    pub(crate) source: MemSource,
+    pub(crate) log: MemSink,
+    pub(crate) panel: SimPanel<MemSink>,
+}
+
+impl Outside {
+    /// A script of which a read gives at most `piece` bytes, an empty log and a panel that is not opened.
+    pub(crate) fn new(
+        alloc: Global,
+        script: Vec<u8>,
+        piece: usize,
+        faults: &[Fault],
+    ) -> Result<Outside, Fail>
+        ensures { IfOk result (λ outside. outside.panel.limit ≡ 0) }
+    {
+        let plan = Plan::new(alloc, faults)?;
+        let frames = MemSink::with_capacity(alloc, 4096, plan.frames)?;
+        let panel = SimPlan {
+            fail_open: plan.open,
+            fail_flush: plan.flushes,
+        };
+        Ok(Outside {
+            source: MemSource::new(script, piece.max(1), plan.reads),
+            log: MemSink::with_capacity(alloc, 4096, plan.log)?,
+            panel: SimPanel::new(frames, panel),
+        })
+    }
+
+    /// Runs with these words.
+    pub(crate) fn run(&mut self, alloc: Global, words: &[&str]) -> Status
+        requires { self.old.panel.limit ≡ 0 }
+    {
+        run_scene(
+            alloc,
+            words,
+            &mut self.source,
+            &mut self.log,
+            &mut self.panel,
+        )
+    }
+}

@@ -2,7 +2,7 @@ pub mod Fills
 pub mod Parts
 pub mod Progress
 pub mod Rooms
-pub mod Rows
 pub mod Scenes
+pub mod Sending
 pub mod Slices
 pub mod Walked

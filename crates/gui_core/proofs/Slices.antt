@@ -13,7 +13,7 @@ use Rattle.gui_color.proofs.Pixels.{pixel_at-black}
 use Rattle.scene_defs.specs.Scene.{Scene}
 use Rattle.scene_defs.specs.Picture.{paint}
 use Rattle.gui_core.specs.Painting.{Paints, painted_scene}
-use Rattle.gui_core.specs.Panels.{IsSlice, lines_rect}
+use Rattle.gui_core.specs.Panels.{ArePainted, slice_rect}
 
 line_place : (w n x y : ℕ) → x < w → y < n → y * w + x < w * n
 line_place w n x y a b = grind (arith, common_steps, rows)
@@ -24,22 +24,22 @@ distance_up from n = omega (arith, ints)
 distance_from_zero : (n : ℕ) → distance (pos 0) (pos n) ≡ n
 distance_from_zero n = omega (arith, ints)
 
-lines_width : (w from n : ℕ) → width_of (lines_rect w from n) ≡ w
+lines_width : (w from n : ℕ) → width_of (slice_rect w from n) ≡ w
 lines_width w from n = grind (arith, ints)
 
-lines_height : (w from n : ℕ) → height_of (lines_rect w from n) ≡ n
+lines_height : (w from n : ℕ) → height_of (slice_rect w from n) ≡ n
 lines_height w from n = grind (arith, ints)
 
-lines_place : (w from n x y : ℕ) → place (lines_rect w from n) (pos x) (pos (from + y)) ≡ y * w + x
+lines_place : (w from n x y : ℕ) → place (slice_rect w from n) (pos x) (pos (from + y)) ≡ y * w + x
 unfolding place
 lines_place w from n x y = rw (distance_up from y, lines_width w from n, distance_from_zero x) refl
 
-in_lines : (w from n x y : ℕ) → x < w → y < n → has (lines_rect w from n) (pos x) (pos (from + y)) ≡ true
+in_lines : (w from n x y : ℕ) → x < w → y < n → has (slice_rect w from n) (pos x) (pos (from + y)) ≡ true
 in_lines w from n x y a b = grind (arith, ints, nat_tests)
 
 -- a buffer over some lines of a picture holds a slice of it, where each pixel is painted right
-pub slice_from_pixels : (scene : Scene) (from n : ℕ) (buf : Buffer) → IsWhole buf → buf.area ≡ lines_rect scene.limits.width from n →
-    ((x y : ℕ) → x < scene.limits.width → y < n → pixel_at buf (pos x) (pos (from + y)) ≡ paint scene (pos x) (pos (from + y))) → IsSlice scene from n buf.pixels
+pub slice_from_pixels : (scene : Scene) (from n : ℕ) (buf : Buffer) → IsWhole buf → buf.area ≡ slice_rect scene.limits.width from n →
+    ((x y : ℕ) → x < scene.limits.width → y < n → pixel_at buf (pos x) (pos (from + y)) ≡ paint scene (pos x) (pos (from + y))) → ArePainted scene from n buf.pixels
 unfolding pixel_at
 slice_from_pixels scene from n buf whole is each = record {
   each = λ x y a b.
@@ -51,11 +51,11 @@ slice_from_pixels scene from n buf whole is each = record {
 }
 
 -- a buffer that was black holds a slice of a scene that was painted over it
-pub scene_slice : (scene : Scene) (from n : ℕ) (begun painted : Buffer) → begun.area ≡ lines_rect scene.limits.width from n → begun.pixels ≡ replicate (size_of (lines_rect scene.limits.width from n)) black →
-    Paints begun painted (painted_scene scene) → IsWhole painted → IsSlice scene from n painted.pixels
+pub scene_slice : (scene : Scene) (from n : ℕ) (begun painted : Buffer) → begun.area ≡ slice_rect scene.limits.width from n → begun.pixels ≡ replicate (size_of (slice_rect scene.limits.width from n)) black →
+    Paints begun painted (painted_scene scene) → IsWhole painted → ArePainted scene from n painted.pixels
 unfolding painted_scene
 scene_slice scene from n begun painted is none paints whole =
     slice_from_pixels scene from n painted whole (paints.area_stays ∙ is) (λ x y a b.
     let inside : has begun.area (pos x) (pos (from + y)) ≡ true = subst (λ (area : Rect). has area (pos x) (pos (from + y)) ≡ true) (sym is) (in_lines scene.limits.width from n x y a b) in
     paints.pixels (pos x) (pos (from + y)) inside
-    ∙ ap (painted_scene scene (pos x) (pos (from + y))) (pixel_at-black begun (size_of (lines_rect scene.limits.width from n)) (pos x) (pos (from + y)) none))
+    ∙ ap (painted_scene scene (pos x) (pos (from + y))) (pixel_at-black begun (size_of (slice_rect scene.limits.width from n)) (pos x) (pos (from + y)) none))

@@ -1,22 +1,14 @@
 -- What a refresh does to a panel.
-use Rattle.std.specs.Prelude.{◌≡◌, ℕ, ◌+◌, ◌*◌, ◌<◌, ◌≤◌, List, length, slice_get, Some, IsSome, IfSome, pos}
+use Rattle.std.specs.Prelude.{◌≡◌, ℕ, ◌+◌, ◌*◌, ◌<◌, ◌≤◌, List, slice_get, Some, IsSome, IfSome, pos}
 use Rattle.gui_base.specs.declared.color.Rgb565.{Rgb565}
 use Rattle.gui_base.specs.Area.{Rect}
 use Rattle.gui_base.specs.Limits.{Bounds}
 use Rattle.scene_defs.specs.Scene.{Scene}
 use Rattle.scene_defs.specs.Picture.{area_at, paint, picture}
 use Rattle.gui_edge.specs.Box.{Box}
-use Rattle.gui_edge.specs.Panel.{PanelState, Shown}
+use Rattle.gui_edge.specs.Panel.{PanelState, HasSizes, FlushDone}
 use Rattle.gui_core.specs.declared.Refreshed.{Refreshed}
 use Rattle.gui_core.specs.declared.Refreshed.TheVariants.{Done, Fault}
-
--- the panel is opened with these sizes, for slices of so many lines
-pub record HasSizes (panel : PanelState) (limits : Bounds) : Type 0 where
-  pub width_is : panel.width ≡ limits.width
-  pub height_is : panel.height ≡ limits.height
-  pub limit_is : panel.limit ≡ limits.width * limits.lines
-  pub opened : 0 < panel.limit
-  pub whole : IfSome panel.shows (λ colors. length colors ≡ limits.width * limits.height)
 
 -- the panel shows the picture of this scene, where it tells
 abbrev pub ShowsScene : PanelState → Scene → Type 0
@@ -38,25 +30,26 @@ pub record Refreshes (old new : PanelState) (scene : Scene) (answer : Refreshed)
   -- Fault: only where a flush failed
   pub fault : answer ≡ Fault → old.flush_faults < new.flush_faults
 
--- some lines of a panel from one on
-abbrev pub lines_box : ℕ → ℕ → ℕ → Box
-lines_box width from lines = record { x = 0; y = from; width = width; height = lines }
+-- a slice of a panel: the pixels of the whole width from y = `top` on, `height` of them downward
+abbrev pub slice_box : ℕ → ℕ → ℕ → Box
+slice_box width top height = record { x = 0; y = top; width = width; height = height }
 
-abbrev pub lines_rect : ℕ → ℕ → ℕ → Rect
-lines_rect width from lines = area_at (pos 0) (pos from) width lines
+abbrev pub slice_rect : ℕ → ℕ → ℕ → Rect
+slice_rect width top height = area_at (pos 0) (pos top) width height
 
--- the lines of a panel from one on that a slice has
-pub record AreLines (limits : Bounds) (from lines : ℕ) : Type 0 where
-  pub some : 0 < lines
-  pub few : lines ≤ limits.lines
-  pub within : from + lines ≤ limits.height
+-- a slice of the panel that the draw buffer has room for
+pub record IsSlice (limits : Bounds) (top height : ℕ) : Type 0 where
+  pub some : 0 < height
+  pub few : height ≤ limits.lines
+  pub within : top + height ≤ limits.height
 
--- the colours of some lines of the picture, from one on
-pub record IsSlice (scene : Scene) (from lines : ℕ) (colors : List Rgb565) : Type 0 where
-  pub each : (x y : ℕ) → x < scene.limits.width → y < lines → slice_get colors (y * scene.limits.width + x) ≡ Some (paint scene (pos x) (pos (from + y)))
+-- these colours are those of the picture in a slice
+pub record ArePainted (scene : Scene) (top height : ℕ) (colors : List Rgb565) : Type 0 where
+  pub each : (x y : ℕ) → x < scene.limits.width → y < height →
+      slice_get colors (y * scene.limits.width + x) ≡ Some (paint scene (pos x) (pos (top + y)))
 
--- some lines of the picture came to the panel
-pub record ShowsSlice (old new : PanelState) (scene : Scene) (from lines : ℕ) : Type 0 where
+-- a slice of the picture came to the panel
+pub record ShowsSlice (old new : PanelState) (scene : Scene) (top height : ℕ) : Type 0 where
   pub colors : List Rgb565
-  pub are : IsSlice scene from lines colors
-  pub shown : Shown old new (lines_box scene.limits.width from lines) colors
+  pub are : ArePainted scene top height colors
+  pub done : FlushDone old new (slice_box scene.limits.width top height) colors

@@ -1,9 +1,9 @@
 //! The machine.
 ghost use Rattle.std.specs.Prelude.{◌≡◌, ◌*◌, ◌<◌, ◌≤◌, ◌+◌, IfOk, OnOk, OnErr, pos, ◌≤ℤ◌};
 ghost use Rattle.gui_base.specs.Corners.{rect_of};
-ghost use Rattle.gui_edge.specs.Panel.{Flushes, Unshown};
+ghost use Rattle.gui_edge.specs.Panel.{HasSizes, Flushes, FlushFailed};
 ghost use Rattle.gui_edge.specs.Panel.Areas.{box_of};
-ghost use Rattle.gui_core.specs.Panels.{HasSizes, Refreshes, AreLines, ShowsSlice, lines_box, lines_rect};
+ghost use Rattle.gui_core.specs.Panels.{Refreshes, IsSlice, ShowsSlice, slice_box, slice_rect};
 
 use crate::Refreshed;
 use crate::area::area_from;
@@ -33,10 +33,10 @@ impl Gui {
     ghost use Rattle.scene_defs.specs.Valid.{IsChange};
     ghost use Rattle.std.specs.Io.KnownBytes.{Appends};
     ghost use Rattle.gui_edge.specs.Causes.{HasCause};
-    ghost use Rattle.gui_edge.specs.Sink.{AppendsFront};
+    ghost use Rattle.gui_edge.specs.Sink.{AppendsPrefix};
     ghost use Rattle.gui_core.specs.Machines.{machine_of};
 
-    /// The roots 1, 2 and 3, screen 3 active, and the whole panel pending.
+    /// A machine whose scene has the roots 1, 2 and 3, with screen 3 active.
     pub fn open(alloc: Global, limits: &Limits) -> Result<Gui, NoMemory>
         ensures { IfOk result (λ gui. machine_of gui ≡ first_machine (bounds_of limits.now)) }
     {
@@ -45,15 +45,17 @@ impl Gui {
         Ok(Gui { store, buffer })
     }
 
-    /// Carries out a command, or answers the first refusal of it, which leaves all as it was. What its events write goes to the log;
-    /// a change has no events. Failed comes only where the log failed: the machine is then as if it had not, and the log holds a front
-    /// of what the events write.
+    /// Carries out a command, or answers its first refusal, which leaves all as it was. What its events write goes to the log;
+    /// a change has no events. `Failed` comes only where the log failed: the machine is then as if the log had not failed, and
+    /// the log holds a prefix of what the events write.
     pub fn apply<S: Sink>(&mut self, command: &Command, log: &mut S) -> Result<Reply, Failed>
         requires { IsCommand command.now }
         ensures machine { machine_of self.new ≡ (step (machine_of self.old) command.now).machine }
         ensures reply { IfOk result (λ reply. reply ≡ (step (machine_of self.old) command.now).reply) }
-        ensures lines { OnOk result (Appends (S.state log.old).held (S.state log.new).held (step (machine_of self.old) command.now).lines) }
-        ensures cut { OnErr result (AppendsFront (S.state log.old).held (S.state log.new).held (step (machine_of self.old) command.now).lines) }
+        ensures lines { OnOk result (Appends (S.state log.old).held (S.state log.new).held
+            (step (machine_of self.old) command.now).lines) }
+        ensures cut { OnErr result (AppendsPrefix (S.state log.old).held (S.state log.new).held
+            (step (machine_of self.old) command.now).lines) }
         ensures cause { HasCause (S.state log.old).faults (S.state log.new).faults result }
     {
         match *command {
@@ -64,7 +66,8 @@ impl Gui {
     /// Changes the scene, and replies.
     fn change(&mut self, change: &Change) -> Reply
         requires { IsChange change.now }
-        ensures machine { machine_of self.new ≡ record (machine_of self.old) { scene = changed (machine_of self.old).scene change.now } }
+        ensures machine { machine_of self.new
+            ≡ record (machine_of self.old) { scene = changed (machine_of self.old).scene change.now } }
         ensures reply { result ≡ reply_by (answer_of (machine_of self.old).scene change.now) }
     {
         match self.store.apply(change) {
@@ -80,7 +83,8 @@ impl Gui {
         &self.store
     }
 
-    /// Sends what is pending, in slices of at most the panel's limit, and stops at the first fault.
+    /// Sends the picture of the scene, in slices of at most the panel's limit, and stops at the first fault. `steps` counts the
+    /// pixels that are written black as each slice begins.
     pub fn refresh<P: Panel, B: Ledger>(&mut self, panel: &mut P, steps: &mut Steps<B>) -> Refreshed
         requires { HasSizes (P.state panel.old) (machine_of self.old).scene.limits }
         ensures machine { machine_of self.new ≡ machine_of self.old }
@@ -98,35 +102,38 @@ impl Gui {
         Refreshed::Done
     }
 
-    /// Paints some lines of the picture and sends them.
+    /// Paints a slice of the picture and sends it.
     fn show_slice<P: Panel, B: Ledger>(
         &mut self,
         panel: &mut P,
         from: u32,
-        lines: u32,
+        height: u32,
         steps: &mut Steps<B>,
     ) -> Result<(), Failed>
         requires sizes { HasSizes (P.state panel.old) (machine_of self.old).scene.limits }
-        requires lines { AreLines (machine_of self.old).scene.limits from lines }
+        requires slice { IsSlice (machine_of self.old).scene.limits from height }
         ensures machine { machine_of self.new ≡ machine_of self.old }
-        ensures same { Flushes (P.state panel.old) (P.state panel.new) (lines_box (machine_of self.old).scene.limits.width from lines) }
-        ensures ok { OnOk result (ShowsSlice (P.state panel.old) (P.state panel.new) (machine_of self.old).scene from lines) }
-        ensures err { OnErr result (Unshown (P.state panel.old) (P.state panel.new) (lines_box (machine_of self.old).scene.limits.width from lines)) }
+        ensures same { Flushes (P.state panel.old) (P.state panel.new)
+            (slice_box (machine_of self.old).scene.limits.width from height) }
+        ensures ok { OnOk result
+            (ShowsSlice (P.state panel.old) (P.state panel.new) (machine_of self.old).scene from height) }
+        ensures err { OnErr result (FlushFailed (P.state panel.old) (P.state panel.new)
+            (slice_box (machine_of self.old).scene.limits.width from height)) }
     {
-        let area = lines_area(self.store.limits().width, from, lines);
+        let area = slice_area(self.store.limits().width, from, height);
         self.buffer.begin(area, steps);
         paint(&self.store, &mut self.buffer);
         panel.flush(area, self.buffer.pixels())
     }
 }
 
-/// Some lines of a panel from one on.
-fn lines_area(width: u32, from: u32, lines: u32) -> Area
+/// A slice of a panel: all of its width, and `height` pixels downward from y = `from` on.
+fn slice_area(width: u32, from: u32, height: u32) -> Area
     requires wide { (0 < width) × (width ≤ 1024) }
-    requires high { (0 < lines) × (from + lines ≤ 1024) }
+    requires high { (0 < height) × (from + height ≤ 1024) }
     ensures corner { (pos 0 ≤ℤ result.x1) × (pos 0 ≤ℤ result.y1) }
-    ensures place { box_of result ≡ lines_box width from lines }
-    ensures corners { rect_of result ≡ lines_rect width from lines }
+    ensures place { box_of result ≡ slice_box width from height }
+    ensures corners { rect_of result ≡ slice_rect width from height }
 {
-    area_from(0, from as i32, width, lines)
+    area_from(0, from as i32, width, height)
 }

@@ -12,8 +12,8 @@ pub use run_defs::Reply;
 /// How a refresh ended.
 #[derive(Clone, Copy, Debug, PartialEq, Eq)]
 pub enum Refreshed {
-    /// Nothing is pending, and the panel shows the picture.
+    /// The panel shows the picture.
     Done,
-    /// A flush failed, and its slice is pending again.
+    /// A flush failed. The slices before it came to the panel, and those after it were not sent.
     Fault,
 }

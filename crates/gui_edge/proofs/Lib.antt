@@ -1,3 +1,3 @@
-pub mod Fronts
 pub mod Pieces
 pub mod Placing
+pub mod Prefixes

@@ -8,7 +8,8 @@ pub record Box : Type 0 where
   pub height : ℕ
 
 abbrev pub is_inside : Box → ℕ → ℕ → Bool
-is_inside box x y = nat_le box.x x && nat_lt x (box.x + box.width) && nat_le box.y y && nat_lt y (box.y + box.height)
+is_inside box x y =
+    nat_le box.x x && nat_lt x (box.x + box.width) && nat_le box.y y && nat_lt y (box.y + box.height)
 
 abbrev pub box_size : Box → ℕ
 box_size box = box.width * box.height

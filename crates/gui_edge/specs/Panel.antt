@@ -1,14 +1,16 @@
 -- What is known of a panel, and what its calls do to it.
-use Rattle.std.specs.Prelude.{◌≡◌, ℕ, ◌+◌, ◌*◌, ◌<◌, ◌≤◌, min, false, List, ◌++◌, length, slice_get, IfSome, Ok, Err}
+use Rattle.std.specs.Prelude.{◌≡◌, ℕ, ◌+◌, ◌*◌, ◌<◌, ◌≤◌, min, false, List, length, slice_get}
+use Rattle.std.specs.Prelude.{IfSome, Ok, Err}
 use Rattle.std.specs.declared.option.Option.{Option}
 use Rattle.std.specs.declared.result.Result.{Result}
 use Rattle.std.specs.Io.KnownBytes.{Appends}
 use Rattle.gui_base.specs.declared.color.Rgb565.{Rgb565}
+use Rattle.gui_base.specs.Limits.{Bounds}
 use Rattle.gui_base.specs.Ppm.{ppm}
 use Rattle.gui_edge.specs.Told.{Told}
 use Rattle.gui_edge.specs.Box.{Box, is_inside, box_size}
 use Rattle.gui_edge.specs.Causes.{last_count}
-use Rattle.gui_edge.specs.Sink.{AppendsFront}
+use Rattle.gui_edge.specs.Sink.{AppendsPrefix}
 use Rattle.gui_edge.specs.declared.panel.OpenFault.{OpenFault}
 use Rattle.gui_edge.specs.declared.panel.OpenFault.TheVariants.{Failed, NoMemory}
 pub mod Areas
@@ -16,18 +18,38 @@ pub mod Areas
 pub record PanelState : Type 0 where
   pub width : ℕ
   pub height : ℕ
-  -- how many pixels a flush may have; 0 where it is not opened
+  -- how many pixels a flush may have; 0 where the panel is not opened
   pub limit : ℕ
-  -- the colour of each pixel, row by row, where it tells them
+  -- the colour of each pixel in reading order, where the panel tells them
   pub shows : Option (List Rgb565)
-  -- the bytes presented, where it tells them
+  -- the bytes presented, where the panel tells them
   pub frames : Option (List ℕ)
-  -- the sizes of all flushes asked for together, failed ones too; it stands still at the last count
+  -- the sum of the sizes of all flushes asked for, failed ones too; it stays at the last count
   pub sent : ℕ
   -- how many openings and flushes failed
   pub flush_faults : ℕ
   -- how many frames could not be presented
   pub present_faults : ℕ
+
+-- where a panel tells its pixels, it tells as many as it has
+abbrev pub TellsEach : PanelState → Type 0
+TellsEach panel = IfSome panel.shows (λ colors. length colors ≡ panel.width * panel.height)
+
+-- the panel is opened with the sizes of these limits, and takes slices of `lines` times the width
+pub record HasSizes (panel : PanelState) (limits : Bounds) : Type 0 where
+  pub width_is : panel.width ≡ limits.width
+  pub height_is : panel.height ≡ limits.height
+  pub limit_is : panel.limit ≡ limits.width * limits.lines
+  pub opened : 0 < panel.limit
+
+-- the sizes that a panel may be opened with
+pub record CanOpen (width height limit : ℕ) : Type 0 where
+  pub some_width : 1 ≤ width
+  pub most_width : width ≤ 1024
+  pub some_height : 1 ≤ height
+  pub most_height : height ≤ 1024
+  pub least_limit : width ≤ limit
+  pub most_limit : limit ≤ width * height
 
 -- a panel that was just opened
 pub record Opens (old new : PanelState) (width height limit : ℕ) : Type 0 where
@@ -50,10 +72,11 @@ pub record StaysClosed (old new : PanelState) : Type 0 where
 
 abbrev pub OpenAnswer : PanelState → PanelState → ℕ → ℕ → ℕ → Result (Unit {0}) OpenFault → Type 0
 OpenAnswer old new width height limit (Ok u) = Opens old new width height limit
-OpenAnswer old new width height limit (Err Failed) = StaysClosed old new × (old.flush_faults < new.flush_faults)
+OpenAnswer old new width height limit (Err Failed) =
+    StaysClosed old new × (old.flush_faults < new.flush_faults)
 OpenAnswer old new width height limit (Err NoMemory) = StaysClosed old new
 
--- the area lies within the panel, has at most the limit's pixels, and there is one colour for each
+-- the area is inside the panel and has at most the limit's pixels, and there is one colour for each
 pub record CanFlush (panel : PanelState) (area : Box) (colors : List Rgb565) : Type 0 where
   pub wide : 0 < area.width
   pub high : 0 < area.height
@@ -65,13 +88,16 @@ pub record CanFlush (panel : PanelState) (area : Box) (colors : List Rgb565) : T
 -- the pixels of the area have these colours, and the others those of before
 pub record Shows (width : ℕ) (area : Box) (colors : List Rgb565) (old new : List Rgb565) : Type 0 where
   pub len : length new ≡ length old
-  pub inside : (x y : ℕ) → x < area.width → y < area.height → slice_get new ((area.y + y) * width + (area.x + x)) ≡ slice_get colors (y * area.width + x)
-  pub outside : (x y : ℕ) → x < width → is_inside area x y ≡ false → slice_get new (y * width + x) ≡ slice_get old (y * width + x)
+  pub inside : (x y : ℕ) → x < area.width → y < area.height →
+      slice_get new ((area.y + y) * width + (area.x + x)) ≡ slice_get colors (y * area.width + x)
+  pub outside : (x y : ℕ) → x < width → is_inside area x y ≡ false →
+      slice_get new (y * width + x) ≡ slice_get old (y * width + x)
 
 -- only pixels of the area may differ
 pub record SameOutside (width : ℕ) (area : Box) (old new : List Rgb565) : Type 0 where
   pub len : length new ≡ length old
-  pub outside : (x y : ℕ) → x < width → is_inside area x y ≡ false → slice_get new (y * width + x) ≡ slice_get old (y * width + x)
+  pub outside : (x y : ℕ) → x < width → is_inside area x y ≡ false →
+      slice_get new (y * width + x) ≡ slice_get old (y * width + x)
 
 -- what each flush does, and what none changes
 pub record Flushes (old new : PanelState) (area : Box) : Type 0 where
@@ -82,13 +108,13 @@ pub record Flushes (old new : PanelState) (area : Box) : Type 0 where
   pub present_faults : new.present_faults ≡ old.present_faults
   pub sent : new.sent ≡ min (old.sent + box_size area) last_count
 
--- the flush came through
-pub record Shown (old new : PanelState) (area : Box) (colors : List Rgb565) : Type 0 where
+-- the flush came through: the area shows the colours
+pub record FlushDone (old new : PanelState) (area : Box) (colors : List Rgb565) : Type 0 where
   pub count : new.flush_faults ≡ old.flush_faults
   pub shows : Told old.shows new.shows (Shows old.width area colors)
 
--- the flush failed
-pub record Unshown (old new : PanelState) (area : Box) : Type 0 where
+-- the flush failed: only pixels of the area may differ
+pub record FlushFailed (old new : PanelState) (area : Box) : Type 0 where
   pub count : old.flush_faults < new.flush_faults
   pub shows : Told old.shows new.shows (SameOutside old.width area)
 
@@ -102,10 +128,12 @@ pub record Presents (old new : PanelState) : Type 0 where
   pub flush_faults : new.flush_faults ≡ old.flush_faults
   pub present_faults : old.present_faults ≤ new.present_faults
 
--- the file of what is shown was written
+-- the file of the picture that the panel shows was written
 abbrev pub WritesFrame : PanelState → PanelState → Type 0
-WritesFrame old new = IfSome old.shows (λ colors. Appends old.frames new.frames (ppm old.width old.height colors))
+WritesFrame old new =
+    IfSome old.shows (λ colors. Appends old.frames new.frames (ppm old.width old.height colors))
 
--- a front of it was written
-abbrev pub WritesFront : PanelState → PanelState → Type 0
-WritesFront old new = IfSome old.shows (λ colors. AppendsFront old.frames new.frames (ppm old.width old.height colors))
+-- a prefix of it was written
+abbrev pub WritesPrefix : PanelState → PanelState → Type 0
+WritesPrefix old new =
+    IfSome old.shows (λ colors. AppendsPrefix old.frames new.frames (ppm old.width old.height colors))

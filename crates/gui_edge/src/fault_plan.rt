@@ -4,7 +4,8 @@ ghost use Rattle.gui_edge.specs.FaultPlan.{plan_of, next_fails, after_call};
 
 use std::marker::Model;
 
-/// The numbers of the calls that fail, and a count of the calls. The first call has the number 1, and calls past 2^64 - 1 have none.
+/// The numbers of the calls that fail, and a count of the calls. The first call has the number 1, and calls
+/// past 2^64 - 1 have none.
 #[derive(Drop)]
 pub(crate) struct FaultPlan {
     numbers: Vec<u64>,

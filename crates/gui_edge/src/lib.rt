@@ -1,5 +1,5 @@
-//! The outside: where a script comes from, where the log goes, and the panel. Each is a trait, with objects in memory that can be
-//! told to fail and with adapters over std.
+//! The outside: where a script comes from, where the log goes, and the panel. Each is a trait. Sources, sinks
+//! and panels in memory can be told to fail, and adapters stand for readers and writers of std.
 #![tactic(auto)]
 
 mod fault_plan;
@@ -16,6 +16,6 @@ pub use sim_panel::{SimPanel, SimPlan};
 pub use sink::{MemSink, Sink, StdSink};
 pub use source::{MemSource, Source, StdSource};
 
-/// A call on the outside failed. The object's count of faults rose in that call, and tells so.
+/// A call on the outside failed. The object's count of faults rose in that call.
 #[derive(Clone, Copy, Debug, PartialEq, Eq)]
 pub struct Failed;

@@ -1,7 +1,8 @@
 //! The panel.
-ghost use Rattle.std.specs.Prelude.{◌≡◌, ◌<◌, ◌≤◌, OnOk, OnErr, pos, ◌≤ℤ◌};
+ghost use Rattle.std.specs.Prelude.{◌≡◌, ◌<◌, OnOk, OnErr, pos, ◌≤ℤ◌};
 ghost use Rattle.gui_edge.specs.Causes.{Rose};
-ghost use Rattle.gui_edge.specs.Panel.{PanelState, OpenAnswer, CanFlush, Flushes, Shown, Unshown, Presents, WritesFrame, WritesFront};
+ghost use Rattle.gui_edge.specs.Panel.{PanelState, TellsEach, CanOpen, OpenAnswer, CanFlush, Flushes};
+ghost use Rattle.gui_edge.specs.Panel.{FlushDone, FlushFailed, Presents, WritesFrame, WritesPrefix};
 
 use crate::Failed;
 use gui_base::{Area, Rgb565};
@@ -25,28 +26,30 @@ pub trait Panel {
 
     ghost state: { Self → PanelState };
 
-    /// Opens the panel with sizes in pixels from 1 to 1024, for flushes of at most `limit` pixels. After an error it is not opened, and its
-    /// limit is 0.
+    /// Opens the panel with sizes in pixels from 1 to 1024, for flushes of at most `limit` pixels, which is
+    /// from the width to all of the panel. After an error the panel is not opened, and its limit is 0.
     fn open(&mut self, alloc: Global, width: u16, height: u16, limit: u32) -> Result<(), OpenFault>
         requires closed { (state self.old).limit ≡ 0 }
-        requires wide { (0 < width) × (width ≤ 1024) }
-        requires high { (0 < height) × (height ≤ 1024) }
-        requires some { 0 < limit }
+        requires sizes { CanOpen width height limit }
         ensures { OpenAnswer (state self.old) (state self.new) width height limit result };
 
-    /// Makes the pixels of an area show these colours, one for each, row by row. After a failure only pixels of the area may differ.
+    /// Makes the pixels of an area show these colours, one for each in reading order: from left to right,
+    /// then downward. After a failure only pixels of the area may differ.
     fn flush(&mut self, area: Area, pixels: &[Rgb565]) -> Result<(), Failed>
         requires corner { (pos 0 ≤ℤ area.x1) × (pos 0 ≤ℤ area.y1) }
         requires area { CanFlush (state self.old) (box_of area) pixels.now }
         ensures same { Flushes (state self.old) (state self.new) (box_of area) }
-        ensures ok { OnOk result (Shown (state self.old) (state self.new) (box_of area) pixels.now) }
-        ensures err { OnErr result (Unshown (state self.old) (state self.new) (box_of area)) };
+        ensures ok { OnOk result (FlushDone (state self.old) (state self.new) (box_of area) pixels.now) }
+        ensures err { OnErr result (FlushFailed (state self.old) (state self.new) (box_of area)) };
 
-    /// Presents what is shown as a frame, a picture file of the form P6, or where it fails a front of that file.
+    /// Presents what the panel shows as a frame, a picture file of the form P6. Where it fails, it presents a
+    /// prefix of that file.
     fn present(&mut self) -> Result<(), Failed>
         requires { 0 < (state self.old).limit }
         ensures same { Presents (state self.old) (state self.new) }
         ensures ok { OnOk result (WritesFrame (state self.old) (state self.new)) }
-        ensures err { OnErr result (WritesFront (state self.old) (state self.new)) }
+        ensures err { OnErr result (WritesPrefix (state self.old) (state self.new)) }
         ensures cause { OnErr result (Rose (state self.old).present_faults (state self.new).present_faults) };
+
+    ghost each: { (panel : Self) → TellsEach (state panel) };
 }

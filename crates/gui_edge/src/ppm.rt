@@ -4,7 +4,7 @@ ghost use Rattle.std.specs.List.{flat_map};
 ghost use Rattle.std.specs.Io.KnownBytes.{Appends};
 ghost use Rattle.gui_base.specs.Ppm.{ppm, ppm_head, rgb_bytes};
 ghost use Rattle.gui_edge.specs.Causes.{HasCause};
-ghost use Rattle.gui_edge.specs.Sink.{AppendsFront};
+ghost use Rattle.gui_edge.specs.Sink.{AppendsPrefix};
 
 use crate::Failed;
 use crate::sink::Sink;
@@ -30,7 +30,7 @@ fn head(width: u16, height: u16) -> ArrayVec<u8, 32>
     text
 }
 
-/// Makes the front of `bytes` those of the pixels, three for each.
+/// Writes the bytes of the pixels, three for each, to the beginning of `bytes`.
 fn fill_bytes(bytes: &mut [u8], pixels: &[Rgb565])
     requires { 3 * length pixels.now ≤ length bytes.old }
     ensures { take (3 * length pixels.now) bytes.new ≡ flat_map rgb_bytes pixels.now }
@@ -44,15 +44,18 @@ fn fill_bytes(bytes: &mut [u8], pixels: &[Rgb565])
     }
 }
 
-/// Writes the file of a picture, row by row, or where the sink fails a front of it.
+/// Writes the file of a picture whose pixels are given in reading order, or where the sink fails a prefix of
+/// it.
 pub fn write_frame<F: Sink>(
     frames: &mut F,
     width: u16,
     height: u16,
     pixels: &[Rgb565],
 ) -> Result<(), Failed>
-    ensures ok { OnOk result (Appends (F.state frames.old).held (F.state frames.new).held (ppm width height pixels.now)) }
-    ensures err { OnErr result (AppendsFront (F.state frames.old).held (F.state frames.new).held (ppm width height pixels.now)) }
+    ensures ok { OnOk result
+        (Appends (F.state frames.old).held (F.state frames.new).held (ppm width height pixels.now)) }
+    ensures err { OnErr result
+        (AppendsPrefix (F.state frames.old).held (F.state frames.new).held (ppm width height pixels.now)) }
     ensures cause { HasCause (F.state frames.old).faults (F.state frames.new).faults result }
 {
     frames.put(head(width, height).as_slice())?;

@@ -8,7 +8,7 @@ ghost use Rattle.gui_edge.specs.Screen.{HoldsBox};
 
 use gui_base::{Area, Rgb565};
 
-/// The column of an area's left edge, which is not left of the panel.
+/// The x of an area's left edge, which is not left of the panel.
 fn left(area: Area) -> usize
     requires { pos 0 ≤ℤ area.x1 }
     ensures { result ≡ nat_of area.x1 }
@@ -16,7 +16,7 @@ fn left(area: Area) -> usize
     area.x1 as usize
 }
 
-/// The line of an area's upper edge, which is not above the panel.
+/// The y of an area's upper edge, which is not above the panel.
 fn top(area: Area) -> usize
     requires { pos 0 ≤ℤ area.y1 }
     ensures { result ≡ nat_of area.y1 }
@@ -24,7 +24,8 @@ fn top(area: Area) -> usize
     area.y1 as usize
 }
 
-/// Makes the pixels of an area show these colours, one for each, row by row. `shown` has rows of `width` pixels.
+/// Makes the pixels of an area show these colours, one for each. `shown` is a picture of this width, and all
+/// pixels are in reading order.
 pub(crate) fn write_area(shown: &mut [Rgb565], width: u16, area: Area, colors: &[Rgb565])
     requires corner { (pos 0 ≤ℤ area.x1) × (pos 0 ≤ℤ area.y1) }
     requires holds { HoldsBox (length shown.old) width (box_of area) }
@@ -40,14 +41,14 @@ pub(crate) fn write_area(shown: &mut [Rgb565], width: u16, area: Area, colors: &
         shown[at..at + colors.len()].copy_from_slice(colors);
         return;
     }
-    for row in 0..area.height() as usize {
-        let at = (y + row) * stride + x;
-        let from = row * columns;
+    for down in 0..area.height() as usize {
+        let at = (y + down) * stride + x;
+        let from = down * columns;
         shown[at..at + columns].copy_from_slice(&colors[from..from + columns]);
     }
 }
 
-/// Makes all pixels of an area show one colour. `shown` has rows of `width` pixels.
+/// Makes all pixels of an area show one colour. `shown` is a picture of this width, in reading order.
 pub(crate) fn fill_area(shown: &mut [Rgb565], width: u16, area: Area, color: Rgb565)
     requires corner { (pos 0 ≤ℤ area.x1) × (pos 0 ≤ℤ area.y1) }
     requires holds { HoldsBox (length shown.old) width (box_of area) }
@@ -56,8 +57,8 @@ pub(crate) fn fill_area(shown: &mut [Rgb565], width: u16, area: Area, color: Rgb
     let x = left(area);
     let y = top(area);
     let columns = area.width() as usize;
-    for row in 0..area.height() as usize {
-        let at = (y + row) * width as usize + x;
+    for down in 0..area.height() as usize {
+        let at = (y + down) * width as usize + x;
         shown[at..at + columns].fill(color);
     }
 }

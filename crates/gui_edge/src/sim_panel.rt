@@ -1,9 +1,11 @@
 //! A panel in memory, which presents its frames to a sink.
-ghost use Rattle.std.specs.Prelude.{◌≡◌, ◌↔◌, ◌+◌, ◌*◌, ◌<◌, ◌≤◌, length, replicate, slice_get, Some, OnOk, OnErr, IsErr, IsTrue, true, false, [], pos, ◌≤ℤ◌};
+ghost use Rattle.std.specs.Prelude.{◌≡◌, ◌↔◌, ◌+◌, ◌*◌, ◌<◌, ◌≤ℤ◌, pos, length, replicate, slice_get};
+ghost use Rattle.std.specs.Prelude.{Some, OnOk, OnErr, IsErr, IsTrue, true, false, []};
 ghost use Rattle.gui_edge.specs.Box.{box_size};
 ghost use Rattle.gui_edge.specs.Causes.{Rose, HasCause};
 ghost use Rattle.gui_edge.specs.FaultPlan.{plan_of, next_fails, after_call};
-ghost use Rattle.gui_edge.specs.Panel.{OpenAnswer, CanFlush, Flushes, Shown, Unshown, Shows, Presents, WritesFrame, WritesFront};
+ghost use Rattle.gui_edge.specs.Panel.{CanOpen, OpenAnswer, CanFlush, Flushes, FlushDone, FlushFailed};
+ghost use Rattle.gui_edge.specs.Panel.{Shows, Presents, WritesFrame, WritesPrefix};
 ghost use Rattle.gui_edge.specs.SimPanel.{open_fails, panel_state};
 
 use crate::Failed;
@@ -36,10 +38,10 @@ pub struct SimPanel<F> {
     limit: u32,
     sent: u64,
     present_faults: u64,
+    ghost each: { length pixels.items ≡ width * height },
 }
 
 impl<F> Model for SimPanel<F> {
-    ghost use Rattle.std.specs.Prelude.{◌≡◌, ◌*◌, length};
     ghost use Rattle.gui_edge.specs.SimPanel.{SimState};
 
     ghost Value = { SimState F };
@@ -49,13 +51,12 @@ impl<F> Model for SimPanel<F> {
       height = p.height;
       limit = p.limit;
       pixels = p.pixels.items;
+      each = p.each;
       frames = p.frames;
       plan = record { fail_open = p.fail_open; asked = p.asked; flushes = p.flushes };
       sent = p.sent;
       present_faults = p.present_faults;
     } };
-
-    ghost invariant = { λ p. length p.pixels.items ≡ p.width * p.height };
 }
 
 /// The colour of a pixel that nothing was flushed to.
@@ -67,16 +68,16 @@ pub const BROKEN: Rgb565 = Rgb565(0x5A5A);
 impl<F: Sink> SimPanel<F> {
     /// A panel that is not opened, and presents its frames to a sink.
     pub fn new(frames: F, plan: SimPlan) -> SimPanel<F>
-        ensures { result ≡ record {
-          width = 0;
-          height = 0;
-          limit = 0;
-          pixels = [];
-          frames = frames;
-          plan = record { fail_open = plan.fail_open; asked = false; flushes = plan_of plan.fail_flush.items };
-          sent = 0;
-          present_faults = 0;
+        ensures closed { result.limit ≡ 0 }
+        ensures sizes { (result.width ≡ 0) × (result.height ≡ 0) }
+        ensures pixels { result.pixels ≡ [] }
+        ensures frames { result.frames ≡ frames }
+        ensures plan { result.plan ≡ record {
+          fail_open = plan.fail_open;
+          asked = false;
+          flushes = plan_of plan.fail_flush.items;
         } }
+        ensures counts { (result.sent ≡ 0) × (result.present_faults ≡ 0) }
     {
         // It takes no memory before it is opened.
         let no_pixels = Vec::new(*plan.fail_flush.allocator());
@@ -97,13 +98,13 @@ impl<F: Sink> SimPanel<F> {
     /// The colour that a pixel of the panel shows.
     pub fn shown(&self, x: u16, y: u16) -> Rgb565
         requires column { x < self.now.width }
-        requires line { y < self.now.height }
+        requires row { y < self.now.height }
         ensures { slice_get self.now.pixels (y * self.now.width + x) ≡ Some result }
     {
         self.pixels[usize::from(y) * usize::from(self.width) + usize::from(x)]
     }
 
-    /// The sizes of all flushes asked for together, in pixels, failed ones too; it stands still at 2^64 - 1.
+    /// The sum of the sizes of all flushes asked for, in pixels, failed ones too; it stays at 2^64 - 1.
     pub fn sent(&self) -> u64
         ensures { result ≡ self.now.sent }
     {
@@ -121,15 +122,14 @@ impl<F: Sink> SimPanel<F> {
 impl<F: Sink> Panel for SimPanel<F> {
     ghost use Rattle.gui_edge.specs.Panel.Areas.{box_of};
 
-    ghost state = { λ p. panel_state (F.state p.frames).held p };
+    ghost state = { λ p. panel_state F.state p };
 
     /// Opens the panel. All pixels then show `UNWRITTEN`. Where the plan says so, the first opening fails.
     fn open(&mut self, alloc: Global, width: u16, height: u16, limit: u32) -> Result<(), OpenFault>
         requires closed { self.old.limit ≡ 0 }
-        requires wide { (0 < width) × (width ≤ 1024) }
-        requires high { (0 < height) × (height ≤ 1024) }
-        requires some { 0 < limit }
-        ensures answer { OpenAnswer (panel_state (F.state self.old.frames).held self.old) (panel_state (F.state self.new.frames).held self.new) width height limit result }
+        requires sizes { CanOpen width height limit }
+        ensures answer { OpenAnswer (panel_state F.state self.old) (panel_state F.state self.new)
+            width height limit result }
 
         ensures fails { (result ≡ Err OpenFault.Failed) ↔ IsTrue (open_fails self.old.plan) }
         ensures blank { OnOk result (self.new.pixels ≡ replicate (width * height) UNWRITTEN) }
@@ -154,13 +154,16 @@ impl<F: Sink> Panel for SimPanel<F> {
     /// Makes the area show the colours, or where the plan says so `BROKEN`.
     fn flush(&mut self, area: Area, pixels: &[Rgb565]) -> Result<(), Failed>
         requires corner { (pos 0 ≤ℤ area.x1) × (pos 0 ≤ℤ area.y1) }
-        requires area { CanFlush (panel_state (F.state self.old.frames).held self.old) (box_of area) pixels.now }
-        ensures same { Flushes (panel_state (F.state self.old.frames).held self.old) (panel_state (F.state self.new.frames).held self.new) (box_of area) }
-        ensures ok { OnOk result (Shown (panel_state (F.state self.old.frames).held self.old) (panel_state (F.state self.new.frames).held self.new) (box_of area) pixels.now) }
-        ensures err { OnErr result (Unshown (panel_state (F.state self.old.frames).held self.old) (panel_state (F.state self.new.frames).held self.new) (box_of area)) }
+        requires area { CanFlush (panel_state F.state self.old) (box_of area) pixels.now }
+        ensures same { Flushes (panel_state F.state self.old) (panel_state F.state self.new) (box_of area) }
+        ensures ok { OnOk result (FlushDone (panel_state F.state self.old) (panel_state F.state self.new)
+            (box_of area) pixels.now) }
+        ensures err { OnErr result (FlushFailed (panel_state F.state self.old) (panel_state F.state self.new)
+            (box_of area)) }
 
         ensures fails { IsErr result ↔ IsTrue (next_fails self.old.plan.flushes) }
-        ensures broken { OnErr result (Shows self.old.width (box_of area) (replicate (box_size (box_of area)) BROKEN) self.old.pixels self.new.pixels) }
+        ensures broken { OnErr result (Shows self.old.width (box_of area)
+            (replicate (box_size (box_of area)) BROKEN) self.old.pixels self.new.pixels) }
         ensures plan { self.new.plan ≡ record self.old.plan { flushes = after_call self.old.plan.flushes } }
         ensures frames { self.new.frames ≡ self.old.frames }
     {
@@ -173,12 +176,14 @@ impl<F: Sink> Panel for SimPanel<F> {
         Ok(())
     }
 
-    /// Presents what is shown. It fails exactly where a put on the sink fails.
+    /// Presents what the panel shows. It fails exactly where a put on the sink fails.
     fn present(&mut self) -> Result<(), Failed>
         requires { 0 < self.old.limit }
-        ensures same { Presents (panel_state (F.state self.old.frames).held self.old) (panel_state (F.state self.new.frames).held self.new) }
-        ensures ok { OnOk result (WritesFrame (panel_state (F.state self.old.frames).held self.old) (panel_state (F.state self.new.frames).held self.new)) }
-        ensures err { OnErr result (WritesFront (panel_state (F.state self.old.frames).held self.old) (panel_state (F.state self.new.frames).held self.new)) }
+        ensures same { Presents (panel_state F.state self.old) (panel_state F.state self.new) }
+        ensures ok { OnOk result
+            (WritesFrame (panel_state F.state self.old) (panel_state F.state self.new)) }
+        ensures err { OnErr result
+            (WritesPrefix (panel_state F.state self.old) (panel_state F.state self.new)) }
         ensures cause { OnErr result (Rose self.old.present_faults self.new.present_faults) }
 
         ensures fails { HasCause (F.state self.old.frames).faults (F.state self.new.frames).faults result }
@@ -191,4 +196,6 @@ impl<F: Sink> Panel for SimPanel<F> {
         }
         result
     }
+
+    ghost each = { λ p. p.each };
 }

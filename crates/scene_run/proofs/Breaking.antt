@@ -14,10 +14,10 @@ use Rattle.run_defs.specs.declared.Command.TheVariants.{Change as CommandOf}
 use Rattle.run_defs.specs.Machine.{Machine}
 use Rattle.run_defs.specs.Step.{step}
 use Rattle.run_defs.specs.Run.{Replied, Framed, reply_line, frame_line}
-use Rattle.gui_edge.specs.Sink.{SinkState, AppendsFront}
+use Rattle.gui_edge.specs.Sink.{SinkState, AppendsPrefix}
 use Rattle.gui_edge.specs.Panel.{PanelState}
 use Rattle.scene_run.specs.Effects.{Output, PanelKeeps, Keeps, Breaks, FrameShown, FrameBroke}
-use Rattle.scene_run.proofs.Known.{AppendsFront-nothing}
+use Rattle.scene_run.proofs.Known.{AppendsPrefix-nothing}
 
 pub on_err : {T E P : Type 0} (r : Result T E) → P → OnErr r P
 on_err (Ok x) p = tt
@@ -34,31 +34,31 @@ pub breaks_show : (log : SinkState) (p q : PanelState) (n k : ℕ) (scene : Scen
 breaks_show log p q n k scene broke = record {
   last = [];
   one = omega arith;
-  log = AppendsFront-nothing log.held [];
+  log = AppendsPrefix-nothing log.held [];
   frames = broke.frames;
   faults = omega (arith, broke.keeps.flush_faults);
   keeps = record { panel = broke.keeps; log_faults = omega arith };
 }
 
 -- the log did not take the line of a reply whole
-pub breaks_reply : (a b : SinkState) (p : PanelState) (n k : ℕ) (text : List ℕ) (refused : Bool) → AppendsFront a.held b.held (reply_line n text) → a.faults ≤ b.faults →
+pub breaks_reply : (a b : SinkState) (p : PanelState) (n k : ℕ) (text : List ℕ) (refused : Bool) → AppendsPrefix a.held b.held (reply_line n text) → a.faults ≤ b.faults →
     Breaks (output a p) (output b p) n k (Replied text refused)
 breaks_reply a b p n k text refused front later = record {
   last = [];
   one = omega arith;
-  log = subst (AppendsFront a.held b.held) (sym (append-nil (reply_line n text))) front;
-  frames = λ t. AppendsFront-nothing p.frames [];
+  log = subst (AppendsPrefix a.held b.held) (sym (append-nil (reply_line n text))) front;
+  frames = λ t. AppendsPrefix-nothing p.frames [];
   faults = omega arith;
   keeps = record { panel = PanelKeeps-self p; log_faults = later };
 }
 
 -- nor that of a frame
-pub breaks_frame : (a b : SinkState) (p q : PanelState) (n k : ℕ) (scene : Scene) (outcome : Outcome) → FrameShown p q scene outcome → AppendsFront a.held b.held (frame_line n k outcome) → a.faults ≤ b.faults →
+pub breaks_frame : (a b : SinkState) (p q : PanelState) (n k : ℕ) (scene : Scene) (outcome : Outcome) → FrameShown p q scene outcome → AppendsPrefix a.held b.held (frame_line n k outcome) → a.faults ≤ b.faults →
     Breaks (output a p) (output b q) n k (Framed scene)
 breaks_frame a b p q n k scene Done shown front later = record {
   last = Done ∷ [];
   one = omega arith;
-  log = subst (AppendsFront a.held b.held) (sym (append-nil (frame_line n k Done))) front;
+  log = subst (AppendsPrefix a.held b.held) (sym (append-nil (frame_line n k Done))) front;
   frames = λ t. record { front = frame_file scene; rest = []; whole = append-nil (frame_file scene); grows = subst (Appends p.frames q.frames) (append-nil (frame_file scene)) (shown.frames t) };
   faults = shown.faults;
   keeps = record { panel = shown.keeps; log_faults = later };
@@ -66,7 +66,7 @@ breaks_frame a b p q n k scene Done shown front later = record {
 breaks_frame a b p q n k scene Fault shown front later = record {
   last = Fault ∷ [];
   one = omega arith;
-  log = subst (AppendsFront a.held b.held) (sym (append-nil (frame_line n k Fault))) front;
+  log = subst (AppendsPrefix a.held b.held) (sym (append-nil (frame_line n k Fault))) front;
   frames = λ t. record { front = []; rest = frame_file scene; whole = refl; grows = shown.frames t };
   faults = shown.faults;
   keeps = record { panel = shown.keeps; log_faults = later };
@@ -92,7 +92,7 @@ front_of_nothing : (front rest : List ℕ) → front ++ rest ≡ [] → front �
 front_of_nothing [] rest e = refl
 front_of_nothing (b ∷ front) rest e = cc
 
-pub front_before : (m : Machine) (command : Command) (a b : Option (List ℕ)) (text : List ℕ) → AppendsFront a b (step m command).lines → AppendsFront a b text
+pub front_before : (m : Machine) (command : Command) (a b : Option (List ℕ)) (text : List ℕ) → AppendsPrefix a b (step m command).lines → AppendsPrefix a b text
 front_before m command a b text cut = record {
   front = [];
   rest = text;

@@ -4,7 +4,7 @@ use Rattle.std.specs.Prelude.{Some, None}
 use Rattle.std.specs.declared.option.Option.{Option}
 use Rattle.std.specs.Io.KnownBytes.{Appends, Consumes}
 use Rattle.std.proofs.lemmas.List.{append-nil}
-use Rattle.gui_edge.specs.Sink.{AppendsFront}
+use Rattle.gui_edge.specs.Sink.{AppendsPrefix}
 
 pub Appends-more : (a b c : Option (List ℕ)) (xs ys : List ℕ) → Appends a b xs → Appends b c ys → Appends a c (xs ++ ys)
 Appends-more None b c xs ys h k = tt
@@ -27,5 +27,5 @@ Consumes-nothing None = tt
 Consumes-nothing (Some a) = refl
 
 -- nothing is a front of anything
-pub AppendsFront-nothing : (a : Option (List ℕ)) (bytes : List ℕ) → AppendsFront a a bytes
-AppendsFront-nothing a bytes = record { front = []; rest = bytes; whole = refl; grows = Appends-nothing a }
+pub AppendsPrefix-nothing : (a : Option (List ℕ)) (bytes : List ℕ) → AppendsPrefix a a bytes
+AppendsPrefix-nothing a bytes = record { front = []; rest = bytes; whole = refl; grows = Appends-nothing a }

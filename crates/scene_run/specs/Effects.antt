@@ -8,7 +8,7 @@ use Rattle.run_defs.specs.declared.Outcome.{Outcome}
 use Rattle.run_defs.specs.declared.Outcome.TheVariants.{Done}
 use Rattle.run_defs.specs.Run.{Entry, Framed, log_text, frame_count, done_scenes, frame_files, next_frame, next_file, fault_count, last_done}
 use Rattle.gui_edge.specs.Causes.{Rose}
-use Rattle.gui_edge.specs.Sink.{SinkState, AppendsFront}
+use Rattle.gui_edge.specs.Sink.{SinkState, AppendsPrefix}
 use Rattle.gui_edge.specs.Panel.{PanelState}
 use Rattle.gui_core.specs.Panels.{ShowsScene}
 
@@ -40,8 +40,8 @@ pub record Effects (old new : Output) (line frame : ℕ) (seen : Option Scene) (
 pub record Breaks (old new : Output) (line frame : ℕ) (e : Entry) : Type 0 where
   pub last : List Outcome
   pub one : length last ≤ frame_count (e ∷ [])
-  pub log : AppendsFront old.log.held new.log.held (log_text line frame (e ∷ []) last)
-  pub frames : IsSome old.panel.shows → AppendsFront old.panel.frames new.panel.frames (next_file (next_frame (e ∷ []) []))
+  pub log : AppendsPrefix old.log.held new.log.held (log_text line frame (e ∷ []) last)
+  pub frames : IsSome old.panel.shows → AppendsPrefix old.panel.frames new.panel.frames (next_file (next_frame (e ∷ []) []))
   pub faults : old.panel.flush_faults + fault_count last ≤ new.panel.flush_faults
   pub keeps : Keeps old new
 
@@ -54,6 +54,6 @@ pub record FrameShown (old new : PanelState) (scene : Scene) (outcome : Outcome)
 
 -- a frame could not be presented whole
 pub record FrameBroke (old new : PanelState) (scene : Scene) : Type 0 where
-  pub frames : IsSome old.shows → AppendsFront old.frames new.frames (frame_file scene)
+  pub frames : IsSome old.shows → AppendsPrefix old.frames new.frames (frame_file scene)
   pub cause : Rose old.present_faults new.present_faults
   pub keeps : PanelKeeps old new

@@ -8,7 +8,7 @@ ghost use Rattle.run_defs.specs.Step.{step, is_noted, IsCommand};
 ghost use Rattle.run_defs.specs.Run.{entry, after, is_refused, reply_line, reply_text, frame_line, why_fault};
 ghost use Rattle.std.specs.Io.KnownBytes.{Appends};
 ghost use Rattle.gui_edge.specs.Causes.{Rose, HasCause};
-ghost use Rattle.gui_edge.specs.Sink.{AppendsFront};
+ghost use Rattle.gui_edge.specs.Sink.{AppendsPrefix};
 ghost use Rattle.gui_core.specs.Machines.{machine_of};
 ghost use Rattle.gui_core.specs.Panels.{HasSizes, ShowsScene, Refreshes};
 ghost use Rattle.scene_run.specs.Effects.{Output, PanelKeeps, Keeps, Effects, Breaks, FrameShown, FrameBroke};
@@ -89,7 +89,7 @@ fn make<L: Sink>(gui: &mut Gui, command: Command, number: u32, log: &mut L) -> R
     ensures machine { machine_of gui.new ≡ (step (machine_of gui.old) command).machine }
     ensures ok { OnOk result (Appends (L.state log.old).held (L.state log.new).held (reply_line number (reply_text (step (machine_of gui.old) command).reply))) }
     ensures noted { IfOk result (λ noted. noted ≡ is_noted (step (machine_of gui.old) command).reply) }
-    ensures err { OnErr result (AppendsFront (L.state log.old).held (L.state log.new).held (reply_line number (reply_text (step (machine_of gui.old) command).reply))) }
+    ensures err { OnErr result (AppendsPrefix (L.state log.old).held (L.state log.new).held (reply_line number (reply_text (step (machine_of gui.old) command).reply))) }
     ensures cause { HasCause (L.state log.old).faults (L.state log.new).faults result }
 {
     let reply = gui.apply(&command, log)?;

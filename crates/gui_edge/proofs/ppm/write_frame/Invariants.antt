@@ -8,9 +8,9 @@ use Rattle.gui_edge.proofs.ppm.write_frame.Given as goal
 -- the head and the pixels before the rest are written
 abbrev pub invariant-loop-rest : goal.invariant-loop-rest
 invariant-loop-rest g l = record {
-  front : List Rgb565;
-  whole : front ++ l.rest ≡ l.pixels;
-  written : Appends (g.F.Sink.state l.fn.frames).held (g.F.Sink.state l.frames).held (ppm_head l.width l.height ++ flat_map rgb_bytes front);
+  prefix : List Rgb565;
+  whole : prefix ++ l.rest ≡ l.pixels;
+  written : Appends (g.F.Sink.state l.fn.frames).held (g.F.Sink.state l.frames).held (ppm_head l.width l.height ++ flat_map rgb_bytes prefix);
   later : (g.F.Sink.state l.fn.frames).faults ≤ (g.F.Sink.state l.frames).faults;
 }
 

@@ -24,51 +24,51 @@ returns-then-columns-stride c =
     rw (← c.left-x.ensures, ← c.top-y.ensures, ← c.width-columns.ensures, at, c.if-columns-stride.true, count)
     (shows_whole w y lines c.args.colors.now c.args.shown.now c.copy_from_slice.new.self bottom each c.copy_from_slice.ensures.after)
 
-pub slice_bounds-copy_from_slice-end-in-loop-row : goal.slice_bounds-copy_from_slice-end-in-loop-row
-slice_bounds-copy_from_slice-end-in-loop-row c =
+pub slice_bounds-copy_from_slice-end-in-loop-down : goal.slice_bounds-copy_from_slice-end-in-loop-down
+slice_bounds-copy_from_slice-end-in-loop-down c =
     let w = c.args.width in
     let x = c.left-x.result in
     let y = c.top-y.result in
     let columns = c.width-columns.result in
-    let lines = c.height-row-end.result in
-    let n = c.loop-row.row in
+    let lines = c.height-down-end.result in
+    let n = c.loop-down.down in
     let lt : n < lines = omega arith in
     let right : x + columns ≤ w = rw (c.left-x.ensures, c.width-columns.ensures) c.requires.holds.right in
-    let bottom : (y + lines) * w ≤ length c.args.shown.now = rw (c.top-y.ensures, c.height-row-end.ensures) c.requires.holds.bottom in
-    let room : (y + n) * w + (x + columns) ≤ length c.loop-row.shown = row_room w x columns y n lines (length c.loop-row.shown) right (omega arith) lt in
+    let bottom : (y + lines) * w ≤ length c.args.shown.now = rw (c.top-y.ensures, c.height-down-end.ensures) c.requires.holds.bottom in
+    let room : (y + n) * w + (x + columns) ≤ length c.loop-down.shown = row_room w x columns y n lines (length c.loop-down.shown) right (omega arith) lt in
     search rules
 
-pub slice_bounds-copy_from_slice-end-in-loop-row-2 : goal.slice_bounds-copy_from_slice-end-in-loop-row-2
-slice_bounds-copy_from_slice-end-in-loop-row-2 c =
+pub slice_bounds-copy_from_slice-end-in-loop-down-2 : goal.slice_bounds-copy_from_slice-end-in-loop-down-2
+slice_bounds-copy_from_slice-end-in-loop-down-2 c =
     let columns = c.width-columns.result in
-    let lines = c.height-row-end.result in
-    let n = c.loop-row.row in
+    let lines = c.height-down-end.result in
+    let n = c.loop-down.down in
     let lt : n < lines = omega arith in
-    let each : length c.args.colors.now ≡ columns * lines = rw (c.width-columns.ensures, c.height-row-end.ensures) c.requires.each in
+    let each : length c.args.colors.now ≡ columns * lines = rw (c.width-columns.ensures, c.height-down-end.ensures) c.requires.each in
     let here : n * columns + columns ≤ length c.args.colors.now = part_room columns n lines (length c.args.colors.now) each lt in
     search rules
 
-pub loop-row-preserved : goal.loop-row-preserved
-loop-row-preserved c =
+pub loop-down-preserved : goal.loop-down-preserved
+loop-down-preserved c =
     let w = c.args.width in
     let x = c.left-x.result in
     let y = c.top-y.result in
     let columns = c.width-columns.result in
-    let lines = c.height-row-end.result in
-    let n = c.loop-row.row in
+    let lines = c.height-down-end.result in
+    let n = c.loop-down.down in
     let lt : n < lines = omega arith in
     let right : x + columns ≤ w = rw (c.left-x.ensures, c.width-columns.ensures) c.requires.holds.right in
-    let bottom : (y + lines) * w ≤ length c.args.shown.now = rw (c.top-y.ensures, c.height-row-end.ensures) c.requires.holds.bottom in
-    let each : length c.args.colors.now ≡ columns * lines = rw (c.width-columns.ensures, c.height-row-end.ensures) c.requires.each in
-    let room : (y + n) * w + (x + columns) ≤ length c.loop-row.shown = row_room w x columns y n lines (length c.loop-row.shown) right (omega arith) lt in
+    let bottom : (y + lines) * w ≤ length c.args.shown.now = rw (c.top-y.ensures, c.height-down-end.ensures) c.requires.holds.bottom in
+    let each : length c.args.colors.now ≡ columns * lines = rw (c.width-columns.ensures, c.height-down-end.ensures) c.requires.each in
+    let room : (y + n) * w + (x + columns) ≤ length c.loop-down.shown = row_room w x columns y n lines (length c.loop-down.shown) right (omega arith) lt in
     let here : n * columns + columns ≤ length c.args.colors.now = part_room columns n lines (length c.args.colors.now) each lt in
     let count : ((y + n) * w + x + columns) - ((y + n) * w + x) ≡ columns = omega arith in
     let few : (n * columns + columns) - n * columns ≡ columns = omega arith in
-    rw count (shows_row w x y columns n c.args.colors.now c.args.shown.now c.loop-row.shown c.copy_from_slice-in-loop-row.new.self right room
-    (length-part (n * columns) columns _ c.args.colors.now c.copy_from_slice-in-loop-row.new.self c.copy_from_slice-in-loop-row.ensures.after few here)
-    (λ i lt'. get-part (n * columns) columns _ i c.args.colors.now c.copy_from_slice-in-loop-row.new.self c.copy_from_slice-in-loop-row.ensures.after few here lt') c.loop-row.invariant)
+    rw count (shows_row w x y columns n c.args.colors.now c.args.shown.now c.loop-down.shown c.copy_from_slice-in-loop-down.new.self right room
+    (length-part (n * columns) columns _ c.args.colors.now c.copy_from_slice-in-loop-down.new.self c.copy_from_slice-in-loop-down.ensures.after few here)
+    (λ i lt'. get-part (n * columns) columns _ i c.args.colors.now c.copy_from_slice-in-loop-down.new.self c.copy_from_slice-in-loop-down.ensures.after few here lt') c.loop-down.invariant)
 
 pub returns : goal.returns
 returns c =
-    let last : c.loop-row.row ≡ c.height-row-end.result = omega arith in
-    rw (← c.left-x.ensures, ← c.top-y.ensures, ← c.width-columns.ensures, ← c.height-row-end.ensures, ← last) c.loop-row.invariant
+    let last : c.loop-down.down ≡ c.height-down-end.result = omega arith in
+    rw (← c.left-x.ensures, ← c.top-y.ensures, ← c.width-columns.ensures, ← c.height-down-end.ensures, ← last) c.loop-down.invariant

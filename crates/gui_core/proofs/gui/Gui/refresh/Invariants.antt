@@ -1,12 +1,12 @@
 use Rattle.std.proofs.Common.{◌-◌, ◌≤◌, ◌≡◌}
 use Rattle.gui_core.specs.Machines.{machine_of}
-use Rattle.gui_core.proofs.Rows.{RowsSent}
+use Rattle.gui_core.proofs.Sending.{SentAbove}
 use Rattle.gui_core.proofs.gui.Gui.refresh.Given as goal
 
 abbrev pub invariant-loop-from : goal.invariant-loop-from
 invariant-loop-from g l = record {
   same : machine_of l.self ≡ machine_of l.initial.self;
-  sent : RowsSent (machine_of l.initial.self).scene (g.P.Panel.state l.initial.panel) (g.P.Panel.state l.panel) l.from;
+  sent : SentAbove (machine_of l.initial.self).scene (g.P.Panel.state l.initial.panel) (g.P.Panel.state l.panel) l.from;
   within : l.from ≤ (machine_of l.initial.self).scene.limits.height;
 }
 

@@ -5,7 +5,7 @@ use Rattle.gui_base.specs.Color.{black}
 use Rattle.gui_base.specs.Corners.{rect_of}
 use Rattle.gui_base.specs.Limits.{Bounds}
 use Rattle.gui_edge.specs.Panel.Areas.{box_of}
-use Rattle.gui_core.specs.Panels.{lines_box, lines_rect}
+use Rattle.gui_core.specs.Panels.{slice_box, slice_rect}
 use Rattle.gui_core.proofs.Slices.{scene_slice}
 use Rattle.gui_core.proofs.gui.Gui.show_slice.Goals as goal
 
@@ -13,15 +13,15 @@ pub returns-clause-ok : goal.returns-clause-ok
 returns-clause-ok g c =
     let scene = c.args.self.now.store in
     let from = c.args.from in
-    let lines = c.args.lines in
+    let height = c.args.height in
     let width : c.limits.result.now.width ≡ scene.limits.width = ap (λ (b : Bounds). b.width) c.limits.ensures in
-    let corners = subst (λ (w : ℕ). rect_of c.lines_area-area.result ≡ lines_rect w from lines) width c.lines_area-area.ensures.corners in
-    let place = subst (λ (w : ℕ). box_of c.lines_area-area.result ≡ lines_box w from lines) width c.lines_area-area.ensures.place in
+    let corners = subst (λ (w : ℕ). rect_of c.slice_area-area.result ≡ slice_rect w from height) width c.slice_area-area.ensures.corners in
+    let place = subst (λ (w : ℕ). box_of c.slice_area-area.result ≡ slice_box w from height) width c.slice_area-area.ensures.place in
     let begun = subst (λ (area : Rect). c.begin.new.self.area ≡ area) corners c.begin.ensures.area in
     let none = subst (λ (area : Rect). c.begin.new.self.pixels ≡ replicate (size_of area) black) corners c.begin.ensures.black in
-    let is_slice = scene_slice scene from lines c.begin.new.self c.paint.new.buf begun none c.paint.ensures c.pixels.ensures.whole in
-    on_ok_weaker c.flush.result (λ shown. record {
+    let is_slice = scene_slice scene from height c.begin.new.self c.paint.new.buf begun none c.paint.ensures c.pixels.ensures.whole in
+    on_ok_weaker c.flush.result (λ done. record {
       colors = c.paint.new.buf.pixels;
       are = is_slice;
-      shown = rw (← place, ← c.pixels.ensures.colors) shown;
+      done = rw (← place, ← c.pixels.ensures.colors) done;
     }) c.flush.ensures.ok

@@ -8,10 +8,10 @@ pub fill_area-requires-clause-holds : goal.fill_area-requires-clause-holds
 fill_area-requires-clause-holds g c =
     let width = ap (λ (p : SimState g.row.F.Denot). p.width) c.self.view_is in
     let height = ap (λ (p : SimState g.row.F.Denot). p.height) c.self.view_is in
-    rw c.deref_mut.ensures.value (holds_box (box_of c.args.area) _ _ _ c.self.invariant (rw width c.requires.area.right) (rw height c.requires.area.bottom))
+    rw c.deref_mut.ensures.value (holds_box (box_of c.args.area) _ _ _ c.self.inside.each (rw width c.requires.area.right) (rw height c.requires.area.bottom))
 
 pub write_area-requires-clause-holds : goal.write_area-requires-clause-holds
 write_area-requires-clause-holds g c =
     let width = ap (λ (p : SimState g.row.F.Denot). p.width) c.self.view_is in
     let height = ap (λ (p : SimState g.row.F.Denot). p.height) c.self.view_is in
-    rw c.deref_mut-2.ensures.value (holds_box (box_of c.args.area) _ _ _ c.self.invariant (rw width c.requires.area.right) (rw height c.requires.area.bottom))
+    rw c.deref_mut-2.ensures.value (holds_box (box_of c.args.area) _ _ _ c.self.inside.each (rw width c.requires.area.right) (rw height c.requires.area.bottom))

@@ -5,7 +5,7 @@ use Rattle.gui_edge.proofs.sink.MemSinkSink.put.Goals as goal
 
 pub returns-clause-err : goal.returns-clause-err
 returns-clause-err c = record {
-  front = take c.min-count.result c.args.piece.now;
+  prefix = take c.min-count.result c.args.piece.now;
   rest = drop c.min-count.result c.args.piece.now;
   whole = take-append-drop c.min-count.result c.args.piece.now;
   grows = grind (arith, common_steps);

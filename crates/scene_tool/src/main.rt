@@ -4,6 +4,7 @@
 use gui_edge::{SimPanel, SimPlan, StdSink, StdSource};
 use scene_run::{Status, run_scene};
 use std::alloc::{AllocError, Global};
+use std::io::ErrorKind;
 use std::process::ExitCode;
 use std::{env, io};
 
@@ -41,7 +42,7 @@ fn run(rt: &HostRuntime, words: &[String]) -> Status {
     run_scene(alloc, &texts, &mut source, &mut log, &mut panel)
 }
 
-/// What is said of a run that did not come to the end of its script.
+/// What the program says of a run that did not come to the end of its script.
 fn message(status: Status) -> Option<&'static str> {
     match status {
         Status::Done | Status::Noted => None,
@@ -54,10 +55,18 @@ fn message(status: Status) -> Option<&'static str> {
     }
 }
 
+/// The end of a run whose words could not be read: a word that is not UTF-8 makes a faulty command line.
+fn unread(error: &io::Error) -> Status {
+    match error.kind() {
+        ErrorKind::InvalidData => Status::Usage,
+        _ => Status::NoMemory,
+    }
+}
+
 fn main(rt: HostRuntime) -> ExitCode {
     let status = match words(&rt) {
         Ok(words) => run(&rt, &words),
-        Err(_) => Status::NoMemory,
+        Err(error) => unread(&error),
     };
     if let Some(text) = message(status) {
         let _ = eprintln!(rt; "scene: {text}");

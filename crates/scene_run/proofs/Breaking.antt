@@ -43,10 +43,10 @@ breaks_show log p q n k scene broke = record {
 -- the log did not take the line of a reply whole
 pub breaks_reply : (a b : SinkState) (p : PanelState) (n k : ℕ) (text : List ℕ) (refused : Bool) → AppendsPrefix a.held b.held (reply_line n text) → a.faults ≤ b.faults →
     Breaks (output a p) (output b p) n k (Replied text refused)
-breaks_reply a b p n k text refused front later = record {
+breaks_reply a b p n k text refused prefix later = record {
   last = [];
   one = omega arith;
-  log = subst (AppendsPrefix a.held b.held) (sym (append-nil (reply_line n text))) front;
+  log = subst (AppendsPrefix a.held b.held) (sym (append-nil (reply_line n text))) prefix;
   frames = λ t. AppendsPrefix-nothing p.frames [];
   faults = omega arith;
   keeps = record { panel = PanelKeeps-self p; log_faults = later };
@@ -55,19 +55,19 @@ breaks_reply a b p n k text refused front later = record {
 -- nor that of a frame
 pub breaks_frame : (a b : SinkState) (p q : PanelState) (n k : ℕ) (scene : Scene) (outcome : Outcome) → FrameShown p q scene outcome → AppendsPrefix a.held b.held (frame_line n k outcome) → a.faults ≤ b.faults →
     Breaks (output a p) (output b q) n k (Framed scene)
-breaks_frame a b p q n k scene Done shown front later = record {
+breaks_frame a b p q n k scene Done shown prefix later = record {
   last = Done ∷ [];
   one = omega arith;
-  log = subst (AppendsPrefix a.held b.held) (sym (append-nil (frame_line n k Done))) front;
-  frames = λ t. record { front = frame_file scene; rest = []; whole = append-nil (frame_file scene); grows = subst (Appends p.frames q.frames) (append-nil (frame_file scene)) (shown.frames t) };
+  log = subst (AppendsPrefix a.held b.held) (sym (append-nil (frame_line n k Done))) prefix;
+  frames = λ t. record { prefix = frame_file scene; rest = []; whole = append-nil (frame_file scene); grows = subst (Appends p.frames q.frames) (append-nil (frame_file scene)) (shown.frames t) };
   faults = shown.faults;
   keeps = record { panel = shown.keeps; log_faults = later };
 }
-breaks_frame a b p q n k scene Fault shown front later = record {
+breaks_frame a b p q n k scene Fault shown prefix later = record {
   last = Fault ∷ [];
   one = omega arith;
-  log = subst (AppendsPrefix a.held b.held) (sym (append-nil (frame_line n k Fault))) front;
-  frames = λ t. record { front = []; rest = frame_file scene; whole = refl; grows = shown.frames t };
+  log = subst (AppendsPrefix a.held b.held) (sym (append-nil (frame_line n k Fault))) prefix;
+  frames = λ t. record { prefix = []; rest = frame_file scene; whole = refl; grows = shown.frames t };
   faults = shown.faults;
   keeps = record { panel = shown.keeps; log_faults = later };
 }
@@ -88,14 +88,14 @@ Keeps-self o = record { panel = PanelKeeps-self o.panel; log_faults = omega arit
 no_lines : (m : Machine) (command : Command) → (step m command).lines ≡ []
 no_lines m (CommandOf change) = refl
 
-front_of_nothing : (front rest : List ℕ) → front ++ rest ≡ [] → front ≡ []
-front_of_nothing [] rest e = refl
-front_of_nothing (b ∷ front) rest e = cc
+prefix_of_nothing : (prefix rest : List ℕ) → prefix ++ rest ≡ [] → prefix ≡ []
+prefix_of_nothing [] rest e = refl
+prefix_of_nothing (b ∷ prefix) rest e = cc
 
-pub front_before : (m : Machine) (command : Command) (a b : Option (List ℕ)) (text : List ℕ) → AppendsPrefix a b (step m command).lines → AppendsPrefix a b text
-front_before m command a b text cut = record {
-  front = [];
+pub prefix_before : (m : Machine) (command : Command) (a b : Option (List ℕ)) (text : List ℕ) → AppendsPrefix a b (step m command).lines → AppendsPrefix a b text
+prefix_before m command a b text cut = record {
+  prefix = [];
   rest = text;
   whole = refl;
-  grows = subst (Appends a b) (front_of_nothing cut.front cut.rest (cut.whole ∙ no_lines m command)) cut.grows;
+  grows = subst (Appends a b) (prefix_of_nothing cut.prefix cut.rest (cut.whole ∙ no_lines m command)) cut.grows;
 }

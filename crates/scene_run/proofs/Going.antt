@@ -9,9 +9,9 @@ use Rattle.run_defs.specs.Machine.{Machine}
 use Rattle.run_defs.specs.Script.{Said}
 use Rattle.run_defs.specs.Run.{Entry, entry, after, entries, after_all, noted, is_refused, fault_count, last_done}
 use Rattle.run_defs.proofs.Runs.{after_all-limits, entries-append, after_all-append, length-entries, log_text-append, frame_count-append, frame_files-append, fault_count-append, last_done-append, noted-append}
-use Rattle.gui_edge.specs.Panel.{PanelState}
+use Rattle.gui_edge.specs.Panel.{PanelState, HasSizes}
 use Rattle.gui_core.specs.Machines.{machine_of}
-use Rattle.gui_core.specs.Panels.{ShowsScene, HasSizes}
+use Rattle.gui_core.specs.Panels.{ShowsScene}
 use Rattle.scene_run.specs.Effects.{Output, Keeps, Effects}
 use Rattle.scene_run.specs.Reached.{Answered}
 use Rattle.scene_run.specs.declared.runner.Runner.{Runner}

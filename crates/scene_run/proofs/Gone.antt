@@ -11,11 +11,11 @@ use Rattle.run_defs.specs.Run.{entries}
 use Rattle.run_defs.specs.Script.{Whole, TooLong as Long, says, says_cut, rest_of, open_says, max_script}
 use Rattle.gui_edge.specs.Source.{SourceState}
 use Rattle.gui_core.specs.Machines.{machine_of}
-use Rattle.gui_core.specs.Panels.{HasSizes}
+use Rattle.gui_edge.specs.Panel.{HasSizes}
 use Rattle.scene_script.specs.Cutting.{begun}
 use Rattle.scene_run.specs.Effects.{Output, Effects}
 use Rattle.scene_run.specs.Reached.{Halted, Taken, Takes, Fails, LastEnds}
-use Rattle.scene_run.specs.Headline.{Outside, output_of, end_of, stood}
+use Rattle.scene_run.specs.Headline.{Outside, output_of, end_of, end_reached}
 use Rattle.scene_run.specs.Reads.{Reads, ReadingEnds}
 use Rattle.scene_run.specs.declared.runner.Runner.{Runner}
 use Rattle.scene_run.specs.declared.status.Status.{Status}
@@ -91,10 +91,10 @@ whole_longer first start now taken None h = halted_on first start now (says_cut 
 whole_longer first start now taken (Some []) h = halted_on first start now (says_cut taken) (open_says (rest_of taken)) h
 whole_longer first start now taken (Some (b ∷ bytes)) h = h
 
-stood_by : (first : Machine) (start now : Output) (taken : List ℕ) (left : Option (List ℕ)) (t : Bool) → nat_lt max_script (length taken) ≡ t →
-    (t ≡ true → Halted first start now (says Long taken)) → (t ≡ false → Halted first start now (says_cut taken)) → Halted first start now (says (stood left taken) taken)
-stood_by first start now taken left true e h k = rw e (h refl)
-stood_by first start now taken left false e h k = rw e (whole_longer first start now taken left (k refl))
+ended_by : (first : Machine) (start now : Output) (taken : List ℕ) (left : Option (List ℕ)) (t : Bool) → nat_lt max_script (length taken) ≡ t →
+    (t ≡ true → Halted first start now (says Long taken)) → (t ≡ false → Halted first start now (says_cut taken)) → Halted first start now (says (end_reached left taken) taken)
+ended_by first start now taken left true e h k = rw e (h refl)
+ended_by first start now taken left false e h k = rw e (whole_longer first start now taken left (k refl))
 
 -- a write failed
 pub gone_broken : (first : Machine) (old mid : Outside) (source : SourceState) (output : Output) (r : Runner) (room : ℕ) (piece : List ℕ) →
@@ -106,7 +106,7 @@ gone_broken first old mid source output r room piece h consumes fails =
     record {
       taken = h.taken ++ piece;
       source = Consumes-more old.source.left mid.source.left source.left h.taken piece h.source consumes;
-      ends = stood_by first (output_of old) output (h.taken ++ piece) source.left (nat_lt max_script (length (h.taken ++ piece))) refl
+      ends = ended_by first (output_of old) output (h.taken ++ piece) source.left (nat_lt max_script (length (h.taken ++ piece))) refl
           (λ long.
           let past : room ≤ length piece = grind (arith, nat_tests, many, h.many) in
           let cut : min (length piece) room ≡ room = omega arith in
@@ -136,13 +136,13 @@ end_is : (left : Option (List ℕ)) → IsAtEnd left → end_of left ≡ Whole
 end_is None e = refl
 end_is (Some bs) e = rw e refl
 
-stood_whole : (left : Option (List ℕ)) (taken : List ℕ) → length taken ≤ max_script → IsAtEnd left → stood left taken ≡ Whole
-stood_whole left taken few e = let t : nat_lt max_script (length taken) ≡ false = grind (arith, nat_tests) in rw t (end_is left e)
+end_reached-whole : (left : Option (List ℕ)) (taken : List ℕ) → length taken ≤ max_script → IsAtEnd left → end_reached left taken ≡ Whole
+end_reached-whole left taken few e = let t : nat_lt max_script (length taken) ≡ false = grind (arith, nat_tests) in rw t (end_is left e)
 
 last_ends : (first : Machine) (old new : Outside) (taken : List ℕ) (status : Status) → length taken ≤ max_script → IsAtEnd new.source.left → LastEnds first (output_of old) (output_of new) taken status → ReadingEnds first old new taken status
 last_ends first old new taken Done few end h = record { end = end; small = few; last = h }
 last_ends first old new taken Noted few end h = record { end = end; small = few; last = h }
-last_ends first old new taken WriteFault few end h = rw (stood_whole new.source.left taken few end) h
+last_ends first old new taken WriteFault few end h = rw (end_reached-whole new.source.left taken few end) h
 last_ends first old new taken Usage few end h = h
 last_ends first old new taken ReadFault few end h = elim h [ ]
 last_ends first old new taken PanelFault few end h = h

@@ -9,7 +9,7 @@ use Rattle.run_defs.specs.Run.{Entry, Silent, Replied, Framed, entry, entries, a
 use Rattle.run_defs.proofs.Runs.{entries-append, log_text-append, frame_count-append, next_frame-append, fault_count-append}
 use Rattle.run_defs.proofs.Fronts.{log_text-longer, framed-append, done_scenes-short, next_file-longer, log_text-framed}
 use Rattle.gui_core.specs.Machines.{machine_of}
-use Rattle.gui_core.specs.Panels.{HasSizes}
+use Rattle.gui_edge.specs.Panel.{HasSizes}
 use Rattle.scene_run.specs.Effects.{Output, Effects, Breaks}
 use Rattle.scene_run.specs.Reached.{Answered, Halted}
 use Rattle.scene_run.specs.declared.runner.Runner.{Runner}
@@ -30,14 +30,14 @@ halted_entries first start old new lines more es o e n k all h hn hk b sizes =
       last = b.last;
       one = omega (arith, b.one, at_most_one e);
       each = rw all (omega (arith, length-append o b.last, frame_count-append es (e ∷ []), h.each, b.one));
-      grown = log_text 1 1 es o ++ b.log.front;
+      grown = log_text 1 1 es o ++ b.log.prefix;
       rest = b.log.rest;
-      front = rw all (append_assoc (log_text 1 1 es o) b.log.front b.log.rest ∙ (ap (λ (t : List ℕ). log_text 1 1 es o ++ t) b.log.whole ∙ sym text));
+      is_prefix = rw all (append_assoc (log_text 1 1 es o) b.log.prefix b.log.rest ∙ (ap (λ (t : List ℕ). log_text 1 1 es o ++ t) b.log.whole ∙ sym text));
       log = Appends-more start.log.held old.log.held new.log.held _ _ h.log b.log.grows;
-      later = tail.0 ++ b.log.front;
-      whole = rw (all, framed-append es (e ∷ []) o few) (sym (append_assoc (log_text 1 1 (framed es o) o) tail.0 b.log.front) ∙ ap (λ (t : List ℕ). t ++ b.log.front) (sym tail.1));
+      later = tail.0 ++ b.log.prefix;
+      whole = rw (all, framed-append es (e ∷ []) o few) (sym (append_assoc (log_text 1 1 (framed es o) o) tail.0 b.log.prefix) ∙ ap (λ (t : List ℕ). t ++ b.log.prefix) (sym tail.1));
       frames = λ t. let f = b.frames (h.keeps.panel.told t) in record {
-        further = f.front;
+        further = f.prefix;
         unwritten = f.rest;
         next = rw all (f.whole ∙ sym (ap (λ (q : List Outcome). next_file (next_frame (es ++ e ∷ []) q)) (sym (append-nil o)) ∙ ap next_file (next_frame-append es (e ∷ []) o [] h.each)));
         grows = rw (all, done_scenes-short es (e ∷ []) o few) (Appends-more start.panel.frames old.panel.frames new.panel.frames _ _ (h.frames t) f.grows);
@@ -73,7 +73,7 @@ halted_on first start now lines more h =
       each = rw all (omega (arith, frame_count-append es fs, h.each));
       grown = h.grown;
       rest = h.rest ++ longer.0;
-      front = rw all (sym (append_assoc h.grown h.rest longer.0) ∙ (ap (λ (t : List ℕ). t ++ longer.0) h.front ∙ sym longer.1));
+      is_prefix = rw all (sym (append_assoc h.grown h.rest longer.0) ∙ (ap (λ (t : List ℕ). t ++ longer.0) h.is_prefix ∙ sym longer.1));
       log = h.log;
       later = h.later;
       whole = rw (all, framed-append es fs h.told few) h.whole;

@@ -13,8 +13,7 @@ use Rattle.run_defs.specs.Run.{entries, frame_files, done_scenes}
 use Rattle.gui_edge.specs.Told.{Told}
 use Rattle.gui_edge.specs.Source.{SourceState}
 use Rattle.gui_edge.specs.Sink.{SinkState}
-use Rattle.gui_edge.specs.Panel.{PanelState, Opens}
-use Rattle.gui_core.specs.Panels.{HasSizes}
+use Rattle.gui_edge.specs.Panel.{PanelState, Opens, HasSizes}
 use Rattle.scene_run.specs.Effects.{Effects}
 use Rattle.scene_run.specs.Reached.{Halted, WritesFrames}
 use Rattle.scene_run.specs.Headline.{Outside, Answers, Ended, Runs, Headline, output_of}
@@ -28,12 +27,6 @@ told_on None b R t h = cc
 told_on (Some old) None R t h = elim t [ ]
 told_on (Some old) (Some new) R t h = refl
 
-long_on : (n : ℕ) (a b : Option (List Rgb565)) → Told a b (λ before after. length after ≡ n) → IfSome b (λ colors. length colors ≡ n)
-long_on n None None t = tt
-long_on n None (Some new) t = elim t [ ]
-long_on n (Some old) None t = elim t [ ]
-long_on n (Some old) (Some new) t = t
-
 -- a panel that was just opened has the sizes
 pub opened_sizes : (old new : PanelState) (limits : Bounds) → Opens old new limits.width limits.height (limits.width * limits.lines) → 0 < limits.width * limits.lines → HasSizes new limits
 opened_sizes old new limits opens some = record {
@@ -41,7 +34,6 @@ opened_sizes old new limits opens some = record {
   height_is = opens.height_is;
   limit_is = opens.limit_is;
   opened = omega (arith, opens.limit_is);
-  whole = long_on (limits.width * limits.height) old.shows new.shows opens.shows;
 }
 
 -- the outside before the opening, in place of that after it
@@ -69,7 +61,7 @@ halted limits o panel new lines opens h = record {
   each = h.each;
   grown = h.grown;
   rest = h.rest;
-  front = h.front;
+  is_prefix = h.is_prefix;
   log = h.log;
   later = h.later;
   whole = h.whole;

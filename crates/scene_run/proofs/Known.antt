@@ -26,6 +26,6 @@ pub Consumes-nothing : (a : Option (List ℕ)) → Consumes a a []
 Consumes-nothing None = tt
 Consumes-nothing (Some a) = refl
 
--- nothing is a front of anything
+-- nothing is a prefix of anything
 pub AppendsPrefix-nothing : (a : Option (List ℕ)) (bytes : List ℕ) → AppendsPrefix a a bytes
-AppendsPrefix-nothing a bytes = record { front = []; rest = bytes; whole = refl; grows = Appends-nothing a }
+AppendsPrefix-nothing a bytes = record { prefix = []; rest = bytes; whole = refl; grows = Appends-nothing a }

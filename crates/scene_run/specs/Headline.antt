@@ -1,20 +1,23 @@
 -- What a run of a script comes to.
-use Rattle.std.specs.Prelude.{◌≡◌, ℕ, Bool, true, false, ◌+◌, ◌≤◌, ◌<◌, List, [], ◌∷◌, length, IsSome, IfSome, Some, None, nat_lt, if◌then◌else◌, ⊤}
+use Rattle.std.specs.Prelude.{◌≡◌, ℕ, Bool, true, false, ◌+◌, ◌≤◌, ◌<◌, List, [], ◌∷◌, length, IsSome, IfSome}
+use Rattle.std.specs.Prelude.{Some, None, nat_lt, if◌then◌else◌, ⊤}
 use Rattle.std.specs.declared.option.Option.{Option}
 use Rattle.std.specs.Io.KnownBytes.{Appends, Consumes, IsAtEnd}
 use Rattle.gui_base.specs.Limits.{Bounds}
 use Rattle.run_defs.specs.declared.Outcome.{Outcome}
 use Rattle.run_defs.specs.Machine.{first_machine}
 use Rattle.run_defs.specs.Script.{Said, End, Whole, Cut, TooLong as Long, says, max_script}
-use Rattle.run_defs.specs.Run.{entries, noted, frame_count, log_text, frame_files, done_scenes, last_done, fault_count}
+use Rattle.run_defs.specs.Run.{entries, noted, frame_count, fault_count, log_text, frame_files, done_scenes}
+use Rattle.run_defs.specs.Run.{last_done}
 use Rattle.gui_edge.specs.Source.{SourceState}
 use Rattle.gui_edge.specs.Sink.{SinkState}
-use Rattle.gui_edge.specs.Panel.{PanelState}
-use Rattle.gui_core.specs.Panels.{HasSizes, ShowsScene}
+use Rattle.gui_edge.specs.Panel.{PanelState, HasSizes}
+use Rattle.gui_core.specs.Panels.{ShowsScene}
 use Rattle.scene_run.specs.Effects.{Output}
 use Rattle.scene_run.specs.Reached.{Halted}
 use Rattle.scene_run.specs.declared.status.Status.{Status}
-use Rattle.scene_run.specs.declared.status.Status.TheVariants.{Done, Noted, Usage, ReadFault, WriteFault, PanelFault, NoMemory, TooLong}
+use Rattle.scene_run.specs.declared.status.Status.TheVariants.{Done, Noted, Usage, ReadFault, WriteFault}
+use Rattle.scene_run.specs.declared.status.Status.TheVariants.{PanelFault, NoMemory, TooLong}
 
 -- what a run reads and writes
 pub record Outside : Type 0 where
@@ -22,46 +25,58 @@ pub record Outside : Type 0 where
   pub log : SinkState
   pub panel : PanelState
 
+abbrev pub outside : SourceState → SinkState → PanelState → Outside
+outside source log panel = record { source = source; log = log; panel = panel }
+
 abbrev pub output_of : Outside → Output
 output_of o = record { log = o.log; panel = o.panel }
 
--- These lines were answered, each with its reply, and each frame with its outcome.
+-- These lines were answered, each with its reply, and each frame line with its outcome.
 pub record Answers (limits : Bounds) (old new : Outside) (lines : List Said) : Type 0 where
   pub outcomes : List Outcome
   pub each : length outcomes ≡ frame_count (entries (first_machine limits) lines)
   -- the log grew by the text of the lines along these outcomes
   pub log : Appends old.log.held new.log.held (log_text 1 1 (entries (first_machine limits) lines) outcomes)
-  -- the frames grew by the pictures of the scenes at the frame lines that were done, in order
-  pub frames : IsSome old.panel.shows → Appends old.panel.frames new.panel.frames (frame_files (done_scenes (entries (first_machine limits) lines) outcomes))
-  -- where the last reply is that of a frame that was done, the panel shows its picture
+  -- the frames grew by the pictures of the scenes at the done frame lines, in order
+  pub frames : IsSome old.panel.shows → Appends old.panel.frames new.panel.frames
+      (frame_files (done_scenes (entries (first_machine limits) lines) outcomes))
+  -- where the last reply is that of a done frame, the panel shows its picture
   pub shown : IfSome (last_done None (entries (first_machine limits) lines) outcomes) (ShowsScene new.panel)
-  -- the panel is opened with the limits' sizes, and for slices of their lines
+  -- the panel is opened with the limits' sizes
   pub slices : HasSizes new.panel limits
   -- there are no more fault lines than failed flushes
   pub faults : old.panel.flush_faults + fault_count outcomes ≤ new.panel.flush_faults
 
--- the same, with a line that was refused or a frame that faulted, or with none
-pub record AnswersNoting (limits : Bounds) (old new : Outside) (lines : List Said) (notes : Bool) : Type 0 where
+-- the same, and `notes` tells whether a line was refused or a frame faulted
+pub record AnswersNoting (limits : Bounds) (old new : Outside) (lines : List Said)
+    (notes : Bool) : Type 0 where
   pub answers : Answers limits old new lines
   pub status : noted (entries (first_machine limits) lines) answers.outcomes ≡ notes
 
--- where the reading stands by what is left: at the end of the script, or before it. Where the source does not tell, it may stand at the end.
+-- where the reading is by what is left: at the end of the script, or before it. Where the source does not
+-- tell, it counts as having come to the end.
 abbrev pub end_of : Option (List ℕ) → End
 end_of None = Whole
 end_of (Some []) = Whole
 end_of (Some (b ∷ bytes)) = Cut
 
--- where the reading of the script stood when a write failed: past the longest script, at its end, or before it
-abbrev pub stood : Option (List ℕ) → List ℕ → End
-stood left taken = if nat_lt max_script (length taken) then Long else end_of left
+-- where the reading was when a write failed: past the longest script, at the script's end, or before it
+abbrev pub end_reached : Option (List ℕ) → List ℕ → End
+end_reached left taken = if nat_lt max_script (length taken) then Long else end_of left
 
--- what is so of the bytes that were taken, by how the run ended
+-- what the bytes that were taken came to, by how the run ended
 abbrev pub Ended : Bounds → Outside → Outside → List ℕ → Status → Type 0
-Ended limits old new taken Done = IsAtEnd new.source.left × (length taken ≤ max_script) × AnswersNoting limits old new (says Whole taken) false
-Ended limits old new taken Noted = IsAtEnd new.source.left × (length taken ≤ max_script) × AnswersNoting limits old new (says Whole taken) true
+Ended limits old new taken Done =
+    IsAtEnd new.source.left × (length taken ≤ max_script)
+    × AnswersNoting limits old new (says Whole taken) false
+Ended limits old new taken Noted =
+    IsAtEnd new.source.left × (length taken ≤ max_script)
+    × AnswersNoting limits old new (says Whole taken) true
 Ended limits old new taken ReadFault = (length taken ≤ max_script) × Answers limits old new (says Cut taken)
 Ended limits old new taken TooLong = (max_script < length taken) × Answers limits old new (says Long taken)
-Ended limits old new taken WriteFault = Halted (first_machine limits) (output_of old) (output_of new) (says (stood new.source.left taken) taken)
+Ended limits old new taken WriteFault =
+    Halted (first_machine limits) (output_of old) (output_of new)
+    (says (end_reached new.source.left taken) taken)
 Ended limits old new taken Usage = ⊥
 Ended limits old new taken PanelFault = ⊥
 Ended limits old new taken NoMemory = ⊥
@@ -72,7 +87,8 @@ pub record Runs (limits : Bounds) (old new : Outside) (status : Status) : Type 0
   pub source : Consumes old.source.left new.source.left taken
   pub ended : Ended limits old new taken status
 
--- The headline: with limits, and once the machine and the panel are opened, the script is read and answered so.
+-- The headline: where the words have limits, and the machine and the panel could be opened, the script is
+-- read and answered so.
 abbrev pub Headline : Option Bounds → Outside → Outside → Status → Type 0
 Headline None old new status = ⊤
 Headline (Some limits) old new Done = Runs limits old new Done

@@ -10,8 +10,9 @@ ghost use Rattle.std.specs.Io.KnownBytes.{Appends};
 ghost use Rattle.gui_edge.specs.Causes.{Rose, HasCause};
 ghost use Rattle.gui_edge.specs.Sink.{AppendsPrefix};
 ghost use Rattle.gui_core.specs.Machines.{machine_of};
-ghost use Rattle.gui_core.specs.Panels.{HasSizes, ShowsScene, Refreshes};
-ghost use Rattle.scene_run.specs.Effects.{Output, PanelKeeps, Keeps, Effects, Breaks, FrameShown, FrameBroke};
+ghost use Rattle.gui_edge.specs.Panel.{HasSizes};
+ghost use Rattle.gui_core.specs.Panels.{ShowsScene, Refreshes};
+ghost use Rattle.scene_run.specs.Effects.{output, PanelKeeps, Keeps, Effects, Breaks, FrameShown, FrameBroke};
 
 use arrayvec::ArrayVec;
 use gui_base::Steps;
@@ -87,9 +88,11 @@ fn is_noted(reply: Reply) -> bool
 fn make<L: Sink>(gui: &mut Gui, command: Command, number: u32, log: &mut L) -> Result<bool, Failed>
     requires { IsCommand command }
     ensures machine { machine_of gui.new ≡ (step (machine_of gui.old) command).machine }
-    ensures ok { OnOk result (Appends (L.state log.old).held (L.state log.new).held (reply_line number (reply_text (step (machine_of gui.old) command).reply))) }
+    ensures ok { OnOk result (Appends (L.state log.old).held (L.state log.new).held
+        (reply_line number (reply_text (step (machine_of gui.old) command).reply))) }
     ensures noted { IfOk result (λ noted. noted ≡ is_noted (step (machine_of gui.old) command).reply) }
-    ensures err { OnErr result (AppendsPrefix (L.state log.old).held (L.state log.new).held (reply_line number (reply_text (step (machine_of gui.old) command).reply))) }
+    ensures err { OnErr result (AppendsPrefix (L.state log.old).held (L.state log.new).held
+        (reply_line number (reply_text (step (machine_of gui.old) command).reply))) }
     ensures cause { HasCause (L.state log.old).faults (L.state log.new).faults result }
 {
     let reply = gui.apply(&command, log)?;
@@ -117,8 +120,10 @@ fn show<P: Panel>(gui: &mut Gui, panel: &mut P) -> Result<Outcome, Failed>
     ensures machine { machine_of gui.new ≡ machine_of gui.old }
     ensures sizes { HasSizes (P.state panel.new) (machine_of gui.old).scene.limits }
     ensures keeps { PanelKeeps (P.state panel.old) (P.state panel.new) }
-    ensures ok { IfOk result (λ outcome. FrameShown (P.state panel.old) (P.state panel.new) (machine_of gui.old).scene outcome) }
-    ensures err { OnErr result (FrameBroke (P.state panel.old) (P.state panel.new) (machine_of gui.old).scene) }
+    ensures ok { IfOk result
+        (λ outcome. FrameShown (P.state panel.old) (P.state panel.new) (machine_of gui.old).scene outcome) }
+    ensures err { OnErr result
+        (FrameBroke (P.state panel.old) (P.state panel.new) (machine_of gui.old).scene) }
 {
     match refresh_counted::<P, Brand>(gui, panel, Blank::new(1)) {
         Refreshed::Done => {
@@ -149,13 +154,14 @@ pub fn answer<L: Sink, P: Panel>(
     requires in_range { IsInRange said }
     ensures machine { machine_of gui.new ≡ after (machine_of gui.old) said }
     ensures sizes { HasSizes (P.state panel.new) (machine_of gui.old).scene.limits }
-    ensures keeps { Keeps (record { log = L.state log.old; panel = P.state panel.old }) (record { log = L.state log.new; panel = P.state panel.new }) }
+    ensures keeps { Keeps (output (L.state log.old) (P.state panel.old))
+        (output (L.state log.new) (P.state panel.new)) }
     ensures ok { IfOk result (λ end. (seen : Option Scene) → IfSome seen (ShowsScene (P.state panel.old)) →
-        Effects (record { log = L.state log.old; panel = P.state panel.old }) (record { log = L.state log.new; panel = P.state panel.new })
+        Effects (output (L.state log.old) (P.state panel.old)) (output (L.state log.new) (P.state panel.new))
         number frame seen (entry (machine_of gui.old) said ∷ []) (option_to_list end.outcome)) }
     ensures refused { IfOk result (λ end. end.refused ≡ is_refused (entry (machine_of gui.old) said)) }
-    ensures err { OnErr result (Breaks (record { log = L.state log.old; panel = P.state panel.old }) (record { log = L.state log.new; panel = P.state panel.new })
-        number frame (entry (machine_of gui.old) said)) }
+    ensures err { OnErr result (Breaks (output (L.state log.old) (P.state panel.old))
+        (output (L.state log.new) (P.state panel.new)) number frame (entry (machine_of gui.old) said)) }
     ensures cause { OnErr result (Rose (L.state log.old).faults (L.state log.new).faults
         ⊎ Rose (P.state panel.old).present_faults (P.state panel.new).present_faults) }
 {

@@ -2,8 +2,8 @@
 ghost use Rattle.std.specs.Prelude.{◌≡◌, ◌⊎◌};
 ghost use Rattle.gui_edge.specs.Causes.{Rose};
 ghost use Rattle.gui_core.specs.Machines.{machine_of};
-ghost use Rattle.gui_core.specs.Panels.{HasSizes};
-ghost use Rattle.scene_run.specs.Headline.{Outside};
+ghost use Rattle.gui_edge.specs.Panel.{HasSizes};
+ghost use Rattle.scene_run.specs.Headline.{outside};
 ghost use Rattle.scene_run.specs.Reads.{Reads};
 
 use crate::runner::Runner;
@@ -22,9 +22,11 @@ pub fn read_script<S: Source, L: Sink, P: Panel>(
     panel: &mut P,
 ) -> Status
     requires { HasSizes (P.state panel.old) (machine_of gui).scene.limits }
-    ensures reads { Reads (machine_of gui) (record { source = S.state source.old; log = L.state log.old; panel = P.state panel.old })
-        (record { source = S.state source.new; log = L.state log.new; panel = P.state panel.new }) result }
-    ensures read_fault { result ≡ Status.ReadFault → Rose (S.state source.old).faults (S.state source.new).faults }
+    ensures reads { Reads (machine_of gui)
+        (outside (S.state source.old) (L.state log.old) (P.state panel.old))
+        (outside (S.state source.new) (L.state log.new) (P.state panel.new)) result }
+    ensures read_fault { result ≡ Status.ReadFault →
+        Rose (S.state source.old).faults (S.state source.new).faults }
     ensures write_fault { result ≡ Status.WriteFault → Rose (L.state log.old).faults (L.state log.new).faults
         ⊎ Rose (P.state panel.old).present_faults (P.state panel.new).present_faults }
 {

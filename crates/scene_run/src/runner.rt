@@ -1,5 +1,6 @@
-//! A run under way: the machine, what is left of a line, and the numbers of the next line and the next frame.
-ghost use Rattle.std.specs.Prelude.{◌≡◌, ◌≢◌, ◌++◌, ◌+◌, ◌^◌, ◌<◌, ◌≤◌, ◌∷◌, [], ◌⊎◌, ◌||◌, ℕ, List, length, OnOk, OnErr, IsSome, Some, false, nat_lt};
+//! A run under way.
+ghost use Rattle.std.specs.Prelude.{◌≡◌, ◌≢◌, ◌++◌, ◌+◌, ◌^◌, ◌<◌, ◌≤◌, ◌∷◌, [], ◌⊎◌, ◌||◌, ℕ, List};
+ghost use Rattle.std.specs.Prelude.{length, OnOk, OnErr, Some, false, nat_lt};
 ghost use Rattle.std.specs.Option.{option_to_list};
 ghost use Rattle.run_defs.specs.Machine.{Machine};
 ghost use Rattle.run_defs.specs.Laws.{IsInRange};
@@ -7,10 +8,11 @@ ghost use Rattle.run_defs.specs.Script.{Said};
 ghost use Rattle.run_defs.specs.Run.{fault_count};
 ghost use Rattle.gui_edge.specs.Causes.{Rose};
 ghost use Rattle.gui_core.specs.Machines.{machine_of};
-ghost use Rattle.gui_core.specs.Panels.{HasSizes};
+ghost use Rattle.gui_edge.specs.Panel.{HasSizes};
 ghost use Rattle.scene_script.specs.Cutting.{begun, cut_says};
-ghost use Rattle.scene_run.specs.Effects.{Output, Keeps};
-ghost use Rattle.scene_run.specs.Reached.{Answered, Halted, Taken, Takes, Fails, Finishes, FailsLast, LastEnds};
+ghost use Rattle.scene_run.specs.Effects.{Output, output, Keeps};
+ghost use Rattle.scene_run.specs.Reached.{Answered, Halted, Taken, Takes, Fails};
+ghost use Rattle.scene_run.specs.Reached.{Finishes, FailsLast, LastEnds};
 
 use crate::answer::{LineEnd, answer};
 use crate::status::Status;
@@ -19,7 +21,8 @@ use gui_edge::{Failed, Panel, Sink};
 use run_defs::Outcome;
 use scene_script::{Cut, Cutter, Line, LineFault, parse_line};
 
-/// The machine, the line that is read, the numbers of the next line and the next frame, and whether a line was refused or a frame faulted.
+/// The machine, the line that is read, the numbers of the next line and the next frame, and whether a line
+/// was refused or a frame faulted.
 #[derive(Drop)]
 pub struct Runner {
     pub gui: Gui,
@@ -30,7 +33,7 @@ pub struct Runner {
 }
 
 impl Runner {
-    /// Nothing is read yet.
+    /// A run of which nothing is read yet.
     pub fn new(gui: Gui) -> Runner
         ensures gui { result.gui ≡ gui }
         ensures line { begun result.cutter ≡ Some [] }
@@ -55,7 +58,8 @@ impl Runner {
         ensures line { self.new.cutter ≡ self.old.cutter }
         ensures number { self.new.number ≡ self.old.number + 1 }
         ensures frame { self.new.frame ≡ self.old.frame + length (option_to_list end.outcome) }
-        ensures noted { self.new.noted ≡ (self.old.noted || (end.refused || nat_lt 0 (fault_count (option_to_list end.outcome)))) }
+        ensures noted { self.new.noted
+            ≡ (self.old.noted || (end.refused || nat_lt 0 (fault_count (option_to_list end.outcome)))) }
     {
         self.number += 1;
         if end.outcome.is_some() {
@@ -76,15 +80,17 @@ impl Runner {
         requires number { self.old.number + 1 < 2 ^ 32 }
         requires frame { self.old.frame + 1 < 2 ^ 32 }
         ensures ok { OnOk result ((first : Machine) (start : Output) (lines : List Said) →
-            Answered first start (record { log = L.state log.old; panel = P.state panel.old }) self.old lines →
-            Answered first start (record { log = L.state log.new; panel = P.state panel.new }) self.new (lines ++ said ∷ [])) }
+            Answered first start (output (L.state log.old) (P.state panel.old)) self.old lines →
+            Answered first start (output (L.state log.new) (P.state panel.new)) self.new
+            (lines ++ said ∷ [])) }
         ensures err { OnErr result ((first : Machine) (start : Output) (lines : List Said) →
-            Answered first start (record { log = L.state log.old; panel = P.state panel.old }) self.old lines →
-            Halted first start (record { log = L.state log.new; panel = P.state panel.new }) (lines ++ said ∷ [])) }
+            Answered first start (output (L.state log.old) (P.state panel.old)) self.old lines →
+            Halted first start (output (L.state log.new) (P.state panel.new)) (lines ++ said ∷ [])) }
         ensures cause { OnErr result (Rose (L.state log.old).faults (L.state log.new).faults
             ⊎ Rose (P.state panel.old).present_faults (P.state panel.new).present_faults) }
         ensures sizes { HasSizes (P.state panel.new) (machine_of self.new.gui).scene.limits }
-        ensures keeps { Keeps (record { log = L.state log.old; panel = P.state panel.old }) (record { log = L.state log.new; panel = P.state panel.new }) }
+        ensures keeps { Keeps (output (L.state log.old) (P.state panel.old))
+            (output (L.state log.new) (P.state panel.new)) }
         ensures line { self.new.cutter ≡ self.old.cutter }
         ensures number { self.new.number ≤ self.old.number + 1 }
         ensures frame { self.new.frame ≤ self.old.frame + 1 }
@@ -94,7 +100,7 @@ impl Runner {
         Ok(())
     }
 
-    /// Answers the line that the cutter's last answer makes whole, if it does.
+    /// Answers the line that the cutter's last answer made whole, if it made one.
     #[tactic(auto, using(run_defs::proofs::Ranges::says_in_range))]
     fn take_cut<L: Sink, P: Panel>(
         &mut self,
@@ -106,17 +112,19 @@ impl Runner {
         requires number { self.old.number + 1 < 2 ^ 32 }
         requires frame { self.old.frame + 1 < 2 ^ 32 }
         requires answer { cut ≡ self.old.cutter.answer }
-        requires held { self.old.cutter.answer ≡ Cut.Line → IsSome self.old.cutter.bytes }
         ensures ok { OnOk result ((first : Machine) (start : Output) (lines : List Said) →
-            Answered first start (record { log = L.state log.old; panel = P.state panel.old }) self.old lines →
-            Answered first start (record { log = L.state log.new; panel = P.state panel.new }) self.new (lines ++ cut_says self.old.cutter)) }
+            Answered first start (output (L.state log.old) (P.state panel.old)) self.old lines →
+            Answered first start (output (L.state log.new) (P.state panel.new)) self.new
+            (lines ++ cut_says self.old.cutter)) }
         ensures err { OnErr result ((first : Machine) (start : Output) (lines : List Said) →
-            Answered first start (record { log = L.state log.old; panel = P.state panel.old }) self.old lines →
-            Halted first start (record { log = L.state log.new; panel = P.state panel.new }) (lines ++ cut_says self.old.cutter)) }
+            Answered first start (output (L.state log.old) (P.state panel.old)) self.old lines →
+            Halted first start (output (L.state log.new) (P.state panel.new))
+            (lines ++ cut_says self.old.cutter)) }
         ensures cause { OnErr result (Rose (L.state log.old).faults (L.state log.new).faults
             ⊎ Rose (P.state panel.old).present_faults (P.state panel.new).present_faults) }
         ensures sizes { HasSizes (P.state panel.new) (machine_of self.new.gui).scene.limits }
-        ensures keeps { Keeps (record { log = L.state log.old; panel = P.state panel.old }) (record { log = L.state log.new; panel = P.state panel.new }) }
+        ensures keeps { Keeps (output (L.state log.old) (P.state panel.old))
+            (output (L.state log.new) (P.state panel.new)) }
         ensures line { self.new.cutter ≡ self.old.cutter }
         ensures number { self.new.number ≤ self.old.number + 1 }
         ensures frame { self.new.frame ≤ self.old.frame + 1 }
@@ -141,14 +149,15 @@ impl Runner {
         requires sizes { HasSizes (P.state panel.old) (machine_of self.old.gui).scene.limits }
         requires number { self.old.number + 1 < 2 ^ 32 }
         requires frame { self.old.frame + 1 < 2 ^ 32 }
-        ensures ok { OnOk result (Takes (record { log = L.state log.old; panel = P.state panel.old }) (record { log = L.state log.new; panel = P.state panel.new })
-            self.old self.new (byte ∷ [])) }
-        ensures err { OnErr result (Fails (record { log = L.state log.old; panel = P.state panel.old }) (record { log = L.state log.new; panel = P.state panel.new })
-            self.old (byte ∷ [])) }
+        ensures ok { OnOk result (Takes (output (L.state log.old) (P.state panel.old))
+            (output (L.state log.new) (P.state panel.new)) self.old self.new (byte ∷ [])) }
+        ensures err { OnErr result (Fails (output (L.state log.old) (P.state panel.old))
+            (output (L.state log.new) (P.state panel.new)) self.old (byte ∷ [])) }
         ensures cause { OnErr result (Rose (L.state log.old).faults (L.state log.new).faults
             ⊎ Rose (P.state panel.old).present_faults (P.state panel.new).present_faults) }
         ensures sizes { HasSizes (P.state panel.new) (machine_of self.new.gui).scene.limits }
-        ensures keeps { Keeps (record { log = L.state log.old; panel = P.state panel.old }) (record { log = L.state log.new; panel = P.state panel.new }) }
+        ensures keeps { Keeps (output (L.state log.old) (P.state panel.old))
+            (output (L.state log.new) (P.state panel.new)) }
         ensures number { self.new.number ≤ self.old.number + 1 }
         ensures frame { self.new.frame ≤ self.old.frame + 1 }
     {
@@ -166,14 +175,15 @@ impl Runner {
         requires sizes { HasSizes (P.state panel.old) (machine_of self.old.gui).scene.limits }
         requires number { self.old.number + length piece.now < 2 ^ 32 }
         requires frame { self.old.frame + length piece.now < 2 ^ 32 }
-        ensures ok { OnOk result (Takes (record { log = L.state log.old; panel = P.state panel.old }) (record { log = L.state log.new; panel = P.state panel.new })
-            self.old self.new piece.now) }
-        ensures err { OnErr result (Fails (record { log = L.state log.old; panel = P.state panel.old }) (record { log = L.state log.new; panel = P.state panel.new })
-            self.old piece.now) }
+        ensures ok { OnOk result (Takes (output (L.state log.old) (P.state panel.old))
+            (output (L.state log.new) (P.state panel.new)) self.old self.new piece.now) }
+        ensures err { OnErr result (Fails (output (L.state log.old) (P.state panel.old))
+            (output (L.state log.new) (P.state panel.new)) self.old piece.now) }
         ensures cause { OnErr result (Rose (L.state log.old).faults (L.state log.new).faults
             ⊎ Rose (P.state panel.old).present_faults (P.state panel.new).present_faults) }
         ensures sizes { HasSizes (P.state panel.new) (machine_of self.new.gui).scene.limits }
-        ensures keeps { Keeps (record { log = L.state log.old; panel = P.state panel.old }) (record { log = L.state log.new; panel = P.state panel.new }) }
+        ensures keeps { Keeps (output (L.state log.old) (P.state panel.old))
+            (output (L.state log.new) (P.state panel.new)) }
         ensures number { self.new.number ≤ self.old.number + length piece.now }
         ensures frame { self.new.frame ≤ self.old.frame + length piece.now }
     {
@@ -188,14 +198,15 @@ impl Runner {
         requires sizes { HasSizes (P.state panel.old) (machine_of self.old.gui).scene.limits }
         requires number { self.old.number + 1 < 2 ^ 32 }
         requires frame { self.old.frame + 1 < 2 ^ 32 }
-        ensures ok { OnOk result (Finishes (record { log = L.state log.old; panel = P.state panel.old }) (record { log = L.state log.new; panel = P.state panel.new })
-            self.old self.new) }
-        ensures err { OnErr result (FailsLast (record { log = L.state log.old; panel = P.state panel.old }) (record { log = L.state log.new; panel = P.state panel.new })
-            self.old) }
+        ensures ok { OnOk result (Finishes (output (L.state log.old) (P.state panel.old))
+            (output (L.state log.new) (P.state panel.new)) self.old self.new) }
+        ensures err { OnErr result (FailsLast (output (L.state log.old) (P.state panel.old))
+            (output (L.state log.new) (P.state panel.new)) self.old) }
         ensures cause { OnErr result (Rose (L.state log.old).faults (L.state log.new).faults
             ⊎ Rose (P.state panel.old).present_faults (P.state panel.new).present_faults) }
         ensures sizes { HasSizes (P.state panel.new) (machine_of self.new.gui).scene.limits }
-        ensures keeps { Keeps (record { log = L.state log.old; panel = P.state panel.old }) (record { log = L.state log.new; panel = P.state panel.new }) }
+        ensures keeps { Keeps (output (L.state log.old) (P.state panel.old))
+            (output (L.state log.new) (P.state panel.new)) }
     {
         let cut = self.cutter.finish();
         self.take_cut(cut, log, panel)
@@ -207,8 +218,8 @@ impl Runner {
         requires number { self.number + 1 < 2 ^ 32 }
         requires frame { self.frame + 1 < 2 ^ 32 }
         ensures ends { (first : Machine) (start : Output) (taken : List ℕ) →
-            Taken first start (record { log = L.state log.old; panel = P.state panel.old }) self taken →
-            LastEnds first start (record { log = L.state log.new; panel = P.state panel.new }) taken result }
+            Taken first start (output (L.state log.old) (P.state panel.old)) self taken →
+            LastEnds first start (output (L.state log.new) (P.state panel.new)) taken result }
         ensures ended { result ≢ Status.ReadFault }
         ensures cause { result ≡ Status.WriteFault → Rose (L.state log.old).faults (L.state log.new).faults
             ⊎ Rose (P.state panel.old).present_faults (P.state panel.new).present_faults }

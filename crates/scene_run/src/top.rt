@@ -3,7 +3,7 @@ ghost use Rattle.std.specs.Prelude.{◌≡◌, ◌↔◌, ◌⊎◌, ◌<◌, No
 ghost use Rattle.gui_edge.specs.Causes.{Rose};
 ghost use Rattle.gui_edge.specs.Panel.{StaysClosed};
 ghost use Rattle.run_defs.specs.Words.{limits_of};
-ghost use Rattle.scene_run.specs.Headline.{Headline, Outside, IfUnstarted};
+ghost use Rattle.scene_run.specs.Headline.{Headline, outside, IfUnstarted};
 
 use crate::reading::read_script;
 use crate::status::Status;
@@ -13,12 +13,12 @@ use gui_core::Gui;
 use gui_edge::{OpenFault, Panel, Sink, Source};
 use std::alloc::Global;
 
-/// Reads the words, opens the machine and the panel, reads the script line by line, writes the replies to the log and presents each
-/// finished frame.
+/// Reads the words, opens the machine and the panel, reads the script line by line, writes the replies to the
+/// log and presents each finished frame.
 ///
-/// For every script, and however the panel fails, each frame written is the picture that painting afresh, back to front, gives of the
-/// scene that the script has made; the panel shows it too; a fault line replaces it only for a failed flush. Memory is taken at the
-/// opening alone.
+/// For every script, and however the panel fails, each frame written is the picture that painting afresh,
+/// back to front, gives of the scene that the script has made; the panel shows it too; a fault line replaces
+/// it only for a failed flush. Memory is taken at the opening alone.
 pub fn run_scene<S: Source, L: Sink, P: Panel>(
     alloc: Global,
     words: &[&str],
@@ -28,8 +28,9 @@ pub fn run_scene<S: Source, L: Sink, P: Panel>(
 ) -> Status
     requires { (P.state panel.old).limit ≡ 0 }
     ensures usage { (result ≡ Status.Usage) ↔ (limits_of (map (λ w. w.now) words.now) ≡ None) }
-    ensures headline { Headline (limits_of (map (λ w. w.now) words.now)) (record { source = S.state source.old; log = L.state log.old; panel = P.state panel.old })
-        (record { source = S.state source.new; log = L.state log.new; panel = P.state panel.new }) result }
+    ensures headline { Headline (limits_of (map (λ w. w.now) words.now))
+        (outside (S.state source.old) (L.state log.old) (P.state panel.old))
+        (outside (S.state source.new) (L.state log.new) (P.state panel.new)) result }
 
     // Before a byte is read nothing is touched but the panel, which then stays closed.
     ensures unread { IfUnstarted result (source.new ≡ source.old) }
@@ -38,10 +39,12 @@ pub fn run_scene<S: Source, L: Sink, P: Panel>(
     ensures unopened { result ≡ Status.Usage → panel.new ≡ panel.old }
 
     // A fault is answered only where the count of faults of the object that was handed in rose.
-    ensures read_fault { result ≡ Status.ReadFault → Rose (S.state source.old).faults (S.state source.new).faults }
+    ensures read_fault { result ≡ Status.ReadFault →
+        Rose (S.state source.old).faults (S.state source.new).faults }
     ensures write_fault { result ≡ Status.WriteFault → Rose (L.state log.old).faults (L.state log.new).faults
         ⊎ Rose (P.state panel.old).present_faults (P.state panel.new).present_faults }
-    ensures panel_fault { result ≡ Status.PanelFault → (P.state panel.old).flush_faults < (P.state panel.new).flush_faults }
+    ensures panel_fault { result ≡ Status.PanelFault →
+        (P.state panel.old).flush_faults < (P.state panel.new).flush_faults }
 {
     let Some(limits) = read_limits(words) else {
         return Status::Usage;

@@ -36,21 +36,3 @@ last_says (b ∷ rest) = grind (arith, nat_tests)
 
 pub cut_says-finished : (c : Cutting) (rest : List ℕ) → begun c ≡ kept rest → cut_says (finished c) ≡ open_says rest
 cut_says-finished c rest e = ap (λ (o : Option (List ℕ)). cut_line (last_cut o) o true) e ∙ last_says rest
-
--- a line that is whole is there
-abbrev pushed_by : Bool → Option (List ℕ) → Option (List ℕ) → Cutting
-pushed_by t o p = if t then record { bytes = o; answer = cut_of o; last = false } else record { bytes = p; answer = More; last = false }
-
-whole_by : (t : Bool) (o p : Option (List ℕ)) → (pushed_by t o p).answer ≡ Line → IsSome (pushed_by t o p).bytes
-whole_by true None p e = cc
-whole_by true (Some bytes) p e = refl
-whole_by false o p e = cc
-
-pub pushed_whole : (c : Cutting) (b : ℕ) → (pushed c b).answer ≡ Line → IsSome (pushed c b).bytes
-pushed_whole c b e = whole_by (is_newline b) (begun c) (kept_with (begun c) b) e
-
-pub finished_whole : (c : Cutting) → (finished c).answer ≡ Line → IsSome (finished c).bytes
-finished_whole c e = whole (begun c) e where
-  whole : (o : Option (List ℕ)) → last_cut o ≡ Line → IsSome o
-  whole None e = cc
-  whole (Some bytes) e = refl

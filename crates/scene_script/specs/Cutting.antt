@@ -1,7 +1,6 @@
 -- What a cutter holds, and what bytes make of it.
-use Rattle.std.specs.Prelude.{ℕ, Bool, true, false, Some, None, List, [], ◌∷◌, ◌++◌, length, nat_lt, if◌then◌else◌}
+use Rattle.std.specs.Prelude.{ℕ, Bool, true, false, Some, None, Err, List, [], ◌∷◌, ◌++◌, length, nat_lt, if◌then◌else◌}
 use Rattle.std.specs.declared.option.Option.{Option}
-use Rattle.std.specs.Prelude.{Err}
 use Rattle.run_defs.specs.Script.{Said, max_line, is_newline, without_return, parse}
 use Rattle.run_defs.specs.declared.LineFault.TheVariants.{Long as TooLong}
 use Rattle.scene_script.specs.declared.cutter.Cut.{Cut}
@@ -15,7 +14,7 @@ pub record Cutting : Type 0 where
   -- whether the end of the script ended the line, and no newline
   pub last : Bool
 
--- the bytes of a line, where they are not too many
+-- the bytes of a line, where they are not too many for one
 abbrev pub kept : List ℕ → Option (List ℕ)
 kept bytes = if nat_lt max_line (length bytes) then None else Some bytes
 
@@ -33,12 +32,12 @@ begun_by Long bytes = Some []
 abbrev pub begun : Cutting → Option (List ℕ)
 begun c = begun_by c.answer c.bytes
 
--- what a whole line is
+-- the answer to a newline after these bytes
 abbrev pub cut_of : Option (List ℕ) → Cut
 cut_of None = Long
 cut_of (Some bytes) = Line
 
--- the same at the end of the script, where a line without a byte is none
+-- the answer to the end of the script after these bytes: where there are none, there is no line
 abbrev pub last_cut : Option (List ℕ) → Cut
 last_cut None = Long
 last_cut (Some []) = More
@@ -52,12 +51,12 @@ pushed c byte =
 abbrev pub finished : Cutting → Cutting
 finished c = record { bytes = begun c; answer = last_cut (begun c); last = true }
 
--- the line of these bytes: a carriage return before a newline is no part of it
+-- the line of these bytes: one carriage return before a newline is no part of it
 abbrev pub line_of : Bool → List ℕ → List ℕ
 line_of true bytes = bytes
 line_of false bytes = without_return bytes
 
--- what the lines say that a cutter's last answer makes whole: one, or none
+-- what the line says that a cutter's last answer made whole, if it made one
 abbrev pub cut_line : Cut → Option (List ℕ) → Bool → List Said
 cut_line More bytes last = []
 cut_line Line None last = []

@@ -1,5 +1,5 @@
 //! Cuts a stream of bytes into lines.
-ghost use Rattle.std.specs.Prelude.{◌≡◌, IfSome, Some, [], false};
+ghost use Rattle.std.specs.Prelude.{◌≡◌, IsSomeAnd, Some, [], false};
 ghost use Rattle.run_defs.specs.Script.{without_return};
 ghost use Rattle.scene_script.specs.Cutting.{begun, pushed, finished, line_of};
 
@@ -18,7 +18,7 @@ pub enum Cut {
     Long,
 }
 
-/// The bytes of a line so far, in a fixed room.
+/// The bytes of a line so far, up to 4,096 of them. It takes no memory.
 #[derive(Drop)]
 pub struct Cutter {
     line: ArrayVec<u8, MAX_LINE>,
@@ -28,16 +28,23 @@ pub struct Cutter {
 }
 
 impl Model for Cutter {
-    ghost use Rattle.std.specs.Prelude.{Some, None, if◌then◌else◌};
+    ghost use Rattle.std.specs.Prelude.{◌≡◌, Some, None, false, if◌then◌else◌};
     ghost use Rattle.scene_script.specs.Cutting.{Cutting};
+    ghost use Rattle.scene_script.specs.declared.cutter.Cut.TheVariants.{Line};
 
     ghost Value = { Cutting };
 
-    ghost view = { λ c. record { bytes = if c.long then None else Some c.line.items; answer = c.answer; last = c.last } };
+    ghost view = { λ c. record {
+      bytes = if c.long then None else Some c.line.items;
+      answer = c.answer;
+      last = c.last;
+    } };
+
+    ghost invariant = { λ c. c.answer ≡ Line → c.long ≡ false };
 }
 
 impl Cutter {
-    /// It holds the empty line.
+    /// A cutter at the beginning of a script, with the empty line.
     pub fn new() -> Cutter
         ensures { result ≡ record { bytes = Some []; answer = Cut.More; last = false } }
     {
@@ -49,7 +56,8 @@ impl Cutter {
         }
     }
 
-    /// Takes a byte of the script. A newline ends the line: `Line` where it has at most 4,096 bytes, else `Long`. The byte after that begins the next one.
+    /// Takes a byte of the script. A newline ends the line: `Line` where it has at most 4,096 bytes, else
+    /// `Long`. The byte after that begins the next line.
     pub fn push(&mut self, byte: u8) -> Cut
         ensures state { self.new ≡ pushed self.old byte }
         ensures answer { result ≡ self.new.answer }
@@ -65,7 +73,8 @@ impl Cutter {
         self.answer
     }
 
-    /// What is left at the end of the script: as [`Cutter::push`] answers a newline, but `More` where the line has no byte.
+    /// Ends the line at the end of the script, as [`Cutter::push`] does at a newline, but answers `More`
+    /// where the line has no byte.
     pub fn finish(&mut self) -> Cut
         ensures state { self.new ≡ finished self.old }
         ensures answer { result ≡ self.new.answer }
@@ -80,10 +89,11 @@ impl Cutter {
         self.answer
     }
 
-    /// The line, once the last answer was `Line`: without one carriage return at its end, which stays where no newline ended the line.
+    /// The line, where the last answer was `Line`. One carriage return at its end is left out where a newline
+    /// ended the line.
     pub fn line(&self) -> &[u8]
         requires { self.now.answer ≡ Cut.Line }
-        ensures { IfSome self.now.bytes (λ bytes. result.now ≡ line_of self.now.last bytes) }
+        ensures { IsSomeAnd self.now.bytes (λ bytes. result.now ≡ line_of self.now.last bytes) }
     {
         if self.last {
             self.line.as_slice()
@@ -110,7 +120,7 @@ fn trimmed(bytes: &[u8]) -> &[u8]
     ensures { result.now ≡ without_return bytes.now }
 {
     match bytes {
-        [front @ .., b'\r'] => front,
+        [before @ .., b'\r'] => before,
         _ => bytes,
     }
 }

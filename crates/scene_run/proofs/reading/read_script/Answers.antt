@@ -1,7 +1,7 @@
 use Rattle.std.proofs.Common.{arith, ◌∙◌, sym, ap, subst, take}
 use Rattle.gui_core.specs.declared.gui.Gui.{Gui}
 use Rattle.gui_core.specs.Machines.{machine_of}
-use Rattle.gui_core.specs.Panels.{HasSizes}
+use Rattle.gui_edge.specs.Panel.{HasSizes}
 use Rattle.scene_run.specs.Headline.{Outside, output_of}
 use Rattle.scene_run.proofs.Breaking.{Keeps-self}
 use Rattle.scene_run.proofs.Going.{Keeps-more}

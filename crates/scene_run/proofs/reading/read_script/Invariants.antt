@@ -1,6 +1,6 @@
 use Rattle.std.proofs.Common.{◌≤◌, ◌+◌}
 use Rattle.gui_core.specs.Machines.{machine_of}
-use Rattle.gui_core.specs.Panels.{HasSizes}
+use Rattle.gui_edge.specs.Panel.{HasSizes}
 use Rattle.scene_run.specs.Effects.{Keeps}
 use Rattle.scene_run.proofs.Gone.{Gone}
 use Rattle.scene_run.proofs.reading.read_script.Given as goal

@@ -1,7 +1,7 @@
 use Rattle.std.proofs.Common.{subst, sym}
 use Rattle.gui_base.specs.Bounded.{bounds_of}
 use Rattle.gui_core.specs.Machines.{machine_of}
-use Rattle.gui_core.specs.Panels.{HasSizes}
+use Rattle.gui_edge.specs.Panel.{HasSizes}
 use Rattle.run_defs.specs.Machine.{Machine}
 use Rattle.scene_run.proofs.Headlines.{opened_sizes, headline_given, some_pixels}
 use Rattle.scene_run.proofs.top.run_scene.Goals as goal

@@ -1,6 +1,6 @@
 use Rattle.std.proofs.Common.{ap, ◌∙◌, sym, subst}
 use Rattle.run_defs.specs.Machine.{Machine}
-use Rattle.gui_core.specs.Panels.{HasSizes}
+use Rattle.gui_edge.specs.Panel.{HasSizes}
 use Rattle.run_defs.proofs.Runs.{after-limits}
 use Rattle.gui_core.specs.Machines.{machine_of}
 use Rattle.scene_run.proofs.Breaking.{on_err}

@@ -64,6 +64,8 @@ impl Panel for ListingPanel {
     fn present(&mut self) -> Result<(), Failed> {
         self.panel.present()
     }
+
+    ghost each = { λ p. p.panel.each };
 }
 
 #[test]

@@ -1,3 +1,9 @@
 pub mod AllocSteps
+pub mod Calls
+pub mod Entries
 pub mod FreeList
+pub mod Keys
+pub mod Listed
+pub mod Openings
 pub mod RawSteps
+pub mod Runs

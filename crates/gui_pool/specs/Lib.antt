@@ -1,6 +1,12 @@
 pub mod Block
+pub mod BucketsLends
 pub mod Cell
+pub mod Entries
+pub mod Lists
 pub mod Memory
 pub mod MemoryLends
+pub mod Runs
 pub mod SlabLends
 pub mod Slots
+pub mod Table
+pub mod TableLends

@@ -1,12 +1,18 @@
-//! Slots for the values of a table whose size is settled when it is opened.
+//! Containers whose memory goes by the number of values that they may hold, which is settled at opening.
 //!
-//! A `Slab` takes its memory once, in one block. From then on no call takes memory: a value finds a
-//! vacant slot, or is handed back where none is left.
+//! A [`Slab`] numbers its slots itself. A [`Table`] has a value for each of its keys.
+//!
+//! Each takes all its memory when it is opened. From then on no call takes memory: a value finds a spare
+//! slot, or is handed back where none is left.
 #![tactic(auto)]
 
 mod block;
+mod buckets;
+mod entry;
 mod raw;
 mod slab;
+mod table;
 
 pub use block::NoMemory;
 pub use slab::Slab;
+pub use table::Table;

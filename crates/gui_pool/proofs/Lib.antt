@@ -5,5 +5,7 @@ pub mod FreeList
 pub mod Keys
 pub mod Listed
 pub mod Openings
+pub mod OwnValues
+pub mod Owners
 pub mod RawSteps
 pub mod Runs

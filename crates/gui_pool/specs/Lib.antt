@@ -5,6 +5,7 @@ pub mod Entries
 pub mod Lists
 pub mod Memory
 pub mod MemoryLends
+pub mod Owners
 pub mod Runs
 pub mod SlabLends
 pub mod Slots

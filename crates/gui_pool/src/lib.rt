@@ -1,6 +1,7 @@
 //! Containers whose memory goes by the number of values that they may hold, which is settled at opening.
 //!
-//! A [`Slab`] numbers its slots itself. A [`Table`] has a value for each of its keys.
+//! A [`Slab`] numbers its slots itself. A [`Table`] has a value for each of its keys, and [`Lists`] a list
+//! of values for each of its owners.
 //!
 //! Each takes all its memory when it is opened. From then on no call takes memory: a value finds a spare
 //! slot, or is handed back where none is left.
@@ -9,10 +10,12 @@
 mod block;
 mod buckets;
 mod entry;
+mod lists;
 mod raw;
 mod slab;
 mod table;
 
 pub use block::NoMemory;
+pub use lists::{Items, Lists};
 pub use slab::Slab;
 pub use table::Table;

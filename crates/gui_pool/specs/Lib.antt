@@ -1,4 +1,5 @@
 pub mod Block
+pub mod BlockLends
 pub mod BucketsLends
 pub mod Cell
 pub mod Entries

@@ -134,6 +134,7 @@ impl<T> Table<T> {
         }
     }
 
+    /// Whether a key has a value.
     fn has(&self, key: u32) -> bool
         ensures { result ≡ is_some (value_at self.now key) }
     {

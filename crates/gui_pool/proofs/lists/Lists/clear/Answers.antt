@@ -1,4 +1,4 @@
-use Rattle.std.proofs.Common.{◌≡◌, ◌+◌, ◌<◌, ℕ, Bool, true, false, is_some, Option, Some, None, Bor, List, [], ◌∷◌, length, set, get_or, slice_get, refl, sym, ap, ◌∙◌, length-set, arith}
+use Rattle.std.proofs.Common.{◌≡◌, ◌+◌, ◌<◌, ℕ, true, false, is_some, Option, Some, None, Bor, List, [], ◌∷◌, length, set, get_or, slice_get, refl, sym, ap, ◌∙◌, length-set, arith}
 use Rattle.std.proofs.lemmas.List.{set-set, set-get_or, get_or-set_same}
 use Rattle.std.proofs.lemmas.List.Edits.{length-remove}
 use Rattle.std.specs.List.{remove}

@@ -4,7 +4,8 @@ ghost use Rattle.std.specs.Prelude.{◌≡◌, ◌+◌, ◌<◌};
 use std::marker::Model;
 use std::sync::ledger::{Book, Ledger, Share};
 
-/// How many steps were taken: pixels written in a draw buffer, objects visited, glyph cells looked at. Only `tick` changes it.
+/// How many steps were taken. Today a step is a pixel that is made black as a draw buffer turns to an area;
+/// the mixing that follows is not counted yet. Only `tick` changes it.
 #[derive(Drop)]
 pub struct Steps<L: Ledger> {
     book: Book<L>,
@@ -22,7 +23,8 @@ impl<L: Ledger> Model for Steps<L> {
 }
 
 impl<L: Ledger> Steps<L> {
-    /// No step yet. The ledger and its share are those that a blank one of at least one part gives when it is opened.
+    /// No step yet. The ledger and its share are those that a blank one of at least one part gives when it is
+    /// opened.
     pub fn new(book: Book<L>, all: Share<L>) -> Steps<L>
         requires fresh { book.total ≡ 0 }
         requires backed { 0 < all.parts }

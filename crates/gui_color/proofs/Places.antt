@@ -1,4 +1,4 @@
--- Where the pixels of an area stand, row by row.
+-- The places of the pixels of an area, row by row.
 use Rattle.std.proofs.Common.{◌≡◌, ℕ, ◌+◌, ◌*◌, ◌<◌, arith, ℤ, pos, ◌≤ℤ◌, ◌<ℤ◌, ◌+ℤ◌, ◌-ℤ◌, ◌⊎◌, inl, inr, true, false, subst}
 use Rattle.std.proofs.lemmas.Int.{ints, by_lt_z}
 use Rattle.std.proofs.lemmas.Nat.{mul-le}
@@ -26,7 +26,7 @@ distance_sum from n to p q = omega (arith, ints)
 pub distance_less : (from n to : ℤ) → from ≤ℤ n → n <ℤ to → distance from n < distance from to
 distance_less from n to p q = omega (arith, ints)
 
--- a place in a line before another is before each place in the other
+-- a place in a row above another is before each place in the other
 pub line_before : (a b w p q : ℕ) → a < b → p < w → a * w + p < b * w + q
 line_before a b w p q h k = omega (arith, mul-le (a + 1) w b w (omega arith) (omega arith))
 
@@ -64,7 +64,7 @@ place_down area x v x' y h k =
 abbrev pub Outside : Rect → ℤ → ℤ → ℤ → ℤ → ℤ → Type 0
 Outside area y x1 x2 x v = (place area x v < place area x1 y) ⊎ (place area x2 y < place area x v)
 
--- a pixel that is not in a row stands before it or after it
+-- a pixel that is not in a row is before it or after it
 beside_row : (area : Rect) (y x1 x2 x : ℤ) → has area x2 y ≡ true → has area x y ≡ true → has (row_area y x1 x2) x y ≡ false → Outside area y x1 x2 x y
 beside_row area y x1 x2 x last h n =
     by_lt_z x x1 (λ k. inl (place_right area x x1 y h k)) (λ k.

@@ -7,6 +7,6 @@ use Rattle.gui_base.specs.Color.{red, green, blue, color}
 abbrev pub spread : Rgb565 → ℕ
 spread c = green c * 2 ^ 21 + red c * 2 ^ 11 + blue c
 
--- the colour whose channels stand so in a number
+-- the colour whose channels are spread in this number
 abbrev pub gathered : ℕ → Rgb565
 gathered s = color (s / 2 ^ 11 % 32) (s / 2 ^ 21 % 64) (s % 32)

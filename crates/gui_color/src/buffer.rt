@@ -28,13 +28,17 @@ impl Model for DrawBuf {
 
     ghost Value = { Buffer };
 
-    ghost view = { λ b. record { area = rect_of b.area; pixels = take (size_of (rect_of b.area)) b.pixels.items; limit = vec_len b.pixels } };
+    ghost view = { λ b. record {
+      area = rect_of b.area;
+      pixels = take (size_of (rect_of b.area)) b.pixels.items;
+      limit = vec_len b.pixels;
+    } };
 
     ghost invariant = { λ b. size_of (rect_of b.area) ≤ vec_len b.pixels };
 }
 
 impl DrawBuf {
-    /// A buffer of no pixel yet, with memory for `limit` pixels, from 1 to 1,048,576.
+    /// A buffer without a pixel yet, with memory for `limit` pixels, from 1 to 1,048,576.
     pub fn open(alloc: Global, limit: u32) -> Result<DrawBuf, NoMemory>
         requires some { 1 ≤ limit }
         requires most { limit ≤ 1048576 }
@@ -52,7 +56,8 @@ impl DrawBuf {
         Ok(DrawBuf { area, pixels })
     }
 
-    /// Turns to an area, which is not empty and has no more pixels than the limit, and makes all its pixels black, a step each.
+    /// Makes the buffer hold the pixels of an area, which is not empty and has at most the limit's pixels,
+    /// all of them black. Each pixel that is written is a step.
     pub fn begin<L: Ledger>(&mut self, area: Area, steps: &mut Steps<L>)
         requires some { is_empty (rect_of area) ≡ false }
         requires fits { size_of (rect_of area) ≤ self.old.limit }
@@ -116,7 +121,7 @@ fn distance_between(from: i32, to: i32) -> usize
     (i64::from(to) - i64::from(from)) as usize
 }
 
-/// Makes each pixel black, a step each.
+/// Makes each pixel black, each one a step.
 fn clear<L: Ledger>(row: &mut [Rgb565], steps: &mut Steps<L>)
     ensures black { row.new ≡ replicate (length row.old) black }
     ensures steps { steps.new ≡ steps.old + length row.old }

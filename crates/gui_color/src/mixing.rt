@@ -11,8 +11,8 @@ const CHANNELS: u32 = 0x07E0_F81F;
 /// All thirty-seconds: the upper colour alone is seen.
 pub(crate) const ALL_PARTS: u32 = 32;
 
-/// `fg` over `bg` with an opacity from 0 to 255. Each channel is `bg + floor((fg - bg) * m / 32)` with `m = floor((opa + 4) / 8)`, so
-/// opacities from 252 on give `fg`, and those up to 3 leave `bg`.
+/// `fg` over `bg` with an opacity from 0 to 255. Each channel is `bg + floor((fg - bg) * m / 32)` with `m =
+/// floor((opa + 4) / 8)`, so opacities from 252 on give `fg`, and those up to 3 leave `bg`.
 #[inline]
 pub fn mix(fg: Rgb565, bg: Rgb565, opa: u8) -> Rgb565
     ensures { result ≡ mix fg bg opa }
@@ -55,7 +55,8 @@ impl Veil {
         }
     }
 
-    /// The colour that is seen where it lies over another. One product mixes the three channels, since none runs into the next.
+    /// The colour that is seen where it lies over another. One product mixes the three channels, since none
+    /// runs into the next.
     #[inline(always)]
     pub(crate) fn over(self, bg: Rgb565) -> Rgb565
         ensures { result ≡ mix self.fg bg self.opa }

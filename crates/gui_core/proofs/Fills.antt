@@ -36,23 +36,23 @@ Paints-more p q r a b h k = record {
       ∙ ap (b x y) (h.pixels x y i);
 }
 
-last_line : (top bottom : ℤ) → top ≤ℤ bottom → (top +ℤ pos (count_between top bottom)) -ℤ pos 1 ≡ bottom
-last_line top bottom h = rw (count_is top bottom h) (omega (arith, ints, distance_is top bottom h))
+last_row : (top bottom : ℤ) → top ≤ℤ bottom → (top +ℤ pos (count_between top bottom)) -ℤ pos 1 ≡ bottom
+last_row top bottom h = rw (count_is top bottom h) (omega (arith, ints, distance_is top bottom h))
 
--- the first lines of an area
-abbrev pub first_lines : Rect → ℕ → Rect
-first_lines area n = record { x1 = area.x1; y1 = area.y1; x2 = area.x2; y2 = (area.y1 +ℤ pos n) -ℤ pos 1 }
+-- the first rows of an area
+abbrev pub first_rows : Rect → ℕ → Rect
+first_rows area n = record { x1 = area.x1; y1 = area.y1; x2 = area.x2; y2 = (area.y1 +ℤ pos n) -ℤ pos 1 }
 
--- the row of an area below its first lines
-abbrev pub line_at : Rect → ℕ → Rect
-line_at area n = row_area (area.y1 +ℤ pos n) area.x1 area.x2
+-- the row of an area below its first rows
+abbrev pub row_at : Rect → ℕ → Rect
+row_at area n = row_area (area.y1 +ℤ pos n) area.x1 area.x2
 
-line_more : (top y : ℤ) (n : ℕ) →
+row_more : (top y : ℤ) (n : ℕ) →
     (le_z top y && le_z y ((top +ℤ pos (n + 1)) -ℤ pos 1)) ≡ ((le_z (top +ℤ pos n) y && le_z y (top +ℤ pos n)) || (le_z top y && le_z y ((top +ℤ pos n) -ℤ pos 1)))
-line_more top y n = grind (arith, ints, nat_tests)
+row_more top y n = grind (arith, ints, nat_tests)
 
-line_apart : (top y : ℤ) (n : ℕ) → ((le_z (top +ℤ pos n) y && le_z y (top +ℤ pos n)) && (le_z top y && le_z y ((top +ℤ pos n) -ℤ pos 1))) ≡ false
-line_apart top y n = grind (arith, ints, nat_tests)
+row_apart : (top y : ℤ) (n : ℕ) → ((le_z (top +ℤ pos n) y && le_z y (top +ℤ pos n)) && (le_z top y && le_z y ((top +ℤ pos n) -ℤ pos 1))) ≡ false
+row_apart top y n = grind (arith, ints, nat_tests)
 
 and_or : (a b c d : Bool) → d ≡ (b || c) → (a && d) ≡ ((a && b) || (a && c))
 and_or true b c d h = h
@@ -62,19 +62,19 @@ and_apart : (a b c : Bool) → (b && c) ≡ false → ((a && b) && (a && c)) ≡
 and_apart true b c h = h
 and_apart false b c h = refl
 
-first_lines-none : (area : Rect) (x y : ℤ) → has (first_lines area 0) x y ≡ false
-first_lines-none area x y = grind (arith, ints, nat_tests)
+first_rows-none : (area : Rect) (x y : ℤ) → has (first_rows area 0) x y ≡ false
+first_rows-none area x y = grind (arith, ints, nat_tests)
 
-first_lines-more : (area : Rect) (n : ℕ) (x y : ℤ) → has (first_lines area (n + 1)) x y ≡ (has (line_at area n) x y || has (first_lines area n) x y)
-first_lines-more area n x y = and_or (le_z area.x1 x && le_z x area.x2) _ _ _ (line_more area.y1 y n)
+first_rows-more : (area : Rect) (n : ℕ) (x y : ℤ) → has (first_rows area (n + 1)) x y ≡ (has (row_at area n) x y || has (first_rows area n) x y)
+first_rows-more area n x y = and_or (le_z area.x1 x && le_z x area.x2) _ _ _ (row_more area.y1 y n)
 
-lines_apart : (area : Rect) (n : ℕ) (x y : ℤ) → (has (line_at area n) x y && has (first_lines area n) x y) ≡ false
-lines_apart area n x y = and_apart (le_z area.x1 x && le_z x area.x2) _ _ (line_apart area.y1 y n)
+rows_apart : (area : Rect) (n : ℕ) (x y : ℤ) → (has (row_at area n) x y && has (first_rows area n) x y) ≡ false
+rows_apart area n x y = and_apart (le_z area.x1 x && le_z x area.x2) _ _ (row_apart area.y1 y n)
 
-first_lines-all : (area : Rect) → is_empty area ≡ false → first_lines area (height_of area) ≡ area
-first_lines-all area h =
+first_rows-all : (area : Rect) → is_empty area ≡ false → first_rows area (height_of area) ≡ area
+first_rows-all area h =
     let order : area.y1 ≤ℤ area.y2 = grind (arith, ints) in
-    ap (λ (z : ℤ). record { x1 = area.x1; y1 = area.y1; x2 = area.x2; y2 = z }) (last_line area.y1 area.y2 order)
+    ap (λ (z : ℤ). record { x1 = area.x1; y1 = area.y1; x2 = area.x2; y2 = z }) (last_row area.y1 area.y2 order)
 
 mixed_once : (a b c : Bool) (fg under : Rgb565) (opa : ℕ) → c ≡ (a || b) → (a && b) ≡ false →
     (if a then mix fg (if b then mix fg under opa else under) opa else (if b then mix fg under opa else under)) ≡ (if c then mix fg under opa else under)
@@ -82,35 +82,35 @@ mixed_once true true c fg under opa p q = cc
 mixed_once true false c fg under opa p q = rw p refl
 mixed_once false b c fg under opa p q = rw p refl
 
--- the line stands between the first and the last
-pub line_within : (area : Rect) (n : ℕ) → is_empty area ≡ false → n < height_of area → (area.y1 +ℤ pos n) ≤ℤ area.y2
-line_within area n some h =
+-- a row of an area is not below the last one
+pub row_within : (area : Rect) (n : ℕ) → is_empty area ≡ false → n < height_of area → (area.y1 +ℤ pos n) ≤ℤ area.y2
+row_within area n some h =
     let order : area.y1 ≤ℤ area.y2 = grind (arith, ints) in
     let below : n < distance area.y1 area.y2 + 1 = rw (count_is area.y1 area.y2 order) at h in
     omega (arith, ints, distance_is area.y1 area.y2 order, below)
 
--- so many lines have a number of 32 bits with a sign, and so has the line itself
-pub line_small : (area : Rect) (n : ℕ) → IsCoordinate area.y1 → IsCoordinate area.y2 → is_empty area ≡ false → n < height_of area → n < 2147483648
-line_small area n top bottom some h = let within = line_within area n some h in omega (arith, ints, top.0, bottom.1)
+-- the number of a row, and its y, are numbers of 32 bits with a sign
+pub row_small : (area : Rect) (n : ℕ) → IsCoordinate area.y1 → IsCoordinate area.y2 → is_empty area ≡ false → n < height_of area → n < 2147483648
+row_small area n top bottom some h = let within = row_within area n some h in omega (arith, ints, top.0, bottom.1)
 
-pub line_fits : (area : Rect) (n : ℕ) → IsCoordinate area.y1 → IsCoordinate area.y2 → is_empty area ≡ false → n < height_of area → FitsSigned w32 (area.y1 +ℤ pos n)
-line_fits area n top bottom some h = let within = line_within area n some h in omega (arith, ints, top.0, bottom.1)
+pub row_fits : (area : Rect) (n : ℕ) → IsCoordinate area.y1 → IsCoordinate area.y2 → is_empty area ≡ false → n < height_of area → FitsSigned w32 (area.y1 +ℤ pos n)
+row_fits area n top bottom some h = let within = row_within area n some h in omega (arith, ints, top.0, bottom.1)
 
-pub line_number : (top : ℤ) (n : ℕ) → FitsSigned w32 top → n < 2147483648 → FitsSigned w32 (top +ℤ pos n) →
+pub row_number : (top : ℤ) (n : ℕ) → FitsSigned w32 top → n < 2147483648 → FitsSigned w32 (top +ℤ pos n) →
     to_z w32 (of_z w32 (to_z w32 (of_z w32 top) +ℤ to_z w32 n)) ≡ top +ℤ pos n
-line_number top n a b d = rw (to_z-of_z w32 top a, to_z_pos w32 n b) (to_z-of_z w32 (top +ℤ pos n) d)
+row_number top n a b d = rw (to_z-of_z w32 top a, to_z_pos w32 n b) (to_z-of_z w32 (top +ℤ pos n) d)
 
--- the line of a part lies in the area
-pub record HasLine (area part : Rect) (y : ℤ) : Type 0 where
+-- the row y of a part is inside the area
+pub record HasPartRow (area part : Rect) (y : ℤ) : Type 0 where
   pub order : part.x1 ≤ℤ part.x2
   pub first : has area part.x1 y ≡ true
   pub last : has area part.x2 y ≡ true
 
-pub has_line : (area part : Rect) (n : ℕ) → HasCorners area part → is_empty part ≡ false → n < height_of part → HasLine area part (part.y1 +ℤ pos n)
-has_line area part n corners some below =
+pub has_part_row : (area part : Rect) (n : ℕ) → HasCorners area part → is_empty part ≡ false → n < height_of part → HasPartRow area part (part.y1 +ℤ pos n)
+has_part_row area part n corners some below =
     let f = between_has area part.x1 part.y1 corners.first in
     let l = between_has area part.x2 part.y2 corners.last in
-    let low = line_within part n some below in
+    let low = row_within part n some below in
     let fl = f.left in let fr = f.right in let ft = f.top in let ll = l.left in let lr = l.right in let lb = l.bottom in
     let top : area.y1 ≤ℤ (part.y1 +ℤ pos n) = omega (arith, ints) in
     let bottom : (part.y1 +ℤ pos n) ≤ℤ area.y2 = omega (arith, ints) in record {
@@ -119,23 +119,23 @@ has_line area part n corners some below =
       last = has_between area part.x2 (part.y1 +ℤ pos n) (record { left = ll; right = lr; top = top; bottom = bottom });
     }
 
-pub fill_none : (buf : Buffer) (area : Rect) (fg : Rgb565) (opa : ℕ) → Paints buf buf (filled_area (first_lines area 0) fg opa)
-fill_none buf area fg opa = Paints-self buf _ (λ x y under. rw (first_lines-none area x y) refl)
+pub fill_none : (buf : Buffer) (area : Rect) (fg : Rgb565) (opa : ℕ) → Paints buf buf (filled_area (first_rows area 0) fg opa)
+fill_none buf area fg opa = Paints-self buf _ (λ x y under. rw (first_rows-none area x y) refl)
 
-pub fill_more : (old mid : Buffer) (area : Rect) (n : ℕ) (fg : Rgb565) (opa : ℕ) → Paints old mid (filled_area (first_lines area n) fg opa) → HasRow mid (area.y1 +ℤ pos n) area.x1 area.x2 →
-    Paints old (with_row mid (area.y1 +ℤ pos n) area.x1 (filled fg opa (row_of mid (area.y1 +ℤ pos n) area.x1 area.x2))) (filled_area (first_lines area (n + 1)) fg opa)
+pub fill_more : (old mid : Buffer) (area : Rect) (n : ℕ) (fg : Rgb565) (opa : ℕ) → Paints old mid (filled_area (first_rows area n) fg opa) → HasRow mid (area.y1 +ℤ pos n) area.x1 area.x2 →
+    Paints old (with_row mid (area.y1 +ℤ pos n) area.x1 (filled fg opa (row_of mid (area.y1 +ℤ pos n) area.x1 area.x2))) (filled_area (first_rows area (n + 1)) fg opa)
 fill_more old mid area n fg opa h row = record {
   area_stays = h.area_stays;
   limit_stays = h.limit_stays;
   pixels = λ x y i.
       pixel_at-fill mid (area.y1 +ℤ pos n) area.x1 area.x2 x y fg opa row (subst (λ (a : Rect). has a x y ≡ true) (sym h.area_stays) i)
-      ∙ (ap (λ (under : Rgb565). if has (line_at area n) x y then mix fg under opa else under) (h.pixels x y i)
-      ∙ mixed_once (has (line_at area n) x y) (has (first_lines area n) x y) (has (first_lines area (n + 1)) x y) fg (pixel_at old x y) opa (first_lines-more area n x y) (lines_apart area n x y));
+      ∙ (ap (λ (under : Rgb565). if has (row_at area n) x y then mix fg under opa else under) (h.pixels x y i)
+      ∙ mixed_once (has (row_at area n) x y) (has (first_rows area n) x y) (has (first_rows area (n + 1)) x y) fg (pixel_at old x y) opa (first_rows-more area n x y) (rows_apart area n x y));
 }
 
--- all lines
-pub fill_all : (old new : Buffer) (area : Rect) (fg : Rgb565) (opa : ℕ) → is_empty area ≡ false → Paints old new (filled_area (first_lines area (height_of area)) fg opa) → Paints old new (filled_area area fg opa)
-fill_all old new area fg opa some h = subst (λ (a : Rect). Paints old new (filled_area a fg opa)) (first_lines-all area some) h
+-- all rows
+pub fill_all : (old new : Buffer) (area : Rect) (fg : Rgb565) (opa : ℕ) → is_empty area ≡ false → Paints old new (filled_area (first_rows area (height_of area)) fg opa) → Paints old new (filled_area area fg opa)
+fill_all old new area fg opa some h = subst (λ (a : Rect). Paints old new (filled_area a fg opa)) (first_rows-all area some) h
 
 and_left : (a b c : Bool) → ((a && b) && c) ≡ true → a ≡ true
 and_left true b c h = refl

@@ -1,4 +1,4 @@
--- The spots of objects.
+-- What is seen of an object.
 use Rattle.gui_base.specs.Area.{Rect}
 use Rattle.gui_base.specs.Corners.{rect_of}
 use Rattle.gui_core.specs.declared.paint.Spot.{Spot}

@@ -6,7 +6,8 @@ ghost use Rattle.gui_core.specs.Painting.{IsCorner};
 
 use gui_base::Area;
 
-/// The area from a corner, within 100,000 pixels of the panel's, with sizes of at most 4000 pixels.
+/// The area with this first corner, at most 100,000 pixels from the panel's in x and in y, and with sizes of
+/// at most 4000 pixels.
 pub(crate) fn area_from(x: i32, y: i32, width: u32, height: u32) -> Area
     requires corner { IsCorner x y }
     requires sizes { (width ≤ 4000) × (height ≤ 4000) }

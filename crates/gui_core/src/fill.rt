@@ -10,7 +10,8 @@ use gui_color::{DrawBuf, fill_row};
 /// The greatest opacity that leaves each pixel as it is.
 const UNSEEN: u8 = 3;
 
-/// Mixes a colour with an opacity from 0 to 255 over the pixels of the buffer that lie in the clip and in the area.
+/// Mixes a colour with an opacity from 0 to 255 over the pixels of the buffer that are in the clip and in the
+/// area.
 pub(crate) fn fill(buf: &mut DrawBuf, clip: Area, area: Area, fg: Rgb565, opa: u8)
     ensures { Paints buf.old buf.new (filled_inside (rect_of clip) (rect_of area) fg opa) }
 {
@@ -30,8 +31,8 @@ fn fill_part(buf: &mut DrawBuf, part: Area, fg: Rgb565, opa: u8)
     requires inside { HasCorners buf.old.area (rect_of part) }
     ensures { Paints buf.old buf.new (filled_area (rect_of part) fg opa) }
 {
-    for line in 0..part.height() {
-        let y = part.y1 + line as i32;
+    for row in 0..part.height() {
+        let y = part.y1 + row as i32;
         fill_row(buf.row_mut(y, part.x1, part.x2), fg, opa);
     }
 }

@@ -45,9 +45,9 @@ impl Gui {
         Ok(Gui { store, buffer })
     }
 
-    /// Carries out a command, or answers its first refusal, which leaves all as it was. What its events write goes to the log;
-    /// a change has no events. `Failed` comes only where the log failed: the machine is then as if the log had not failed, and
-    /// the log holds a prefix of what the events write.
+    /// Carries out a command, or answers its first refusal, which leaves all as it was. What its events write
+    /// goes to the log; a change has no events. `Failed` comes only where the log failed: the machine is then
+    /// as if the log had not failed, and the log holds a prefix of what the events write.
     pub fn apply<S: Sink>(&mut self, command: &Command, log: &mut S) -> Result<Reply, Failed>
         requires { IsCommand command.now }
         ensures machine { machine_of self.new ≡ (step (machine_of self.old) command.now).machine }
@@ -83,12 +83,13 @@ impl Gui {
         &self.store
     }
 
-    /// Sends the picture of the scene, in slices of at most the panel's limit, and stops at the first fault. `steps` counts the
-    /// pixels that are written black as each slice begins.
+    /// Sends the picture of the scene, in slices of at most the panel's limit, and stops at the first fault.
+    /// `steps` counts the pixels that are written black as each slice begins.
     pub fn refresh<P: Panel, B: Ledger>(&mut self, panel: &mut P, steps: &mut Steps<B>) -> Refreshed
         requires { HasSizes (P.state panel.old) (machine_of self.old).scene.limits }
         ensures machine { machine_of self.new ≡ machine_of self.old }
-        ensures refreshes { Refreshes (P.state panel.old) (P.state panel.new) (machine_of self.old).scene result }
+        ensures refreshes { Refreshes (P.state panel.old) (P.state panel.new) (machine_of self.old).scene
+            result }
     {
         let Limits { height, lines, .. } = *self.store.limits();
         let mut from = 0;

@@ -24,14 +24,14 @@ const TOP_LAYER: Handle = Handle(1);
 /// The layer above all else.
 const SYSTEM_LAYER: Handle = Handle(2);
 
-/// Where an object stands, and what is seen of it.
+/// An object's place, and the part of it that is seen.
 #[derive(Clone, Copy)]
 struct Spot {
     place: Area,
     visible: Area,
 }
 
-/// Paints what is shown of a scene over the pixels of the buffer: the active screen, and the layers above it.
+/// Paints what is shown of a scene over the pixels of the buffer: the active screen, and then the two layers.
 pub(crate) fn paint(store: &Store, buf: &mut DrawBuf)
     ensures { Paints buf.old buf.new (painted_scene store.now) }
 {
@@ -47,13 +47,15 @@ pub(crate) fn paint(store: &Store, buf: &mut DrawBuf)
     paint_tree(store, tree, buf, panel, ground, SYSTEM_LAYER);
 }
 
-/// Paints an object and then all that stands on it, where the spot is that of its parent. What is not there paints nothing.
+/// Paints an object and then all below it in the tree. `parent` is the spot of its parent. Where there is no
+/// such object, nothing is painted.
 fn paint_tree(store: &Store, tree: &Tree, buf: &mut DrawBuf, panel: Area, parent: Spot, h: Handle)
     requires tree { tree.now.forest ≡ handles_of store.now.trees }
     requires valid { IsValid store.now }
     requires panel { rect_of panel ≡ panel_of store.now }
     requires room { HasRoom (rect_of parent.place) (tree_by (is_at h.0) store.now.trees) }
-    ensures { Paints buf.old buf.new (painted (rect_of panel) (Some (rect_of parent.visible)) (rect_of parent.place) (tree_by (is_at h.0) store.now.trees)) }
+    ensures { Paints buf.old buf.new (painted (rect_of panel) (Some (rect_of parent.visible))
+        (rect_of parent.place) (tree_by (is_at h.0) store.now.trees)) }
 {
     let Some(row) = store.row(h) else {
         return;
@@ -69,13 +71,16 @@ fn paint_tree(store: &Store, tree: &Tree, buf: &mut DrawBuf, panel: Area, parent
     }
 }
 
-/// Where an object stands and what is seen of it, if anything is.
+/// An object's spot, or `None` where nothing of the object is seen.
 fn spot_of(row: &Row, panel: Area, parent: Spot) -> Option<Spot>
     requires near { IsNear (rect_of parent.place) }
     requires offset { IsOffset row.now.x × IsOffset row.now.y }
     requires size { IsSize row.now.width × IsSize row.now.height }
-    ensures visible { (h : ℕ) → option_map visible_of result ≡ clipped (Some (rect_of parent.visible)) (placed (rect_of panel) (rect_of parent.place) (row_of h row.now)) (row_of h row.now) }
-    ensures place { (h : ℕ) → IfSome result (λ spot. rect_of spot.place ≡ placed (rect_of panel) (rect_of parent.place) (row_of h row.now)) }
+    ensures visible { (h : ℕ) → option_map visible_of result
+        ≡ clipped (Some (rect_of parent.visible))
+        (placed (rect_of panel) (rect_of parent.place) (row_of h row.now)) (row_of h row.now) }
+    ensures place { (h : ℕ) → IfSome result
+        (λ spot. rect_of spot.place ≡ placed (rect_of panel) (rect_of parent.place) (row_of h row.now)) }
 {
     if row.is_on(Flag::Hidden) {
         return None;
@@ -88,7 +93,7 @@ fn spot_of(row: &Row, panel: Area, parent: Spot) -> Option<Spot>
     Some(Spot { place, visible })
 }
 
-/// Where an object stands whose parent stands at a place. A root fills the panel.
+/// An object's place, from its parent's. A root fills the panel.
 fn place_of(row: &Row, panel: Area, parent: Area) -> Area
     requires near { IsNear (rect_of parent) }
     requires offset { IsOffset row.now.x × IsOffset row.now.y }
@@ -114,11 +119,12 @@ fn pixels_of(length: Length) -> u32
     }
 }
 
-/// Fills an object's place where it is seen.
+/// Fills the part of an object's place that is seen.
 fn fill_spot(buf: &mut DrawBuf, spot: Spot, row: &Row)
     requires color { (h : ℕ) → IsValue BgColor (value_of (row_of h row.now) BgColor) }
     requires opa { (h : ℕ) → IsValue BgOpa (value_of (row_of h row.now) BgOpa) }
-    ensures { (h : ℕ) → Paints buf.old buf.new (painted_row (Some (rect_of spot.visible)) (rect_of spot.place) (row_of h row.now)) }
+    ensures { (h : ℕ) → Paints buf.old buf.new
+        (painted_row (Some (rect_of spot.visible)) (rect_of spot.place) (row_of h row.now)) }
 {
     let fg = rgb_of(row.value(Part::Main, Prop::BgColor));
     let opa = row.value(Part::Main, Prop::BgOpa).unsigned_abs() as u8;

@@ -1,4 +1,4 @@
--- Colours after a write of a row.
+-- The colours after a piece of a picture, one pixel high, was written.
 use Rattle.std.proofs.Common.{replicate, ◌≡◌, ◌∙◌, sym, ap, subst, ℕ, ◌+◌, ◌*◌, ◌<◌, ◌≤◌, inl, inr, List, length, take, drop, length-take, length-drop, arith, get_or, false, rules}
 use Rattle.std.specs.Prelude.{Some}
 use Rattle.std.specs.List.{slice_get}
@@ -36,7 +36,7 @@ get-put_above a k j xs ys e h le = elim (cases_lt j (length xs)) [
 abbrev box : ℕ → ℕ → ℕ → ℕ → Box
 box x y width height = record { x = x; y = y; width = width; height = height }
 
--- a place in an earlier row is below one in a later row
+-- a pixel at a smaller y comes before one at a greater y
 row_below : (w x y n a : ℕ) → x < w → y < n → y * w + x < n * w + a
 row_below w x y n a lt h = let step : (y + 1) * w ≤ n * w = mul-le-mul_right w (omega arith) in omega arith
 
@@ -106,7 +106,7 @@ area_room y h height width all le e = let step : (y + h) * width ≤ height * wi
 not_outside : (w ay ah x y : ℕ) → x < w → ay ≤ y → y < ay + ah → is_inside (box 0 ay w ah) x y ≡ false → ⊥
 not_outside w ay ah x y a b d out = grind (arith, nat_tests)
 
--- rows of the whole width are one piece
+-- an area of the whole width is one piece
 pub shows_whole : (w ay ah : ℕ) (colors old ys : List Rgb565) → (ay + ah) * w ≤ length old → length colors ≡ w * ah → ys ≡ colors →
     Shows w (box 0 ay w ah) colors old (put_mid (ay * w) (w * ah) old ys)
 shows_whole w ay ah colors old ys room each same =
@@ -131,14 +131,14 @@ shows_whole w ay ah colors old ys room each same =
 get-replicate : (n i : ℕ) (color : Rgb565) → i < n → slice_get (replicate n color) i ≡ Some color
 get-replicate n i color lt = slice_get-get_or (replicate n color) i color (omega (arith, length-replicate n color)) ∙ ap (λ c. Some c) (get_or-replicate n i color color lt)
 
--- a row of one colour is a part of many rows of it
+-- a piece of one colour is a part of an area of that colour
 pub get-same : (columns lines n i : ℕ) (color : Rgb565) (ys : List Rgb565) → ys ≡ replicate columns color → n < lines → i < columns →
     slice_get ys i ≡ slice_get (replicate (columns * lines) color) (n * columns + i)
 get-same columns lines n i color ys e lt lt' =
     let step : (n + 1) * columns ≤ lines * columns = mul-le-mul_right columns (omega arith) in
     ap (λ (zs : List Rgb565). slice_get zs i) e ∙ (get-replicate columns i color lt' ∙ sym (get-replicate (columns * lines) (n * columns + i) color (omega arith)))
 
--- a box within the panel lies within its pixels
+-- a box inside a panel is inside the picture that its pixels are
 pub holds_box : (area : Box) (width height all : ℕ) → all ≡ width * height → area.x + area.width ≤ width → area.y + area.height ≤ height → HoldsBox all width area
 holds_box area width height all e right bottom = record {
   right = right;

@@ -24,7 +24,7 @@ use Rattle.scene_run.proofs.Known.{Consumes-more, Consumes-nothing, Appends-noth
 use Rattle.scene_run.proofs.Breaking.{Keeps-self}
 use Rattle.scene_run.proofs.Halting.{halted_on}
 
--- So many bytes may still be taken; those before them were, and their lines were answered.
+-- At most `room` further bytes may be taken, and the lines of those that were taken are answered.
 pub record Gone (first : Machine) (old new : Outside) (runner : Runner) (room : ℕ) : Type 0 where
   pub taken : List ℕ
   pub source : Consumes old.source.left new.source.left taken

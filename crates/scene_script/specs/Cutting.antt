@@ -1,5 +1,6 @@
 -- What a cutter holds, and what bytes make of it.
-use Rattle.std.specs.Prelude.{ℕ, Bool, true, false, Some, None, Err, List, [], ◌∷◌, ◌++◌, length, nat_lt, if◌then◌else◌}
+use Rattle.std.specs.Prelude.{ℕ, Bool, true, false, Some, None, Err, nat_lt, if◌then◌else◌}
+use Rattle.std.specs.Prelude.{List, [], ◌∷◌, ◌++◌, length}
 use Rattle.std.specs.declared.option.Option.{Option}
 use Rattle.run_defs.specs.Script.{Said, max_line, is_newline, without_return, parse}
 use Rattle.run_defs.specs.declared.LineFault.TheVariants.{Long as TooLong}

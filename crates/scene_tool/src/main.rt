@@ -1,4 +1,5 @@
-//! Reads a script from standard input, and writes the frames to standard output and the log to standard error.
+//! Reads a script from standard input, and writes the frames to standard output and the log to standard
+//! error.
 #![tactic(auto)]
 
 use gui_edge::{SimPanel, SimPlan, StdSink, StdSource};

@@ -5,4 +5,9 @@ use Rattle.gui_base.specs.declared.area.Area.{Area}
 use Rattle.gui_edge.specs.Box.{Box}
 
 abbrev pub box_of : Area → Box
-box_of area = record { x = nat_of area.x1; y = nat_of area.y1; width = width_of (rect_of area); height = height_of (rect_of area) }
+box_of area = record {
+  x = nat_of area.x1;
+  y = nat_of area.y1;
+  width = width_of (rect_of area);
+  height = height_of (rect_of area);
+}

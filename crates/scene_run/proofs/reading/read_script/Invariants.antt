@@ -5,7 +5,7 @@ use Rattle.scene_run.specs.Effects.{Keeps}
 use Rattle.scene_run.proofs.Gone.{Gone}
 use Rattle.scene_run.proofs.reading.read_script.Given as goal
 
--- so many bytes may still be taken, and the lines of those before were answered
+-- at most `room` further bytes may be taken, and the lines of those that were taken are answered
 abbrev pub invariant-loop : goal.invariant-loop
 invariant-loop g l = record {
   gone : Gone (machine_of l.fn.gui) (record { source = g.S.Source.state l.initial.source; log = g.L.Sink.state l.initial.log; panel = g.P.Panel.state l.initial.panel })

@@ -64,7 +64,10 @@ pub record Opens (old new : PanelState) (width height limit : ℕ) : Type 0 wher
 
 -- what stays where a panel could not be opened
 pub record StaysClosed (old new : PanelState) : Type 0 where
+  pub width : new.width ≡ old.width
+  pub height : new.height ≡ old.height
   pub limit : new.limit ≡ 0
+  pub shows : new.shows ≡ old.shows
   pub frames : new.frames ≡ old.frames
   pub sent : new.sent ≡ old.sent
   pub present_faults : new.present_faults ≡ old.present_faults
@@ -74,7 +77,8 @@ abbrev pub OpenAnswer : PanelState → PanelState → ℕ → ℕ → ℕ → Re
 OpenAnswer old new width height limit (Ok u) = Opens old new width height limit
 OpenAnswer old new width height limit (Err Failed) =
     StaysClosed old new × (old.flush_faults < new.flush_faults)
-OpenAnswer old new width height limit (Err NoMemory) = StaysClosed old new
+OpenAnswer old new width height limit (Err NoMemory) =
+    StaysClosed old new × (new.flush_faults ≡ old.flush_faults)
 
 -- the area is inside the panel and has at most the limit's pixels, and there is one colour for each
 pub record CanFlush (panel : PanelState) (area : Box) (colors : List Rgb565) : Type 0 where

@@ -37,9 +37,8 @@ impl ListingPanel {
 impl Panel for ListingPanel {
     ghost use Rattle.std.specs.Prelude.{Some};
     ghost use Rattle.gui_edge.specs.Panel.Areas.{box_of};
-    ghost use Rattle.gui_edge.specs.SimPanel.{panel_state};
 
-    ghost state = { λ p. panel_state (Some p.panel.frames.held) p.panel };
+    ghost state = { λ p. ⟦<SimPanel<MemSink> as Panel>⟧.state p.panel };
 
     fn open(
         &mut self,

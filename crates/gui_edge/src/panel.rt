@@ -51,5 +51,6 @@ pub trait Panel {
         ensures err { OnErr result (WritesPrefix (state self.old) (state self.new)) }
         ensures cause { OnErr result (Rose (state self.old).present_faults (state self.new).present_faults) };
 
+    // Where a panel tells its pixels, it tells as many as it has, opened or not.
     ghost each: { (panel : Self) → TellsEach (state panel) };
 }

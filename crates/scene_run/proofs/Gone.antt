@@ -8,7 +8,7 @@ use Rattle.std.proofs.Math.Seq.{take-append-add, take-length}
 use Rattle.std.specs.Io.KnownBytes.{Consumes, IsAtEnd, Keeps as KeepsBytes}
 use Rattle.run_defs.specs.Machine.{Machine}
 use Rattle.run_defs.specs.Run.{entries}
-use Rattle.run_defs.specs.Script.{Whole, TooLong as Long, says, says_cut, rest_of, open_says, max_script}
+use Rattle.run_defs.specs.Script.{Whole, TooLong as ScriptTooLong, says, says_cut, rest_of, open_says, max_script}
 use Rattle.gui_edge.specs.Source.{SourceState}
 use Rattle.gui_core.specs.Machines.{machine_of}
 use Rattle.gui_edge.specs.Panel.{HasSizes}
@@ -92,7 +92,7 @@ whole_longer first start now taken (Some []) h = halted_on first start now (says
 whole_longer first start now taken (Some (b ∷ bytes)) h = h
 
 ended_by : (first : Machine) (start now : Output) (taken : List ℕ) (left : Option (List ℕ)) (t : Bool) → nat_lt max_script (length taken) ≡ t →
-    (t ≡ true → Halted first start now (says Long taken)) → (t ≡ false → Halted first start now (says_cut taken)) → Halted first start now (says (end_reached left taken) taken)
+    (t ≡ true → Halted first start now (says ScriptTooLong taken)) → (t ≡ false → Halted first start now (says_cut taken)) → Halted first start now (says (end_reached left taken) taken)
 ended_by first start now taken left true e h k = rw e (h refl)
 ended_by first start now taken left false e h k = rw e (whole_longer first start now taken left (k refl))
 

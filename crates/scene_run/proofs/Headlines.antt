@@ -1,6 +1,6 @@
 -- The headline from the reading.
 use Rattle.std.proofs.Common.{◌≡◌, subst, ℕ, ◌*◌, ◌≤◌, arith, refl, List}
-use Rattle.std.specs.Prelude.{Some, None, IsSome, IfSome}
+use Rattle.std.specs.Prelude.{Some, None, IsSome}
 use Rattle.std.specs.declared.option.Option.{Option}
 use Rattle.std.specs.Io.KnownBytes.{Appends}
 use Rattle.gui_base.specs.declared.color.Rgb565.{Rgb565}
@@ -20,7 +20,7 @@ use Rattle.scene_run.specs.Headline.{Outside, Answers, Ended, Runs, Headline, ou
 use Rattle.scene_run.specs.Reads.{Reads, ReadingEnds}
 use Rattle.scene_run.specs.declared.status.Status.{Status}
 use Rattle.scene_run.specs.declared.status.Status.TheVariants.{Done, Noted, Usage, ReadFault, WriteFault, PanelFault, NoMemory, TooLong}
-use Rattle.std.specs.Prelude.{◌<◌, length}
+use Rattle.std.specs.Prelude.{◌<◌}
 
 told_on : (a b : Option (List Rgb565)) (R : List Rgb565 → List Rgb565 → Type 0) → Told a b R → IsSome a → IsSome b
 told_on None b R t h = cc

@@ -6,7 +6,7 @@ use Rattle.std.specs.Io.KnownBytes.{Appends, Consumes, IsAtEnd}
 use Rattle.gui_base.specs.Limits.{Bounds}
 use Rattle.run_defs.specs.declared.Outcome.{Outcome}
 use Rattle.run_defs.specs.Machine.{first_machine}
-use Rattle.run_defs.specs.Script.{Said, End, Whole, Cut, TooLong as Long, says, max_script}
+use Rattle.run_defs.specs.Script.{Said, End, Whole, Cut, TooLong as ScriptTooLong, says, max_script}
 use Rattle.run_defs.specs.Run.{entries, noted, frame_count, fault_count, log_text, frame_files, done_scenes}
 use Rattle.run_defs.specs.Run.{last_done}
 use Rattle.gui_edge.specs.Source.{SourceState}
@@ -62,7 +62,7 @@ end_of (Some (b ∷ bytes)) = Cut
 
 -- where the reading was when a write failed: past the longest script, at the script's end, or before it
 abbrev pub end_reached : Option (List ℕ) → List ℕ → End
-end_reached left taken = if nat_lt max_script (length taken) then Long else end_of left
+end_reached left taken = if nat_lt max_script (length taken) then ScriptTooLong else end_of left
 
 -- what the bytes that were taken came to, by how the run ended
 abbrev pub Ended : Bounds → Outside → Outside → List ℕ → Status → Type 0
@@ -73,7 +73,8 @@ Ended limits old new taken Noted =
     IsAtEnd new.source.left × (length taken ≤ max_script)
     × AnswersNoting limits old new (says Whole taken) true
 Ended limits old new taken ReadFault = (length taken ≤ max_script) × Answers limits old new (says Cut taken)
-Ended limits old new taken TooLong = (max_script < length taken) × Answers limits old new (says Long taken)
+Ended limits old new taken TooLong =
+    (max_script < length taken) × Answers limits old new (says ScriptTooLong taken)
 Ended limits old new taken WriteFault =
     Halted (first_machine limits) (output_of old) (output_of new)
     (says (end_reached new.source.left taken) taken)

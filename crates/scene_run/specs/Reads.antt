@@ -2,7 +2,7 @@
 use Rattle.std.specs.Prelude.{ℕ, Bool, true, false, ◌≤◌, ◌<◌, List, length, None}
 use Rattle.std.specs.Io.KnownBytes.{Consumes, IsAtEnd}
 use Rattle.run_defs.specs.Machine.{Machine}
-use Rattle.run_defs.specs.Script.{Said, Cut, TooLong as Long, says, max_script}
+use Rattle.run_defs.specs.Script.{Said, Cut, TooLong as ScriptTooLong, says, max_script}
 use Rattle.run_defs.specs.Run.{entries}
 use Rattle.run_defs.specs.declared.Outcome.{Outcome}
 use Rattle.gui_edge.specs.Panel.{HasSizes}
@@ -33,7 +33,7 @@ ReadingEnds first old new taken ReadFault =
 ReadingEnds first old new taken WriteFault =
     Halted first (output_of old) (output_of new) (says (end_reached new.source.left taken) taken)
 ReadingEnds first old new taken TooLong =
-    (max_script < length taken) × RunsLines first (output_of old) (output_of new) (says Long taken)
+    (max_script < length taken) × RunsLines first (output_of old) (output_of new) (says ScriptTooLong taken)
 ReadingEnds first old new taken Usage = ⊥
 ReadingEnds first old new taken PanelFault = ⊥
 ReadingEnds first old new taken NoMemory = ⊥

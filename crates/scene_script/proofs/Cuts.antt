@@ -1,10 +1,9 @@
 -- What a cutter says of the bytes that it took.
-use Rattle.std.proofs.Common.{◌≡◌, ◌≢◌, ◌∙◌, ap, ℕ, Bool, true, false, List, [], ◌∷◌, ◌++◌, length-append, arith, refl}
-use Rattle.std.specs.Prelude.{Some, None, IsSome, if◌then◌else◌}
+use Rattle.std.proofs.Common.{◌≡◌, ◌≢◌, ◌∙◌, ap, ℕ, true, false, List, [], ◌∷◌, ◌++◌, length-append, arith, refl}
+use Rattle.std.specs.Prelude.{Some, None}
 use Rattle.std.specs.declared.option.Option.{Option}
 use Rattle.std.proofs.lemmas.Bool.Decides.{nat_tests}
 use Rattle.run_defs.specs.Script.{is_newline, ended_says, open_says}
-use Rattle.scene_script.specs.declared.cutter.Cut.TheVariants.{More, Line}
 use Rattle.scene_script.specs.Cutting.{Cutting, kept, kept_with, begun, cut_of, last_cut, pushed, finished, cut_line, cut_says}
 
 newline_says : (rest : List ℕ) → cut_line (cut_of (kept rest)) (kept rest) false ≡ ended_says rest ∷ []

@@ -3,7 +3,7 @@ use Rattle.std.specs.Prelude.{ℕ, Bool, true, false, Some, None, Err, nat_lt, i
 use Rattle.std.specs.Prelude.{List, [], ◌∷◌, ◌++◌, length}
 use Rattle.std.specs.declared.option.Option.{Option}
 use Rattle.run_defs.specs.Script.{Said, max_line, is_newline, without_return, parse}
-use Rattle.run_defs.specs.declared.LineFault.TheVariants.{Long as TooLong}
+use Rattle.run_defs.specs.declared.LineFault.TheVariants.{Long as LongLine}
 use Rattle.scene_script.specs.declared.cutter.Cut.{Cut}
 use Rattle.scene_script.specs.declared.cutter.Cut.TheVariants.{More, Line, Long}
 
@@ -62,7 +62,7 @@ abbrev pub cut_line : Cut → Option (List ℕ) → Bool → List Said
 cut_line More bytes last = []
 cut_line Line None last = []
 cut_line Line (Some bytes) last = parse (line_of last bytes) ∷ []
-cut_line Long bytes last = Err TooLong ∷ []
+cut_line Long bytes last = Err LongLine ∷ []
 
 abbrev pub cut_says : Cutting → List Said
 cut_says c = cut_line c.answer c.bytes c.last

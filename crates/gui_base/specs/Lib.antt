@@ -5,4 +5,6 @@ pub mod Corners
 pub mod Forest
 pub mod Intervals
 pub mod Limits
+pub mod Names
+pub mod Pools
 pub mod Ppm

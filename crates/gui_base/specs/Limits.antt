@@ -1,7 +1,10 @@
--- The ranges of the limits, and their values where the words do not name a pool.
+-- The limits, their ranges, and what they are where no word asks for others.
 use Rattle.std.specs.Prelude.{ℕ, ◌≤◌, None}
 use Rattle.std.specs.declared.option.Option.{Option}
 use Rattle.std.specs.Option.{ForSome}
+use Rattle.gui_base.specs.declared.limits.Pool.{Pool}
+use Rattle.gui_base.specs.declared.limits.Pool.TheVariants.{Objects, Styles, Entries, Uses, Texts, Fonts, Glyphs, Ink, Images, Pixels, Handlers, Groups, Anims}
+use Rattle.gui_base.specs.Pools.{least, most, default}
 
 -- the sizes of a panel in pixels, and the lines of its draw buffer
 pub record IsPanel (width height lines : ℕ) : Type 0 where
@@ -14,20 +17,20 @@ pub record IsPanel (width height lines : ℕ) : Type 0 where
 
 -- how many slots each pool may have
 pub record ArePools (objects styles entries uses texts fonts glyphs ink images pixels handlers groups anims : ℕ) : Type 0 where
-  pub least_objects : 3 ≤ objects
-  pub most_objects : objects ≤ 4000
-  pub most_styles : styles ≤ 999
-  pub most_entries : entries ≤ 20000
-  pub most_uses : uses ≤ 20000
-  pub most_texts : texts ≤ 20000
-  pub most_fonts : fonts ≤ 99
-  pub most_glyphs : glyphs ≤ 5000
-  pub most_ink : ink ≤ 262144
-  pub most_images : images ≤ 999
-  pub most_pixels : pixels ≤ 4194304
-  pub most_handlers : handlers ≤ 4000
-  pub most_groups : groups ≤ 99
-  pub most_anims : anims ≤ 1000
+  pub least_objects : least Objects ≤ objects
+  pub most_objects : objects ≤ most Objects
+  pub most_styles : styles ≤ most Styles
+  pub most_entries : entries ≤ most Entries
+  pub most_uses : uses ≤ most Uses
+  pub most_texts : texts ≤ most Texts
+  pub most_fonts : fonts ≤ most Fonts
+  pub most_glyphs : glyphs ≤ most Glyphs
+  pub most_ink : ink ≤ most Ink
+  pub most_images : images ≤ most Images
+  pub most_pixels : pixels ≤ most Pixels
+  pub most_handlers : handlers ≤ most Handlers
+  pub most_groups : groups ≤ most Groups
+  pub most_anims : anims ≤ most Anims
 
 -- the number of a made script
 abbrev pub IsMade : Option ℕ → Type 0
@@ -59,18 +62,50 @@ with_sizes width height lines = record {
   width = width;
   height = height;
   lines = lines;
-  objects = 256;
-  styles = 64;
-  entries = 1024;
-  uses = 512;
-  texts = 1024;
-  fonts = 4;
-  glyphs = 512;
-  ink = 16384;
-  images = 16;
-  pixels = 65536;
-  handlers = 256;
-  groups = 8;
-  anims = 32;
+  objects = default Objects;
+  styles = default Styles;
+  entries = default Entries;
+  uses = default Uses;
+  texts = default Texts;
+  fonts = default Fonts;
+  glyphs = default Glyphs;
+  ink = default Ink;
+  images = default Images;
+  pixels = default Pixels;
+  handlers = default Handlers;
+  groups = default Groups;
+  anims = default Anims;
   make = None;
 }
+
+-- the slots of a pool
+abbrev pub slots : Bounds → Pool → ℕ
+slots limits Objects = limits.objects
+slots limits Styles = limits.styles
+slots limits Entries = limits.entries
+slots limits Uses = limits.uses
+slots limits Texts = limits.texts
+slots limits Fonts = limits.fonts
+slots limits Glyphs = limits.glyphs
+slots limits Ink = limits.ink
+slots limits Images = limits.images
+slots limits Pixels = limits.pixels
+slots limits Handlers = limits.handlers
+slots limits Groups = limits.groups
+slots limits Anims = limits.anims
+
+-- the limits with so many slots of a pool
+abbrev pub with_slots : Pool → Bounds → ℕ → Bounds
+with_slots Objects limits n = record limits { objects = n }
+with_slots Styles limits n = record limits { styles = n }
+with_slots Entries limits n = record limits { entries = n }
+with_slots Uses limits n = record limits { uses = n }
+with_slots Texts limits n = record limits { texts = n }
+with_slots Fonts limits n = record limits { fonts = n }
+with_slots Glyphs limits n = record limits { glyphs = n }
+with_slots Ink limits n = record limits { ink = n }
+with_slots Images limits n = record limits { images = n }
+with_slots Pixels limits n = record limits { pixels = n }
+with_slots Handlers limits n = record limits { handlers = n }
+with_slots Groups limits n = record limits { groups = n }
+with_slots Anims limits n = record limits { anims = n }

@@ -34,8 +34,8 @@ pub enum Pool {
 }
 
 /// The panel's sizes in pixels, the lines of the draw buffer, the slots of each pool, and which made script is run, if any.
-/// Each number lies within its range: the sizes from 1 to 1024, the lines from 1 to the height, the pools as [`Limits::with_sizes`] and
-/// the guide to the script language list them.
+/// Each number lies within its range: the sizes from 1 to 1024, the lines from 1 to the height, the slots of each pool in
+/// the range that [`Pool::range`] gives.
 #[derive(Clone, Copy, Debug)]
 pub struct Limits {
     pub width: u32,
@@ -61,7 +61,8 @@ pub struct Limits {
 }
 
 impl Limits {
-    ghost use Rattle.gui_base.specs.Limits.{with_sizes};
+    ghost use Rattle.gui_base.specs.Limits.{with_sizes, slots, with_slots};
+    ghost use Rattle.gui_base.specs.Pools.{least, most};
     ghost use Rattle.gui_base.specs.Bounded.{bounds_of};
 
     /// These sizes, each pool with its default, and no made script.
@@ -73,20 +74,64 @@ impl Limits {
             width,
             height,
             lines,
-            objects: 256,
-            styles: 64,
-            entries: 1024,
-            uses: 512,
-            texts: 1024,
-            fonts: 4,
-            glyphs: 512,
-            ink: 16384,
-            images: 16,
-            pixels: 65536,
-            handlers: 256,
-            groups: 8,
-            anims: 32,
+            objects: Pool::Objects.default_slots(),
+            styles: Pool::Styles.default_slots(),
+            entries: Pool::Entries.default_slots(),
+            uses: Pool::Uses.default_slots(),
+            texts: Pool::Texts.default_slots(),
+            fonts: Pool::Fonts.default_slots(),
+            glyphs: Pool::Glyphs.default_slots(),
+            ink: Pool::Ink.default_slots(),
+            images: Pool::Images.default_slots(),
+            pixels: Pool::Pixels.default_slots(),
+            handlers: Pool::Handlers.default_slots(),
+            groups: Pool::Groups.default_slots(),
+            anims: Pool::Anims.default_slots(),
             make: None,
+        }
+    }
+
+    /// The slots of a pool.
+    pub fn slots(&self, pool: Pool) -> u32
+        ensures { result ≡ slots (bounds_of self.now) pool }
+    {
+        match pool {
+            Pool::Objects => self.objects,
+            Pool::Styles => self.styles,
+            Pool::Entries => self.entries,
+            Pool::Uses => self.uses,
+            Pool::Texts => self.texts,
+            Pool::Fonts => self.fonts,
+            Pool::Glyphs => self.glyphs,
+            Pool::Ink => self.ink,
+            Pool::Images => self.images,
+            Pool::Pixels => self.pixels,
+            Pool::Handlers => self.handlers,
+            Pool::Groups => self.groups,
+            Pool::Anims => self.anims,
+        }
+    }
+
+    /// Sets the slots of a pool to a number in its range.
+    pub fn set_slots(&mut self, pool: Pool, count: u32)
+        requires least { least pool ≤ count }
+        requires most { count ≤ most pool }
+        ensures { bounds_of self.new ≡ with_slots pool (bounds_of self.old) count }
+    {
+        match pool {
+            Pool::Objects => self.objects = count,
+            Pool::Styles => self.styles = count,
+            Pool::Entries => self.entries = count,
+            Pool::Uses => self.uses = count,
+            Pool::Texts => self.texts = count,
+            Pool::Fonts => self.fonts = count,
+            Pool::Glyphs => self.glyphs = count,
+            Pool::Ink => self.ink = count,
+            Pool::Images => self.images = count,
+            Pool::Pixels => self.pixels = count,
+            Pool::Handlers => self.handlers = count,
+            Pool::Groups => self.groups = count,
+            Pool::Anims => self.anims = count,
         }
     }
 }

@@ -1,4 +1,4 @@
-//! The words of the script language that several crates share.
+//! The words of the script language that several crates share. Each kind of word has one table of its names.
 
 /// What an object is. Screens and layers are roots and cannot be made by `new`.
 #[derive(Clone, Copy, Debug, PartialEq, Eq)]
@@ -10,6 +10,9 @@ pub enum Kind {
     /// A plain object.
     Obj,
 }
+
+/// The kinds that `new` makes.
+pub const KINDS: [(&'static str, Kind); 1] = [("obj", Kind::Obj)];
 
 /// What may be switched on and off at an object.
 #[derive(Clone, Copy, Debug, PartialEq, Eq)]
@@ -24,12 +27,24 @@ pub enum Flag {
     Bubble,
 }
 
+pub const FLAGS: [(&'static str, Flag); 4] = [
+    ("hidden", Flag::Hidden),
+    ("clickable", Flag::Clickable),
+    ("checkable", Flag::Checkable),
+    ("bubble", Flag::Bubble),
+];
+
+/// What a flag is set to.
+pub const ON_OFF: [(&'static str, bool); 2] = [("on", true), ("off", false)];
+
 /// The part of an object that a property is for.
 #[derive(Clone, Copy, Debug, PartialEq, Eq)]
 pub enum Part {
     /// The object itself.
     Main,
 }
+
+pub const PARTS: [(&'static str, Part); 1] = [("main", Part::Main)];
 
 /// A property of a part.
 #[derive(Clone, Copy, Debug, PartialEq, Eq)]
@@ -39,6 +54,8 @@ pub enum Prop {
     /// The opacity of the fill, from 0 to 255.
     BgOpa,
 }
+
+pub const PROPS: [(&'static str, Prop); 2] = [("bg_color", Prop::BgColor), ("bg_opa", Prop::BgOpa)];
 
 /// A wanted width or height.
 #[derive(Clone, Copy, Debug, PartialEq, Eq)]

@@ -15,6 +15,7 @@ pub use area::Area;
 pub use color::Rgb565;
 pub use limits::{Limits, Pool};
 pub use names::named;
+pub use pools::POOLS;
 pub use refusal::Refusal;
 pub use steps::Steps;
 pub use words::{Flag, Kind, Length, Part, Prop};

@@ -21,24 +21,24 @@ pub const HANDLERS: PoolRow = ("handlers", 0, 4000, 256);
 pub const GROUPS: PoolRow = ("groups", 0, 99, 8);
 pub const ANIMS: PoolRow = ("anims", 0, 1000, 32);
 
-impl Pool {
-    /// Every pool, in the order in which the words of the command line are read.
-    pub const ALL: [Pool; 13] = [
-        Pool::Objects,
-        Pool::Styles,
-        Pool::Entries,
-        Pool::Uses,
-        Pool::Texts,
-        Pool::Fonts,
-        Pool::Glyphs,
-        Pool::Ink,
-        Pool::Images,
-        Pool::Pixels,
-        Pool::Handlers,
-        Pool::Groups,
-        Pool::Anims,
-    ];
+/// Every pool, in the order in which the words of the command line are read.
+pub const POOLS: [Pool; 13] = [
+    Pool::Objects,
+    Pool::Styles,
+    Pool::Entries,
+    Pool::Uses,
+    Pool::Texts,
+    Pool::Fonts,
+    Pool::Glyphs,
+    Pool::Ink,
+    Pool::Images,
+    Pool::Pixels,
+    Pool::Handlers,
+    Pool::Groups,
+    Pool::Anims,
+];
 
+impl Pool {
     /// Its name in words and replies.
     pub fn name(self) -> &'static str
         ensures name { result.now ≡ pool_name self }

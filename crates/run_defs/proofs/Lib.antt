@@ -1,5 +1,8 @@
+pub mod Fields
 pub mod Fronts
 pub mod Lines
 pub mod Ranges
 pub mod Readings
 pub mod Runs
+pub mod SameSaying
+pub mod WorkedLines

@@ -45,7 +45,7 @@ rest_of-newline [] = refl
 rest_of-newline (b ∷ bs) = grind (arith, nat_tests, rest_of-newline bs, any_newline bs)
 
 -- any other byte goes on with it
-any_other : (bs : List ℕ) (b : ℕ) → b ≢ 10 → list_any is_newline (bs ++ b ∷ []) ≡ list_any is_newline bs
+pub any_other : (bs : List ℕ) (b : ℕ) → b ≢ 10 → list_any is_newline (bs ++ b ∷ []) ≡ list_any is_newline bs
 any_other [] b ne = grind (arith, nat_tests)
 any_other (a ∷ bs) b ne = grind (arith, nat_tests, any_other bs b ne)
 

@@ -1,9 +1,12 @@
 -- Laws on scripts and runs.
-use Rattle.std.specs.Prelude.{◌≡◌, true, ℕ, List, length, Ok, Err, ⊤}
+use Rattle.std.specs.Prelude.{◌≡◌, ◌≤◌, ◌<◌, true, false, ℕ, List, ◌++◌, length, codes, Ok, Err, None, ⊤}
+use Rattle.std.specs.List.{flat_map, list_any, AllByRecursion}
 use Rattle.run_defs.specs.declared.Outcome.{Outcome}
 use Rattle.run_defs.specs.declared.Line.TheVariants.{Blank, Frame, Make}
+use Rattle.run_defs.specs.Language.{words_of, is_comment, is_in_no_word}
+use Rattle.run_defs.specs.Fields.{Field, Progress, value, past, next_of}
 use Rattle.run_defs.specs.Step.{is_command_in_range, IsCommand}
-use Rattle.run_defs.specs.Script.{Said, parse}
+use Rattle.run_defs.specs.Script.{Said, parse, max_line, is_newline, without_return, says_cut}
 use Rattle.run_defs.specs.Run.{Entry, log_text, frame_count}
 
 -- the log shows the outcomes: two lists with one outcome for each frame that give the same log are the same list
@@ -21,3 +24,35 @@ IsInRange (Err fault) = ⊤
 -- no line says a number outside its interval
 abbrev pub SaysInRange : Type 0
 SaysInRange = (line : List ℕ) → IsInRange (parse line)
+
+-- a line without a fault holds no stand-in: each field of it is what its word says
+abbrev pub NoStandIn : Type 0 → Type 0
+NoStandIn A = (field : Field A) (at : Progress) → (past field at).fault ≡ None → field.says (next_of at.rest) ≡ Ok (value field at)
+
+-- and no field before it was at fault
+abbrev pub FaultStays : Type 0 → Type 0
+FaultStays A = (field : Field A) (at : Progress) → (past field at).fault ≡ None → at.fault ≡ None
+
+-- lines, each with these bytes at its end
+abbrev pub ended_with : List ℕ → List (List ℕ) → List ℕ
+ended_with ending lines = flat_map (λ line. line ++ ending) lines
+
+-- a line without a newline and without a carriage return at its end, which leaves room for one
+pub record IsReturnless (line : List ℕ) : Type 0 where
+  pub no_newline : list_any is_newline line ≡ false
+  pub no_return : without_return line ≡ line
+  pub room : length line < max_line
+
+-- a carriage return before the newline says nothing: lines that end with both say what they say that end with a newline alone
+abbrev pub ReturnSaysNothing : Type 0
+ReturnSaysNothing = (lines : List (List ℕ)) → AllByRecursion IsReturnless lines → says_cut (ended_with (codes "\r\n") lines) ≡ says_cut (ended_with (codes "\n") lines)
+
+-- a line that is not too long, no comment, and has no byte that no word has
+pub record IsPlain (line : List ℕ) : Type 0 where
+  pub short : length line ≤ max_line
+  pub no_comment : is_comment line ≡ false
+  pub clean : list_any is_in_no_word line ≡ false
+
+-- such lines say the same where their words are the same, however many spaces stand around them
+abbrev pub SameWordsSaySame : Type 0
+SameWordsSaySame = (first second : List ℕ) → IsPlain first → IsPlain second → words_of first ≡ words_of second → parse first ≡ parse second

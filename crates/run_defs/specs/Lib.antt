@@ -1,6 +1,9 @@
+pub mod Commands
+pub mod Fields
 pub mod Language
 pub mod Laws
 pub mod Machine
+pub mod Numbers
 pub mod Run
 pub mod Script
 pub mod Step

@@ -5,8 +5,6 @@ use Rattle.std.specs.List.{flat_map, list_any}
 use Rattle.scene_defs.specs.Scene.{Scene}
 use Rattle.scene_defs.specs.Picture.{frame_file}
 use Rattle.run_defs.specs.declared.Line.TheVariants.{Blank, Frame, Make}
-use Rattle.run_defs.specs.declared.LineFault.{LineFault}
-use Rattle.run_defs.specs.declared.LineFault.TheVariants.{Long, Syntax, Range}
 use Rattle.run_defs.specs.declared.Outcome.{Outcome}
 use Rattle.run_defs.specs.declared.Outcome.TheVariants.{Done, Fault}
 use Rattle.run_defs.specs.declared.Reply.{Reply}
@@ -14,21 +12,13 @@ use Rattle.run_defs.specs.declared.Reply.TheVariants.{Ok as Fine, Refused}
 use Rattle.run_defs.specs.Machine.{Machine}
 use Rattle.run_defs.specs.Step.{step, is_noted}
 use Rattle.run_defs.specs.Script.{Said}
-use Rattle.run_defs.specs.Why.{why}
+use Rattle.run_defs.specs.Why.{why, refusal_of}
 
 -- what a line comes to: nothing, a reply, which may be a refusal, or a frame of this scene
 pub data Entry : Type 0 where
   Silent : Entry
   Replied : (text : List ℕ) (refused : Bool) → Entry
   Framed : (scene : Scene) → Entry
-
-abbrev pub why_fault : LineFault → List ℕ
-why_fault Long = codes "long"
-why_fault Syntax = codes "syntax"
-why_fault Range = codes "range"
-
-abbrev pub refused_for : List ℕ → Entry
-refused_for why = Replied (codes "refused " ++ why) true
 
 -- the text of a reply
 abbrev pub reply_text : Reply → List ℕ
@@ -42,7 +32,7 @@ abbrev pub entry : Machine → Said → Entry
 entry machine (Ok Blank) = Silent
 entry machine (Ok Frame) = Framed machine.scene
 entry machine (Ok (Make command)) = replied (step machine command).reply
-entry machine (Err fault) = refused_for (why_fault fault)
+entry machine (Err fault) = replied (Refused (refusal_of fault))
 
 -- the machine after a line
 abbrev pub after : Machine → Said → Machine

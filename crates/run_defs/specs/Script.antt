@@ -1,13 +1,13 @@
 -- What a script says: its lines, and what each of them says.
-use Rattle.std.specs.Prelude.{ℕ, ◌-◌, Bool, ◌==◌, nat_lt, if◌then◌else◌, List, [], ◌∷◌, ◌++◌, length, take, slice_index, map, codes, Ok, Err}
+use Rattle.std.specs.Prelude.{ℕ, ◌-◌, Bool, ◌==◌, nat_lt, if◌then◌else◌, List, [], ◌∷◌, ◌++◌, length, take, slice_index, map, Ok, Err}
 use Rattle.std.specs.declared.result.Result.{Result}
 use Rattle.std.specs.List.{list_any}
 use Rattle.run_defs.specs.declared.Line.{Line}
-use Rattle.run_defs.specs.declared.Line.TheVariants.{Blank, Frame, Make}
-use Rattle.run_defs.specs.declared.Command.TheVariants.{Change as CommandOf}
+use Rattle.run_defs.specs.declared.Line.TheVariants.{Blank}
 use Rattle.run_defs.specs.declared.LineFault.{LineFault}
 use Rattle.run_defs.specs.declared.LineFault.TheVariants.{Long, Syntax}
-use Rattle.run_defs.specs.Language.{Word, words_of, is_comment, is_in_no_word, is_name, mapped, change_of}
+use Rattle.run_defs.specs.Commands.{command_says}
+use Rattle.run_defs.specs.Language.{Word, words_of, is_comment, is_in_no_word}
 
 -- what a line says, or why it is refused
 abbrev pub Said : Type 0
@@ -38,16 +38,10 @@ abbrev pub rest_of : List ℕ → List ℕ
 rest_of [] = []
 rest_of (b ∷ bs) = if list_any is_newline (b ∷ bs) then rest_of bs else b ∷ bs
 
--- `frame` stands alone
-abbrev pub frame_form : List Word → Said
-frame_form [] = Ok Frame
-frame_form (word ∷ words) = Err Syntax
-
 -- what words say
-unfoldable pub words_say : List Word → Said
+abbrev pub words_say : List Word → Said
 words_say [] = Ok Blank
-words_say (name ∷ words) =
-    if is_name (codes "frame") name then frame_form words else mapped (λ change. Make (CommandOf change)) (change_of name words)
+words_say (name ∷ words) = command_says name words
 
 -- what a line says that is not too long
 unfoldable pub line_says : List ℕ → Said

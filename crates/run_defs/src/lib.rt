@@ -2,7 +2,12 @@
 //! code here but the words that code and definitions share, and laws.
 #![tactic(auto)]
 
-ghost use Rattle.run_defs.specs.Laws.{ShowsOutcomes, SaysInRange};
+ghost use Rattle.std.specs.Prelude.{◌≡◌};
+ghost use Rattle.run_defs.specs.Laws.{ShowsOutcomes, SaysInRange, NoStandIn, FaultStays, ReturnSaysNothing, SameWordsSaySame};
+
+mod names;
+
+pub use names::{COMMANDS, Name, RowName, TreeName};
 
 use gui_base::Refusal;
 use scene_defs::Change;
@@ -49,6 +54,20 @@ pub enum LineFault {
     Range,
 }
 
+impl From<LineFault> for Refusal {
+    ghost use Rattle.run_defs.specs.Why.{refusal_of};
+
+    fn from(fault: LineFault) -> Refusal
+        ensures { result ≡ refusal_of fault }
+    {
+        match fault {
+            LineFault::Long => Refusal::Long,
+            LineFault::Syntax => Refusal::Syntax,
+            LineFault::Range => Refusal::Range,
+        }
+    }
+}
+
 /// How a frame line ended.
 #[derive(Clone, Copy, Debug, PartialEq, Eq)]
 pub enum Outcome {
@@ -66,4 +85,20 @@ pub fn log_shows_outcomes()
 /// What a line says has each number in its interval.
 pub fn lines_say_in_range()
     ensures { SaysInRange }
+{}
+
+/// A line that is read says what its words say: what stands in for a word at fault is never part of it.
+pub fn lines_hold_no_stand_in<T>()
+    ensures no_stand_in { NoStandIn T }
+    ensures no_fault_before { FaultStays T }
+{}
+
+/// A carriage return before a newline says nothing.
+pub fn carriage_returns_say_nothing()
+    ensures { ReturnSaysNothing }
+{}
+
+/// Lines of the same words say the same.
+pub fn same_words_say_the_same()
+    ensures { SameWordsSaySame }
 {}

@@ -1,5 +1,7 @@
 -- The intervals of the numbers of a change.
-use Rattle.std.specs.Prelude.{ℕ, Bool, ◌&&◌, nat_le, ℤ, pos, neg_ℤ, int_le}
+use Rattle.std.specs.Prelude.{ℕ, Bool, ◌&&◌, ℤ}
+use Rattle.gui_base.specs.declared.intervals.TheConstants.{HANDLE, NEW_HANDLE, INDEX, EXTENT, COORDINATE, OPACITY, COLOR}
+use Rattle.gui_base.specs.Intervals.{is_counted, is_within}
 use Rattle.gui_base.specs.declared.words.Length.{Length}
 use Rattle.gui_base.specs.declared.words.Length.TheVariants.{Pixels}
 use Rattle.gui_base.specs.declared.words.Prop.{Prop}
@@ -26,19 +28,19 @@ abbrev pub largest : ℕ
 largest = 4000
 
 abbrev pub is_handle : ℕ → Bool
-is_handle h = nat_le 1 h && nat_le h last_handle
+is_handle h = is_counted HANDLE h
 
 abbrev pub is_new_handle : ℕ → Bool
-is_new_handle h = nat_le first_chosen h && nat_le h last_handle
+is_new_handle h = is_counted NEW_HANDLE h
 
 abbrev pub is_index : ℕ → Bool
-is_index n = nat_le n last_index
+is_index n = is_counted INDEX n
 
 abbrev pub is_offset : ℤ → Bool
-is_offset n = int_le (neg_ℤ (pos farthest)) n && int_le n (pos farthest)
+is_offset n = is_within COORDINATE n
 
 abbrev pub is_size : Length → Bool
-is_size (Pixels n) = nat_le n largest
+is_size (Pixels n) = is_counted EXTENT n
 
 -- the greatest value of a property, whose least is 0
 abbrev pub greatest : Prop → ℕ
@@ -46,7 +48,8 @@ greatest BgColor = 16777215
 greatest BgOpa = 255
 
 abbrev pub is_value : Prop → ℤ → Bool
-is_value prop value = int_le (pos 0) value && int_le value (pos (greatest prop))
+is_value BgColor value = is_within COLOR value
+is_value BgOpa value = is_within OPACITY value
 
 -- whether each number of a change lies in its interval
 abbrev pub is_in_range : Change → Bool

@@ -1,4 +1,3 @@
 pub mod Cuts
-pub mod FormLemmas
 pub mod NumberLemmas
 pub mod WordLemmas

@@ -3,13 +3,14 @@
 
 mod commands;
 mod cutter;
-mod names;
+mod fields;
 mod numbers;
 mod parse;
 mod refusals;
 mod words;
 
 pub use cutter::{Cut, Cutter};
+pub use numbers::natural;
 pub use parse::parse_line;
 pub use refusals::why;
 pub use run_defs::{Command, Line, LineFault};

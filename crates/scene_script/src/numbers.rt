@@ -1,44 +1,70 @@
 //! Numbers and colours.
-ghost use Rattle.std.specs.Prelude.{◌≡◌, ◌<◌, ◌≤ℤ◌, ◌<ℤ◌, min, pos, neg_ℤ, option_map, IfOk, IfSome};
+ghost use Rattle.std.specs.Prelude.{◌≡◌, ◌≤◌, ◌≤ℤ◌, ◌<ℤ◌, ◌&&◌, int_le, min, pos, neg_ℤ, option_map, IfOk};
 ghost use Rattle.std.specs.List.{list_all};
-ghost use Rattle.run_defs.specs.Words.{is_number, value_of, is_digit};
-ghost use Rattle.run_defs.specs.Language.{number, number_of, natural, color, hex_digit, hex_byte};
-ghost use Rattle.scene_script.specs.Numbers.{capped};
+ghost use Rattle.run_defs.specs.Numbers.{is_number, value_of, is_digit, within, number, number_of, natural, color};
+ghost use Rattle.scene_script.specs.Numbers.{capped, beyond};
 
+use gui_base::intervals::Count;
+use hex::FromHex;
 use run_defs::LineFault;
 
-/// More than any interval of the language has: a greater number is read as this one.
-const BEYOND: i32 = 100_000;
+/// Beyond the ends of every interval: a number that is farther from 0 is read as this one.
+const BEYOND: i64 = 4_294_967_296;
 
 /// A number from `low` to `high`: syntax where the word is no number, and range where it is outside.
-#[tactic(auto, using(crate::proofs::NumberLemmas::intervals), unfolding(run_defs::specs::Language::number))]
+#[tactic(auto, unfolding(run_defs::specs::Numbers::number))]
 pub(crate) fn number(word: &[u8], low: i32, high: i32) -> Result<i32, LineFault>
-    requires low { neg_ℤ (pos 100000) <ℤ low }
-    requires high { high <ℤ pos 100000 }
-    ensures value { result ≡ number low high word.now }
+    ensures { result ≡ number low high word.now }
+{
+    let n = within(word, i64::from(low), i64::from(high))?;
+    Ok(n as i32)
+}
+
+/// A number from `low` to `high`, which are not below 0: syntax where the word is no number, and range where it is outside.
+#[tactic(auto, unfolding(run_defs::specs::Numbers::natural, run_defs::specs::Numbers::number))]
+pub fn natural(word: &[u8], low: u32, high: u32) -> Result<u32, LineFault>
+    ensures value { result ≡ natural low high word.now }
+    ensures inside { IfOk result (λ n. (low ≤ n) × (n ≤ high)) }
+{
+    let n = within(word, i64::from(low), i64::from(high))?;
+    Ok(n as u32)
+}
+
+/// A number of an interval that has none below 0.
+pub(crate) fn count(word: &[u8], interval: Count) -> Result<u16, LineFault>
+    ensures { result ≡ natural interval.low interval.high word.now }
+{
+    let n = natural(word, u32::from(interval.low), u32::from(interval.high))?;
+    Ok(n as u16)
+}
+
+/// A number from `low` to `high`.
+#[tactic(auto, using(crate::proofs::NumberLemmas::intervals))]
+fn within(word: &[u8], low: i64, high: i64) -> Result<i64, LineFault>
+    requires low { neg_ℤ (pos beyond) <ℤ low }
+    requires high { high <ℤ pos beyond }
+    ensures value { result ≡ within low high (number_of word.now) }
     ensures inside { IfOk result (λ n. (low ≤ℤ n) × (n ≤ℤ high)) }
 {
     let Some(n) = capped_number(word) else {
         return Err(LineFault::Syntax);
     };
-    if n >= low && n <= high {
+    if is_between(low, n, high) {
         Ok(n)
     } else {
         Err(LineFault::Range)
     }
 }
 
-/// A number from `low` to `high`, which are not below 0.
-#[tactic(auto, unfolding(run_defs::specs::Language::natural))]
-pub(crate) fn natural(word: &[u8], low: u16, high: u16) -> Result<u16, LineFault>
-    ensures { result ≡ natural low high word.now }
+/// Whether a number lies between two others, or is one of them.
+fn is_between(low: i64, n: i64, high: i64) -> bool
+    ensures { result ≡ (int_le low n && int_le n high) }
 {
-    let n = number(word, i32::from(low), i32::from(high))?;
-    Ok(n as u16)
+    low <= n && n <= high
 }
 
-/// The number of a word, brought into -100000 to 100000; None where the word is no number.
-fn capped_number(word: &[u8]) -> Option<i32>
+/// The number of a word, brought to the nearer end of -2^32 to 2^32 where it is outside; None where the word is no number.
+fn capped_number(word: &[u8]) -> Option<i64>
     ensures { result ≡ option_map capped (number_of word.now) }
 {
     if is_number(word) {
@@ -73,49 +99,28 @@ fn are_digits(bytes: &[u8]) -> bool
     bytes.iter().all(|b| b.is_ascii_digit())
 }
 
-/// What digits come to, or 100000 where that is more.
-fn capped_value(digits: &[u8]) -> i32
-    ensures { result ≡ pos (min (value_of digits.now) 100000) }
+/// What digits come to, or 2^32 where that is more.
+fn capped_value(digits: &[u8]) -> i64
+    ensures { result ≡ pos (min (value_of digits.now) beyond) }
 {
     let mut value = 0;
     for digit in digits {
-        value = (value * 10 + i32::from(digit.saturating_sub(b'0'))).min(BEYOND);
+        value = (value * 10 + i64::from(digit.saturating_sub(b'0'))).min(BEYOND);
     }
     value
 }
 
 /// A colour, 65536 * red + 256 * green + blue: `#` and two hexadecimal digits of either case for each of the three.
-#[tactic(auto, using(crate::proofs::NumberLemmas::colors), unfolding(run_defs::specs::Language::color))]
+#[tactic(auto, using(crate::proofs::NumberLemmas::three_bytes), unfolding(run_defs::specs::Numbers::color))]
 pub(crate) fn color(word: &[u8]) -> Result<i32, LineFault>
     ensures { result ≡ color word.now }
 {
-    let [b'#', r1, r0, g1, g0, b1, b0] = word else {
+    let [b'#', digits @ ..] = word else {
         return Err(LineFault::Syntax);
     };
-    match (hex_byte(*r1, *r0), hex_byte(*g1, *g0), hex_byte(*b1, *b0)) {
-        (Some(red), Some(green), Some(blue)) => Ok(
-            65536 * i32::from(red) + 256 * i32::from(green) + i32::from(blue),
-        ),
-        _ => Err(LineFault::Syntax),
-    }
-}
-
-/// The byte of two hexadecimal digits of either case.
-fn hex_byte(high: u8, low: u8) -> Option<u8>
-    ensures { result ≡ hex_byte high low }
-{
-    Some(16 * hex_digit(high)? + hex_digit(low)?)
-}
-
-/// The value of a hexadecimal digit of either case.
-fn hex_digit(b: u8) -> Option<u8>
-    ensures value { result ≡ hex_digit b }
-    ensures small { IfSome result (λ digit. digit < 16) }
-{
-    match b {
-        b'0'..=b'9' => Some(b - b'0'),
-        b'A'..=b'F' => Some(b - b'A' + 10),
-        b'a'..=b'f' => Some(b - b'a' + 10),
-        _ => None,
-    }
+    let Ok(bytes) = <[u8; 3] as FromHex>::from_hex(digits) else {
+        return Err(LineFault::Syntax);
+    };
+    let number = 65536 * u32::from(bytes[0]) + 256 * u32::from(bytes[1]) + u32::from(bytes[2]);
+    Ok(number as i32)
 }

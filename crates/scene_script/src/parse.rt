@@ -4,10 +4,9 @@ ghost use Rattle.std.specs.List.{list_any};
 ghost use Rattle.run_defs.specs.Language.{words_of, is_comment, is_in_no_word};
 ghost use Rattle.run_defs.specs.Script.{parse, line_says, words_say};
 
-use crate::commands::change;
-use crate::names::is_name;
-use crate::words::{from_first_word, next_word, no_word};
-use run_defs::{Command, Line, LineFault};
+use crate::commands::say_command;
+use crate::words::{from_first_word, next_word};
+use run_defs::{Line, LineFault};
 
 /// The longest line in bytes.
 pub(crate) const MAX_LINE: usize = 4096;
@@ -39,19 +38,13 @@ fn say_line(line: &[u8]) -> Result<Line, LineFault>
 }
 
 /// What the words of these bytes say.
-#[tactic(auto, unfolding(run_defs::specs::Script::words_say))]
 fn say_words(bytes: &[u8]) -> Result<Line, LineFault>
     ensures { result ≡ words_say (words_of bytes.now) }
 {
-    let Some((name, words)) = next_word(bytes) else {
-        return Ok(Line::Blank);
-    };
-    if is_name(name, "frame") {
-        no_word(words)?;
-        return Ok(Line::Frame);
+    match next_word(bytes) {
+        None => Ok(Line::Blank),
+        Some((name, words)) => say_command(name, words),
     }
-    let change = change(name, words)?;
-    Ok(Line::Make(Command::Change(change)))
 }
 
 /// Whether the first byte that is no space is `#`.

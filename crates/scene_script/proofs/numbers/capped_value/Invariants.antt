@@ -1,6 +1,7 @@
 use Rattle.std.proofs.Common.{◌≡◌, pos, min, take}
-use Rattle.run_defs.specs.Words.{value_of}
+use Rattle.run_defs.specs.Numbers.{value_of}
+use Rattle.scene_script.specs.Numbers.{beyond}
 use Rattle.scene_script.proofs.numbers.capped_value.Given as goal
 
 abbrev pub invariant-loop-digit : goal.invariant-loop-digit
-invariant-loop-digit l = l.value ≡ pos (min (value_of (take l.digit-index l.digits)) 100000)
+invariant-loop-digit l = l.value ≡ pos (min (value_of (take l.digit-index l.digits)) beyond)

@@ -1,0 +1,168 @@
+//! The fields of a line, taken one after another.
+ghost use Rattle.std.specs.Prelude.{◌≡◌};
+ghost use Rattle.gui_base.specs.Names.{slice};
+ghost use Rattle.run_defs.specs.Commands.{handle, new_handle, extent, value_for};
+ghost use Rattle.run_defs.specs.Fields.{number_in, count_in, name_in, value, past, value_or, with_fault, next_of, after_next, fields, start, ended};
+ghost use Rattle.run_defs.specs.Language.{first_fault, words_of};
+
+use crate::numbers::{color, count, number};
+use crate::words::next_word;
+use gui_base::intervals::{Count, EXTENT, HANDLE, Interval, NEW_HANDLE, OPACITY};
+use gui_base::{Handle, Length, Prop, named};
+use run_defs::LineFault;
+use std::marker::Model;
+
+/// The words of a line to come, and the worst fault of the fields before.
+#[derive(Drop)]
+pub(crate) struct Fields<'a> {
+    rest: &'a [u8],
+    fault: Option<LineFault>,
+}
+
+impl<'a> Model for Fields<'a> {
+    ghost use Rattle.run_defs.specs.Fields.{Progress};
+    ghost use Rattle.run_defs.specs.Language.{words_of};
+
+    ghost Value = { Progress };
+
+    ghost view = { λ f. record { fault = f.fault; rest = words_of f.rest.now } };
+}
+
+impl<'a> Fields<'a> {
+    /// No field is taken yet.
+    pub(crate) fn new(words: &'a [u8]) -> Fields<'a>
+        ensures { result ≡ start (words_of words.now) }
+    {
+        Fields {
+            rest: words,
+            fault: None,
+        }
+    }
+
+    /// A number of an interval.
+    #[tactic(auto, unfolding(run_defs::specs::Fields::value, run_defs::specs::Fields::past))]
+    pub(crate) fn number(&mut self, interval: Interval) -> i32
+        ensures value { result ≡ value (number_in interval) self.old }
+        ensures state { self.new ≡ past (number_in interval) self.old }
+    {
+        let word = self.word();
+        self.note(number(word, interval.low, interval.high), interval.low)
+    }
+
+    /// A number of an interval that has none below 0.
+    #[tactic(auto, unfolding(run_defs::specs::Fields::value, run_defs::specs::Fields::past))]
+    pub(crate) fn count(&mut self, interval: Count) -> u16
+        ensures value { result ≡ value (count_in interval) self.old }
+        ensures state { self.new ≡ past (count_in interval) self.old }
+    {
+        let word = self.word();
+        self.note(count(word, interval), interval.low)
+    }
+
+    /// The name of an object.
+    #[tactic(auto, using(run_defs::proofs::Fields::overs))]
+    pub(crate) fn handle(&mut self) -> Handle
+        ensures value { result ≡ value handle self.old }
+        ensures state { self.new ≡ past handle self.old }
+    {
+        Handle(self.count(HANDLE))
+    }
+
+    /// The name of a new object.
+    #[tactic(auto, using(run_defs::proofs::Fields::overs))]
+    pub(crate) fn new_handle(&mut self) -> Handle
+        ensures value { result ≡ value new_handle self.old }
+        ensures state { self.new ≡ past new_handle self.old }
+    {
+        Handle(self.count(NEW_HANDLE))
+    }
+
+    /// A wanted width or height.
+    #[tactic(auto, using(run_defs::proofs::Fields::overs))]
+    pub(crate) fn extent(&mut self) -> Length
+        ensures value { result ≡ value extent self.old }
+        ensures state { self.new ≡ past extent self.old }
+    {
+        Length::Pixels(self.count(EXTENT))
+    }
+
+    /// What a name of a table means.
+    #[tactic(auto, unfolding(run_defs::specs::Fields::value, run_defs::specs::Fields::past))]
+    pub(crate) fn name<T: Copy>(&mut self, names: &[(&'static str, T)], stand_in: T) -> T
+        ensures value { result ≡ value (name_in (slice {A = T} names.now) stand_in) self.old }
+        ensures state { self.new ≡ past (name_in (slice {A = T} names.now) stand_in) self.old }
+    {
+        let word = self.word();
+        self.note(named(names, word).ok_or(LineFault::Syntax), stand_in)
+    }
+
+    /// A value of a property.
+    #[tactic(auto, unfolding(run_defs::specs::Fields::value, run_defs::specs::Fields::past))]
+    pub(crate) fn value(&mut self, prop: Prop) -> i32
+        ensures value { result ≡ value (value_for prop) self.old }
+        ensures state { self.new ≡ past (value_for prop) self.old }
+    {
+        match prop {
+            Prop::BgColor => {
+                let word = self.word();
+                self.note(color(word), 0)
+            }
+            Prop::BgOpa => self.number(OPACITY),
+        }
+    }
+
+    /// What the line says, where this was its last field.
+    pub(crate) fn end<T: Copy>(&self, made: T) -> Result<T, LineFault>
+        ensures { result ≡ ended (fields made self.now) }
+    {
+        if next_word(self.rest).is_some() {
+            return Err(LineFault::Syntax);
+        }
+        match self.fault {
+            None => Ok(made),
+            Some(fault) => Err(fault),
+        }
+    }
+
+    /// The next word, or the empty one where there is none.
+    fn word(&mut self) -> &'a [u8]
+        ensures word { result.now ≡ next_of self.old.rest }
+        ensures state { self.new ≡ record { fault = self.old.fault; rest = after_next self.old.rest } }
+    {
+        match next_word(self.rest) {
+            None => b"",
+            Some((word, rest)) => {
+                self.rest = rest;
+                word
+            }
+        }
+    }
+
+    /// What a field says. Where it is at fault the fault is noted, and the stand-in is answered.
+    fn note<T: Copy>(&mut self, said: Result<T, LineFault>, stand_in: T) -> T
+        ensures value { result ≡ value_or stand_in said }
+        ensures state { self.new ≡ record { fault = with_fault self.old.fault said; rest = self.old.rest } }
+    {
+        match said {
+            Ok(value) => value,
+            Err(fault) => {
+                self.fault = Some(match self.fault {
+                    None => fault,
+                    Some(first) => first_fault(first, fault),
+                });
+                stand_in
+            }
+        }
+    }
+}
+
+/// The first of two faults in the order long, syntax, range.
+fn first_fault(first: LineFault, second: LineFault) -> LineFault
+    ensures { result ≡ first_fault first second }
+{
+    match (first, second) {
+        (LineFault::Long, _) | (_, LineFault::Long) => LineFault::Long,
+        (LineFault::Syntax, _) | (_, LineFault::Syntax) => LineFault::Syntax,
+        (LineFault::Range, LineFault::Range) => LineFault::Range,
+    }
+}

@@ -1,5 +1,6 @@
 -- An area is the set of the pixels between two corners, both included.
-use Rattle.std.specs.Prelude.{◌≡◌, ℕ, ◌*◌, Bool, true, ◌&&◌, ◌||◌, if◌then◌else◌, ℤ, pos, negsuc, ◌≤ℤ◌, ◌+ℤ◌, ◌-ℤ◌}
+use Rattle.std.specs.Prelude.{◌≡◌, ℕ, ◌*◌, Bool, true, ◌&&◌, ◌||◌, if◌then◌else◌, ℤ, pos, negsuc, ◌≤ℤ◌, ◌+ℤ◌}
+use Rattle.std.specs.Prelude.{◌-ℤ◌}
 use Rattle.std.specs.Int.{int_max, int_min}
 use Rattle.std.specs.Int.Signed.{le_z, lt_z}
 
@@ -43,7 +44,8 @@ size_of area = width_of area * height_of area
 
 -- the pixels that both have
 abbrev pub common : Rect → Rect → Rect
-common a b = record { x1 = int_max a.x1 b.x1; y1 = int_max a.y1 b.y1; x2 = int_min a.x2 b.x2; y2 = int_min a.y2 b.y2 }
+common a b =
+    record { x1 = int_max a.x1 b.x1; y1 = int_max a.y1 b.y1; x2 = int_min a.x2 b.x2; y2 = int_min a.y2 b.y2 }
 
 -- each pixel of the second is one of the first
 abbrev pub Covers : Rect → Rect → Type 0
@@ -58,4 +60,9 @@ abbrev pub joined : Rect → Rect → Rect
 joined a b =
     if is_empty a then b
     else if is_empty b then a
-    else record { x1 = int_min a.x1 b.x1; y1 = int_min a.y1 b.y1; x2 = int_max a.x2 b.x2; y2 = int_max a.y2 b.y2 }
+    else record {
+      x1 = int_min a.x1 b.x1;
+      y1 = int_min a.y1 b.y1;
+      x2 = int_max a.x2 b.x2;
+      y2 = int_max a.y2 b.y2;
+    }

@@ -44,4 +44,5 @@ mix_channel fg bg m = unsigned_abs (pos bg +ℤ int_div_euclid ((pos fg -ℤ pos
 -- a colour over another with an opacity from 0 to 255
 unfoldable pub mix : Rgb565 → Rgb565 → ℕ → Rgb565
 mix fg bg opa =
-    color (mix_channel (red fg) (red bg) (parts opa)) (mix_channel (green fg) (green bg) (parts opa)) (mix_channel (blue fg) (blue bg) (parts opa))
+    color (mix_channel (red fg) (red bg) (parts opa)) (mix_channel (green fg) (green bg) (parts opa))
+    (mix_channel (blue fg) (blue bg) (parts opa))

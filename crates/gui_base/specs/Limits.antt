@@ -3,7 +3,9 @@ use Rattle.std.specs.Prelude.{ℕ, ◌≤◌, None}
 use Rattle.std.specs.declared.option.Option.{Option}
 use Rattle.std.specs.Option.{ForSome}
 use Rattle.gui_base.specs.declared.limits.Pool.{Pool}
-use Rattle.gui_base.specs.declared.limits.Pool.TheVariants.{Objects, Styles, Entries, Uses, Texts, Fonts, Glyphs, Ink, Images, Pixels, Handlers, Groups, Anims}
+use Rattle.gui_base.specs.declared.limits.Pool.TheVariants.{Objects, Styles, Entries, Uses, Texts, Fonts}
+use Rattle.gui_base.specs.declared.limits.Pool.TheVariants.{Glyphs, Ink, Images, Pixels, Handlers, Groups}
+use Rattle.gui_base.specs.declared.limits.Pool.TheVariants.{Anims}
 use Rattle.gui_base.specs.Pools.{least, most, default}
 
 -- the sizes of a panel in pixels, and the lines of its draw buffer
@@ -16,7 +18,9 @@ pub record IsPanel (width height lines : ℕ) : Type 0 where
   pub most_lines : lines ≤ height
 
 -- how many slots each pool may have
-pub record ArePools (objects styles entries uses texts fonts glyphs ink images pixels handlers groups anims : ℕ) : Type 0 where
+pub record ArePools
+    (objects styles entries uses texts fonts glyphs ink images pixels handlers groups anims : ℕ) :
+    Type 0 where
   pub least_objects : least Objects ≤ objects
   pub most_objects : objects ≤ most Objects
   pub most_styles : styles ≤ most Styles

@@ -7,7 +7,7 @@ abbrev pub Names : Type 0 → Type 0
 Names A = List (List ℕ × A)
 
 -- the names of a table that is a constant of the code, and those of a slice
-abbrev pub table : {A : Type 0} → List ((record {now : List ℕ}) × A) → Names A
+abbrev pub table : {A : Type 0} → List ((record { now : List ℕ }) × A) → Names A
 table names = map (λ t. (t.0.now, t.1)) names
 
 abbrev pub slice : {A : Type 0} → List (Bor (List ℕ) × A) → Names A

@@ -1,12 +1,14 @@
 -- The name and the sizes of each pool.
 use Rattle.std.specs.Prelude.{ℕ, List}
 use Rattle.gui_base.specs.declared.limits.Pool.{Pool}
-use Rattle.gui_base.specs.declared.limits.Pool.TheVariants.{Objects, Styles, Entries, Uses, Texts, Fonts, Glyphs, Ink, Images, Pixels, Handlers, Groups, Anims}
+use Rattle.gui_base.specs.declared.limits.Pool.TheVariants.{Objects, Styles, Entries, Uses, Texts, Fonts}
+use Rattle.gui_base.specs.declared.limits.Pool.TheVariants.{Glyphs, Ink, Images, Pixels, Handlers, Groups}
+use Rattle.gui_base.specs.declared.limits.Pool.TheVariants.{Anims}
 use Rattle.gui_base.specs.declared.pools.TheConstants as constant
 
 -- its name, the fewest and the most slots that it may have, and how many it has where no word asks
 abbrev pub PoolRow : Type 0
-PoolRow = (record {now : List ℕ}) × ℕ × ℕ × ℕ
+PoolRow = (record { now : List ℕ }) × ℕ × ℕ × ℕ
 
 abbrev pub row_of : Pool → PoolRow
 row_of Objects = constant.OBJECTS

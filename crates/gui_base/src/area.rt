@@ -2,10 +2,11 @@
 ghost use Rattle.std.specs.Prelude.{◌≡◌, ◌↔◌, ◌≤◌, ◌&&◌, ◌||◌, IsTrue, true, ℕ, ℤ, pos, ◌≤ℤ◌};
 ghost use Rattle.std.specs.Int.{int_max, int_min};
 ghost use Rattle.std.specs.Int.Signed.{le_z, lt_z};
-ghost use Rattle.gui_base.specs.Area.{IsCoordinate, Rect, has, is_empty, count_between, size_of, width_of, height_of, common, joined, Covers, has_corners};
+ghost use Rattle.gui_base.specs.Area.{IsCoordinate, Rect, has, is_empty, count_between, size_of, width_of};
+ghost use Rattle.gui_base.specs.Area.{height_of, common, joined, Covers, has_corners};
 
-/// The pixels between two corners, both included, counted from the top left. It is empty where the second corner lies left of the
-/// first or above it. Its numbers lie from -2^30 to 2^30 - 1.
+/// The pixels between two corners, both included, counted from the top left. It is empty where the second
+/// corner lies left of the first or above it. Its numbers lie from -2^30 to 2^30 - 1.
 #[derive(Clone, Copy, Debug)]
 pub struct Area {
     pub x1: i32,
@@ -74,7 +75,8 @@ impl Area {
     /// The pixels that both have.
     pub fn meet(self, other: Area) -> Area
         ensures corners { rect_of result ≡ common (rect_of self) (rect_of other) }
-        ensures pixels { (x y : ℤ) → has (rect_of result) x y ≡ (has (rect_of self) x y && has (rect_of other) x y) }
+        ensures pixels { (x y : ℤ) →
+            has (rect_of result) x y ≡ (has (rect_of self) x y && has (rect_of other) x y) }
     {
         Area {
             x1: greater(self.x1, other.x1),
@@ -89,7 +91,8 @@ impl Area {
         ensures corners { rect_of result ≡ joined (rect_of self) (rect_of other) }
         ensures first { Covers (rect_of result) (rect_of self) }
         ensures second { Covers (rect_of result) (rect_of other) }
-        ensures least { (area : Rect) → Covers area (rect_of self) → Covers area (rect_of other) → Covers area (rect_of result) }
+        ensures least { (area : Rect) →
+            Covers area (rect_of self) → Covers area (rect_of other) → Covers area (rect_of result) }
     {
         if self.is_empty() {
             return other;

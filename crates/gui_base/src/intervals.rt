@@ -1,4 +1,5 @@
-//! The intervals of the numbers that scripts, changes and rows have. Each stands here alone: code, definitions and proofs cite it.
+//! The intervals of the numbers that scripts, changes and rows have. Each stands here alone: code,
+//! definitions and proofs cite it.
 ghost use Rattle.std.specs.Prelude.{◌≡◌};
 
 /// Whole numbers from `low` to `high`, both included, none below 0.

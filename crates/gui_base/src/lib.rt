@@ -20,7 +20,8 @@ pub use refusal::Refusal;
 pub use steps::Steps;
 pub use words::{Flag, Kind, Length, Part, Prop};
 
-/// The name of an object. 1 is the top layer, 2 the system layer and 3 the first screen; callers choose from 10 to 9999.
+/// The name of an object. 1 is the top layer, 2 the system layer and 3 the first screen; callers choose from
+/// 10 to 9999.
 #[derive(Clone, Copy, Debug, PartialEq, Eq)]
 pub struct Handle(pub u16);
 

@@ -33,9 +33,9 @@ pub enum Pool {
     Anims,
 }
 
-/// The panel's sizes in pixels, the lines of the draw buffer, the slots of each pool, and which made script is run, if any.
-/// Each number lies within its range: the sizes from 1 to 1024, the lines from 1 to the height, the slots of each pool in
-/// the range that [`Pool::range`] gives.
+/// The panel's sizes in pixels, the lines of the draw buffer, the slots of each pool, and which made script
+/// is run, if any. Each number lies within its range: the sizes from 1 to 1024, the lines from 1 to the
+/// height, the slots of each pool in the range that [`Pool::range`] gives.
 #[derive(Clone, Copy, Debug)]
 pub struct Limits {
     pub width: u32,

@@ -4,21 +4,34 @@ ghost use Rattle.gui_base.specs.Pools.{pool_name, least, most, default};
 
 use crate::limits::Pool;
 
-/// A pool's name in words and replies, the fewest and the most slots that it may have, and how many it has where no word asks.
+/// A pool's name in words and replies, the fewest and the most slots that it may have, and how many it has
+/// where no word asks.
 type PoolRow = (&'static str, u32, u32, u32);
 
 pub const OBJECTS: PoolRow = ("objects", 3, 4000, 256);
+
 pub const STYLES: PoolRow = ("styles", 0, 999, 64);
+
 pub const ENTRIES: PoolRow = ("entries", 0, 20_000, 1024);
+
 pub const USES: PoolRow = ("uses", 0, 20_000, 512);
+
 pub const TEXTS: PoolRow = ("texts", 0, 20_000, 1024);
+
 pub const FONTS: PoolRow = ("fonts", 0, 99, 4);
+
 pub const GLYPHS: PoolRow = ("glyphs", 0, 5000, 512);
+
 pub const INK: PoolRow = ("ink", 0, 262_144, 16_384);
+
 pub const IMAGES: PoolRow = ("images", 0, 999, 16);
+
 pub const PIXELS: PoolRow = ("pixels", 0, 4_194_304, 65_536);
+
 pub const HANDLERS: PoolRow = ("handlers", 0, 4000, 256);
+
 pub const GROUPS: PoolRow = ("groups", 0, 99, 8);
+
 pub const ANIMS: PoolRow = ("anims", 0, 1000, 32);
 
 /// Every pool, in the order in which the words of the command line are read.

@@ -2,7 +2,8 @@
 use Rattle.std.specs.Prelude.{ℕ, ℤ, pos, Bool, false, List, Some, None, Err}
 use Rattle.std.specs.declared.option.Option.{Option}
 use Rattle.gui_base.specs.declared.Handle.{Handle}
-use Rattle.gui_base.specs.declared.intervals.TheConstants.{HANDLE, NEW_HANDLE, INDEX, EXTENT, COORDINATE, OPACITY}
+use Rattle.gui_base.specs.declared.intervals.TheConstants.{HANDLE, NEW_HANDLE, INDEX, EXTENT, COORDINATE}
+use Rattle.gui_base.specs.declared.intervals.TheConstants.{OPACITY}
 use Rattle.gui_base.specs.declared.words.TheConstants.{KINDS, FLAGS, ON_OFF, PARTS, PROPS}
 use Rattle.gui_base.specs.declared.words.Flag.{Flag}
 use Rattle.gui_base.specs.declared.words.Flag.TheVariants.{Hidden}
@@ -28,7 +29,8 @@ use Rattle.run_defs.specs.declared.names.RowName.TheVariants as row
 use Rattle.run_defs.specs.declared.names.TreeName.{TreeName}
 use Rattle.run_defs.specs.declared.names.TreeName.TheVariants as tree
 use Rattle.run_defs.specs.declared.names.TheConstants.{COMMANDS}
-use Rattle.run_defs.specs.Fields.{Field, Progress, Made, number_in, count_in, over, name_in, fields, ◌▹◌, with_two, start, ended}
+use Rattle.run_defs.specs.Fields.{Field, Progress, Made, number_in, count_in, over, name_in, fields, ◌▹◌}
+use Rattle.run_defs.specs.Fields.{with_two, start, ended}
 use Rattle.run_defs.specs.Language.{Word, Reading}
 use Rattle.run_defs.specs.Numbers.{color}
 

@@ -10,8 +10,8 @@ use Rattle.run_defs.specs.Language.{Word, Reading, mapped, first_fault}
 use Rattle.run_defs.specs.Numbers.{number, natural}
 
 infixl 20 ◌▹◌
-
--- a field: what a word says, and what stands in for it where the word is at fault. The line is then refused, so that no line says it
+-- a field: what a word says, and what stands in for it where the word is at fault. The line is then refused,
+-- so that no line says it
 pub record Field (A : Type 0) : Type 0 where
   pub says : Word → Reading A
   pub stand_in : A
@@ -41,7 +41,8 @@ pub record Progress : Type 0 where
   pub fault : Option LineFault
   pub rest : List Word
 
--- the next word, and those after it. Where there is none it is the empty word, which every field finds at fault as syntax
+-- the next word, and those after it. Where there is none it is the empty word, which every field finds at
+-- fault as syntax
 abbrev pub next_of : List Word → Word
 next_of [] = []
 next_of (word ∷ words) = word
@@ -65,7 +66,8 @@ unfoldable pub value : {A : Type 0} → Field A → Progress → A
 value field at = value_or field.stand_in (field.says (next_of at.rest))
 
 unfoldable pub past : {A : Type 0} → Field A → Progress → Progress
-past field at = record { fault = with_fault at.fault (field.says (next_of at.rest)); rest = after_next at.rest }
+past field at =
+    record { fault = with_fault at.fault (field.says (next_of at.rest)); rest = after_next at.rest }
 
 -- what fields make of a line, and how far it is read
 pub record Made (A : Type 0) : Type 0 where

@@ -1,5 +1,6 @@
 -- The words of a line, and what a word or a line says.
-use Rattle.std.specs.Prelude.{ℕ, Bool, true, false, ◌==◌, ◌||◌, nat_lt, if◌then◌else◌, List, [], ◌∷◌, filter, Ok, Err}
+use Rattle.std.specs.Prelude.{ℕ, Bool, true, false, ◌==◌, ◌||◌, nat_lt, if◌then◌else◌, List, [], ◌∷◌, filter}
+use Rattle.std.specs.Prelude.{Ok, Err}
 use Rattle.std.specs.List.{slice_split}
 use Rattle.std.specs.declared.result.Result.{Result}
 use Rattle.run_defs.specs.declared.LineFault.{LineFault}
@@ -25,7 +26,8 @@ abbrev pub is_comment : List ℕ → Bool
 is_comment [] = false
 is_comment (b ∷ bs) = if is_space b then is_comment bs else b == 35
 
--- a control character, or a quote: no word has one. A word of the language has no byte above 127 either, so what is not UTF-8 has no form
+-- a control character, or a quote: no word has one. A word of the language has no byte above 127 either, so
+-- what is not UTF-8 has no form
 abbrev pub is_in_no_word : ℕ → Bool
 is_in_no_word b = nat_lt b 32 || b == 34
 

@@ -9,9 +9,12 @@ use Rattle.run_defs.specs.Step.{is_command_in_range, IsCommand}
 use Rattle.run_defs.specs.Script.{Said, parse, max_line, is_newline, without_return, says_cut}
 use Rattle.run_defs.specs.Run.{Entry, log_text, frame_count}
 
--- the log shows the outcomes: two lists with one outcome for each frame that give the same log are the same list
+-- the log shows the outcomes: two lists with one outcome for each frame that give the same log are the same
+-- list
 abbrev pub ShowsOutcomes : Type 0
-ShowsOutcomes = (number frame : ℕ) (es : List Entry) (first second : List Outcome) → length first ≡ frame_count es → length second ≡ frame_count es →
+ShowsOutcomes =
+    (number frame : ℕ) (es : List Entry) (first second : List Outcome) →
+    length first ≡ frame_count es → length second ≡ frame_count es →
     log_text number frame es first ≡ log_text number frame es second → first ≡ second
 
 -- the numbers of what a line says lie in their intervals, and a command is one that may be asked for
@@ -27,7 +30,9 @@ SaysInRange = (line : List ℕ) → IsInRange (parse line)
 
 -- a line without a fault holds no stand-in: each field of it is what its word says
 abbrev pub NoStandIn : Type 0 → Type 0
-NoStandIn A = (field : Field A) (at : Progress) → (past field at).fault ≡ None → field.says (next_of at.rest) ≡ Ok (value field at)
+NoStandIn A =
+    (field : Field A) (at : Progress) → (past field at).fault ≡ None →
+    field.says (next_of at.rest) ≡ Ok (value field at)
 
 -- and no field before it was at fault
 abbrev pub FaultStays : Type 0 → Type 0
@@ -43,9 +48,12 @@ pub record IsReturnless (line : List ℕ) : Type 0 where
   pub no_return : without_return line ≡ line
   pub room : length line < max_line
 
--- a carriage return before the newline says nothing: lines that end with both say what they say that end with a newline alone
+-- a carriage return before the newline says nothing: lines that end with both say what they say that end with
+-- a newline alone
 abbrev pub ReturnSaysNothing : Type 0
-ReturnSaysNothing = (lines : List (List ℕ)) → AllByRecursion IsReturnless lines → says_cut (ended_with (codes "\r\n") lines) ≡ says_cut (ended_with (codes "\n") lines)
+ReturnSaysNothing =
+    (lines : List (List ℕ)) → AllByRecursion IsReturnless lines →
+    says_cut (ended_with (codes "\r\n") lines) ≡ says_cut (ended_with (codes "\n") lines)
 
 -- a line that is not too long, no comment, and has no byte that no word has
 pub record IsPlain (line : List ℕ) : Type 0 where
@@ -55,4 +63,6 @@ pub record IsPlain (line : List ℕ) : Type 0 where
 
 -- such lines say the same where their words are the same, however many spaces stand around them
 abbrev pub SameWordsSaySame : Type 0
-SameWordsSaySame = (first second : List ℕ) → IsPlain first → IsPlain second → words_of first ≡ words_of second → parse first ≡ parse second
+SameWordsSaySame =
+    (first second : List ℕ) → IsPlain first → IsPlain second →
+    words_of first ≡ words_of second → parse first ≡ parse second

@@ -1,5 +1,6 @@
 -- What a run of a script comes to, along the outcomes of its frames.
-use Rattle.std.specs.Prelude.{ℕ, Bool, true, false, ◌||◌, nat_lt, Some, None, Ok, Err, ◌+◌, List, [], ◌∷◌, ◌++◌, codes, decimal}
+use Rattle.std.specs.Prelude.{ℕ, Bool, true, false, ◌||◌, nat_lt, Some, None, Ok, Err, ◌+◌, List, [], ◌∷◌}
+use Rattle.std.specs.Prelude.{◌++◌, codes, decimal}
 use Rattle.std.specs.declared.option.Option.{Option}
 use Rattle.std.specs.List.{flat_map, list_any}
 use Rattle.scene_defs.specs.Scene.{Scene}
@@ -65,7 +66,8 @@ frame_line number frame outcome = decimal number ++ codes " frame " ++ decimal f
 abbrev pub log_text : ℕ → ℕ → List Entry → List Outcome → List ℕ
 log_text number frame [] outcomes = []
 log_text number frame (Silent ∷ es) outcomes = log_text (number + 1) frame es outcomes
-log_text number frame (Replied text refused ∷ es) outcomes = reply_line number text ++ log_text (number + 1) frame es outcomes
+log_text number frame (Replied text refused ∷ es) outcomes =
+    reply_line number text ++ log_text (number + 1) frame es outcomes
 log_text number frame (Framed scene ∷ es) [] = []
 log_text number frame (Framed scene ∷ es) (outcome ∷ outcomes) =
     frame_line number frame outcome ++ log_text (number + 1) (frame + 1) es outcomes
@@ -132,5 +134,6 @@ abbrev pub framed : List Entry → List Outcome → List Entry
 framed es [] = []
 framed [] (outcome ∷ outcomes) = []
 framed (Silent ∷ es) (outcome ∷ outcomes) = Silent ∷ framed es (outcome ∷ outcomes)
-framed (Replied text refused ∷ es) (outcome ∷ outcomes) = Replied text refused ∷ framed es (outcome ∷ outcomes)
+framed (Replied text refused ∷ es) (outcome ∷ outcomes) =
+    Replied text refused ∷ framed es (outcome ∷ outcomes)
 framed (Framed scene ∷ es) (outcome ∷ outcomes) = Framed scene ∷ framed es outcomes

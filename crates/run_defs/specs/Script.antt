@@ -1,5 +1,6 @@
 -- What a script says: its lines, and what each of them says.
-use Rattle.std.specs.Prelude.{ℕ, ◌-◌, Bool, ◌==◌, nat_lt, if◌then◌else◌, List, [], ◌∷◌, ◌++◌, length, take, slice_index, map, Ok, Err}
+use Rattle.std.specs.Prelude.{ℕ, ◌-◌, Bool, ◌==◌, nat_lt, if◌then◌else◌, List, [], ◌∷◌, ◌++◌, length, take}
+use Rattle.std.specs.Prelude.{slice_index, map, Ok, Err}
 use Rattle.std.specs.declared.result.Result.{Result}
 use Rattle.std.specs.List.{list_any}
 use Rattle.run_defs.specs.declared.Line.{Line}
@@ -56,9 +57,11 @@ parse line = if nat_lt max_line (length line) then Err Long else line_says line
 
 -- the line without one carriage return at its end
 abbrev pub without_return : List ℕ → List ℕ
-without_return bytes = if slice_index bytes (length bytes - 1) == 13 then take (length bytes - 1) bytes else bytes
+without_return bytes =
+    if slice_index bytes (length bytes - 1) == 13 then take (length bytes - 1) bytes else bytes
 
--- what a line says that a newline ended: a carriage return before the newline counts in its length and says nothing
+-- what a line says that a newline ended: a carriage return before the newline counts in its length and says
+-- nothing
 abbrev pub ended_says : List ℕ → Said
 ended_says bytes = if nat_lt max_line (length bytes) then Err Long else parse (without_return bytes)
 

@@ -1,15 +1,15 @@
-//! The definitions of a run: what a script says, what its lines make of the machine, and what the log and the frames then are. There is no
-//! code here but the words that code and definitions share, and laws.
+//! The definitions of a run: what a script says, what its lines make of the machine, and what the log and the
+//! frames then are. There is no code here but the words that code and definitions share, and laws.
 #![tactic(auto)]
 
 ghost use Rattle.std.specs.Prelude.{◌≡◌};
-ghost use Rattle.run_defs.specs.Laws.{ShowsOutcomes, SaysInRange, NoStandIn, FaultStays, ReturnSaysNothing, SameWordsSaySame};
+ghost use Rattle.run_defs.specs.Laws.{ShowsOutcomes, SaysInRange, NoStandIn, FaultStays, ReturnSaysNothing};
+ghost use Rattle.run_defs.specs.Laws.{SameWordsSaySame};
 
 mod names;
 
-pub use names::{COMMANDS, Name, RowName, TreeName};
-
 use gui_base::Refusal;
+pub use names::{COMMANDS, Name, RowName, TreeName};
 use scene_defs::Change;
 use thiserror::Error;
 
@@ -40,7 +40,8 @@ pub enum Line {
     Make(Command),
 }
 
-/// Why a line of the script is refused before it is looked at as a command. Where several apply, the first is answered.
+/// Why a line of the script is refused before it is looked at as a command. Where several apply, the first is
+/// answered.
 #[derive(Clone, Copy, Debug, PartialEq, Eq, Error)]
 pub enum LineFault {
     /// It has more than 4,096 bytes before its newline.

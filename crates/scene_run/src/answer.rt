@@ -1,11 +1,11 @@
 //! Answers one line of the script.
-ghost use Rattle.std.specs.Prelude.{◌≡◌, ◌<◌, ◌++◌, ◌∷◌, [], ◌⊎◌, IfOk, IfSome, OnOk, OnErr, codes};
+ghost use Rattle.std.specs.Prelude.{◌≡◌, ◌<◌, ◌∷◌, [], ◌⊎◌, IfOk, IfSome, OnOk, OnErr};
 ghost use Rattle.std.specs.declared.option.Option.{Option};
 ghost use Rattle.std.specs.Option.{option_to_list};
 ghost use Rattle.scene_defs.specs.Scene.{Scene};
 ghost use Rattle.run_defs.specs.Laws.{IsInRange};
 ghost use Rattle.run_defs.specs.Step.{step, is_noted, IsCommand};
-ghost use Rattle.run_defs.specs.Run.{entry, after, is_refused, reply_line, reply_text, frame_line, why_fault};
+ghost use Rattle.run_defs.specs.Run.{entry, after, is_refused, reply_line, reply_text, frame_line};
 ghost use Rattle.std.specs.Io.KnownBytes.{Appends};
 ghost use Rattle.gui_edge.specs.Causes.{Rose, HasCause};
 ghost use Rattle.gui_edge.specs.Sink.{AppendsPrefix};
@@ -15,7 +15,7 @@ ghost use Rattle.gui_core.specs.Panels.{ShowsScene, Refreshes};
 ghost use Rattle.scene_run.specs.Effects.{output, PanelKeeps, Keeps, Effects, Breaks, FrameShown, FrameBroke};
 
 use arrayvec::ArrayVec;
-use gui_base::Steps;
+use gui_base::{Refusal, Steps};
 use gui_core::{Gui, Refreshed, Reply};
 use gui_edge::text::{push_bytes, push_number};
 use gui_edge::{Failed, Panel, Sink};
@@ -26,21 +26,6 @@ use std::sync::ledger::{Blank, Ledger};
 
 /// A line of the log: two numbers of ten digits and the words fit.
 type LogLine = ArrayVec<u8, 64>;
-
-/// The line of the log for a line that says nothing of the language.
-fn fault_text(number: u32, fault: LineFault) -> LogLine
-    ensures { result.items ≡ reply_line number (codes "refused " ++ why_fault fault) }
-{
-    let mut text = ArrayVec::new();
-    push_number(&mut text, number);
-    push_bytes(&mut text, b" refused ");
-    match fault {
-        LineFault::Long => push_bytes(&mut text, b"long\n"),
-        LineFault::Syntax => push_bytes(&mut text, b"syntax\n"),
-        LineFault::Range => push_bytes(&mut text, b"range\n"),
-    }
-    text
-}
 
 /// The line of the log for a frame.
 fn frame_text(number: u32, frame: u32, outcome: Outcome) -> LogLine
@@ -184,7 +169,8 @@ pub fn answer<L: Sink, P: Panel>(
             }
         },
         Err(fault) => {
-            log.put(fault_text(number, fault).as_slice())?;
+            let reply = Reply::Refused(Refusal::from(fault));
+            log.put(reply_text(number, reply).as_slice())?;
             end.refused = true;
             Ok(end)
         }

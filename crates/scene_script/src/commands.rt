@@ -40,7 +40,11 @@ fn tree_change(name: TreeName, line: &mut Fields) -> Change
 {
     match name {
         TreeName::Screen => Change::Screen(line.new_handle()),
-        TreeName::New => Change::New(line.new_handle(), line.handle(), line.name(&KINDS, Kind::Obj)),
+        TreeName::New => Change::New(
+            line.new_handle(),
+            line.handle(),
+            line.name(&KINDS, Kind::Obj),
+        ),
         TreeName::Delete => Change::Delete(line.handle()),
         TreeName::Parent => Change::Parent(line.handle(), line.handle()),
         TreeName::Index => Change::Index(line.handle(), line.count(INDEX)),
@@ -60,7 +64,11 @@ fn row_change(name: RowName, line: &mut Fields) -> Change
             line.name(&FLAGS, Flag::Hidden),
             line.name(&ON_OFF, false),
         ),
-        RowName::Pos => Change::Pos(line.handle(), line.number(COORDINATE), line.number(COORDINATE)),
+        RowName::Pos => Change::Pos(
+            line.handle(),
+            line.number(COORDINATE),
+            line.number(COORDINATE),
+        ),
         RowName::Size => Change::Size(line.handle(), line.extent(), line.extent()),
         RowName::Local => {
             let h = line.handle();

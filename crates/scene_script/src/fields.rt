@@ -2,7 +2,8 @@
 ghost use Rattle.std.specs.Prelude.{◌≡◌};
 ghost use Rattle.gui_base.specs.Names.{slice};
 ghost use Rattle.run_defs.specs.Commands.{handle, new_handle, extent, value_for};
-ghost use Rattle.run_defs.specs.Fields.{number_in, count_in, name_in, value, past, value_or, with_fault, next_of, after_next, fields, start, ended};
+ghost use Rattle.run_defs.specs.Fields.{number_in, count_in, name_in, value, past, value_or, with_fault};
+ghost use Rattle.run_defs.specs.Fields.{next_of, after_next, fields, start, ended};
 ghost use Rattle.run_defs.specs.Language.{first_fault, words_of};
 
 use crate::numbers::{color, count, number};

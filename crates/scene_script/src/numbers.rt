@@ -1,7 +1,8 @@
 //! Numbers and colours.
 ghost use Rattle.std.specs.Prelude.{◌≡◌, ◌≤◌, ◌≤ℤ◌, ◌<ℤ◌, ◌&&◌, int_le, min, pos, neg_ℤ, option_map, IfOk};
 ghost use Rattle.std.specs.List.{list_all};
-ghost use Rattle.run_defs.specs.Numbers.{is_number, value_of, is_digit, within, number, number_of, natural, color};
+ghost use Rattle.run_defs.specs.Numbers.{is_number, value_of, is_digit, within, number, number_of, natural};
+ghost use Rattle.run_defs.specs.Numbers.{color};
 ghost use Rattle.scene_script.specs.Numbers.{capped, beyond};
 
 use gui_base::intervals::Count;
@@ -20,7 +21,8 @@ pub(crate) fn number(word: &[u8], low: i32, high: i32) -> Result<i32, LineFault>
     Ok(n as i32)
 }
 
-/// A number from `low` to `high`, which are not below 0: syntax where the word is no number, and range where it is outside.
+/// A number from `low` to `high`, which are not below 0: syntax where the word is no number, and range where
+/// it is outside.
 #[tactic(auto, unfolding(run_defs::specs::Numbers::natural, run_defs::specs::Numbers::number))]
 pub fn natural(word: &[u8], low: u32, high: u32) -> Result<u32, LineFault>
     ensures value { result ≡ natural low high word.now }
@@ -63,7 +65,8 @@ fn is_between(low: i64, n: i64, high: i64) -> bool
     low <= n && n <= high
 }
 
-/// The number of a word, brought to the nearer end of -2^32 to 2^32 where it is outside; None where the word is no number.
+/// The number of a word, brought to the nearer end of -2^32 to 2^32 where it is outside; None where the word
+/// is no number.
 fn capped_number(word: &[u8]) -> Option<i64>
     ensures { result ≡ option_map capped (number_of word.now) }
 {
@@ -110,7 +113,8 @@ fn capped_value(digits: &[u8]) -> i64
     value
 }
 
-/// A colour, 65536 * red + 256 * green + blue: `#` and two hexadecimal digits of either case for each of the three.
+/// A colour, 65536 * red + 256 * green + blue: `#` and two hexadecimal digits of either case for each of the
+/// three.
 #[tactic(auto, using(crate::proofs::NumberLemmas::three_bytes), unfolding(run_defs::specs::Numbers::color))]
 pub(crate) fn color(word: &[u8]) -> Result<i32, LineFault>
     ensures { result ≡ color word.now }

@@ -14,7 +14,7 @@ returns-in_err-put-in-Frame-clause-err g c =
 pub returns-in_err-put-in-Err-clause-err : goal.returns-in_err-put-in-Err-clause-err
 returns-in_err-put-in-Err-clause-err g c =
     on_err c.from_residual-in_err-put-in-Err.result (rw c.in-Err.is
-    (breaks_reply _ _ _ _ _ _ _ (rw (← c.fault_text.ensures, ← c.as_slice-in-Err.ensures.value) c.in_err-put-in-Err.ensures.err) c.in_err-put-in-Err.ensures.cause.later))
+    (breaks_reply _ _ _ _ _ _ _ (rw (← c.from.ensures, ← c.reply_text.ensures, ← c.as_slice-in-Err.ensures.value) c.in_err-put-in-Err.ensures.err) c.in_err-put-in-Err.ensures.cause.later))
 
 pub returns-in_err-end-in-Make-clause-err : goal.returns-in_err-end-in-Make-clause-err
 returns-in_err-end-in-Make-clause-err g c =

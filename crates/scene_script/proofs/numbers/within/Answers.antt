@@ -9,5 +9,5 @@ returns-else-is_between-clause-value c =
     let n = c.in-Some.n in
     let fits : FitsSigned w64 n = search rules in
     let isnt = rw (to_z-of_z w64 c.args.low c.ranges.low, to_z-of_z w64 n fits, to_z-of_z w64 c.args.high c.ranges.high)
-      at (sym c.is_between.ensures ∙ c.if-is_between.false) in
+    at (sym c.is_between.ensures ∙ c.if-is_between.false) in
     sym (outside c.args.low c.args.high (number_of c.args.word.now) n c.requires.low c.requires.high (sym c.capped_number.ensures ∙ c.in-Some.is) isnt)

@@ -97,8 +97,7 @@ impl<F: Sink> SimPanel<F> {
 
     /// The colour that a pixel of the panel shows.
     pub fn shown(&self, x: u16, y: u16) -> Rgb565
-        requires column { x < self.now.width }
-        requires row { y < self.now.height }
+        requires { (x < self.now.width) × (y < self.now.height) }
         ensures { slice_get self.now.pixels (y * self.now.width + x) ≡ Some result }
     {
         self.pixels[usize::from(y) * usize::from(self.width) + usize::from(x)]

@@ -1,7 +1,6 @@
 -- What a line says has each number in its interval.
-use Rattle.std.proofs.Common.{◌≡◌, refl, sym, ◌∙◌, ℕ, ◌<◌, Bool, true, false, ◌&&◌, List, [], ◌∷◌, length, get_or, arith}
-use Rattle.std.specs.Prelude.{ℤ, pos, ◌==◌, unsigned_abs, int_le, Some, None, Ok, Err, IfOk, if◌then◌else◌, bytes_eq, codes, nat_lt, nat_le, ◌+◌, ◌*◌}
-use Rattle.std.specs.List.{list_any}
+use Rattle.std.proofs.Common.{◌≡◌, refl, sym, ◌∙◌, ℕ, ◌<◌, true, ◌&&◌, List, [], ◌∷◌, arith}
+use Rattle.std.specs.Prelude.{ℤ, pos, unsigned_abs, Some, None, Ok, Err, IfOk, nat_le, ◌+◌, ◌*◌}
 use Rattle.std.specs.declared.option.Option.{Option}
 use Rattle.std.specs.declared.result.Result.{Result}
 use Rattle.std.proofs.lemmas.Int.{ints}
@@ -14,17 +13,11 @@ use Rattle.gui_base.specs.Names.{table, named}
 use Rattle.gui_base.specs.declared.intervals.Count.{Count}
 use Rattle.gui_base.specs.declared.intervals.Interval.{Interval}
 use Rattle.gui_base.specs.declared.intervals.TheConstants.{HANDLE, NEW_HANDLE, INDEX, EXTENT, COORDINATE, OPACITY, COLOR}
-use Rattle.gui_base.specs.declared.words.Kind.{Kind}
 use Rattle.gui_base.specs.declared.words.Kind.TheVariants.{Obj}
 use Rattle.gui_base.specs.declared.words.Prop.{Prop}
 use Rattle.gui_base.specs.declared.words.Prop.TheVariants.{BgColor, BgOpa}
-use Rattle.scene_defs.specs.declared.Change.{Change}
 use Rattle.scene_defs.specs.Ranges.{is_size, is_value, is_in_range}
 use Rattle.scene_defs.specs.Valid.{IsChange}
-use Rattle.run_defs.specs.declared.LineFault.{LineFault}
-use Rattle.run_defs.specs.declared.LineFault.TheVariants.{Long, Syntax, Range}
-use Rattle.run_defs.specs.declared.Line.{Line}
-use Rattle.run_defs.specs.declared.Line.TheVariants.{Blank}
 use Rattle.run_defs.specs.declared.names.Name.{Name}
 use Rattle.run_defs.specs.declared.names.Name.TheVariants as name
 use Rattle.run_defs.specs.declared.names.RowName.{RowName}
@@ -33,31 +26,25 @@ use Rattle.run_defs.specs.declared.names.TreeName.{TreeName}
 use Rattle.run_defs.specs.declared.names.TreeName.TheVariants as tree
 use Rattle.run_defs.specs.declared.names.TheConstants.{COMMANDS}
 use Rattle.run_defs.specs.Commands.{handle, new_handle, index, extent, coordinate, kind, value_for, tree_fields, row_fields, line_fields, named_says, command_says}
-use Rattle.run_defs.specs.Fields.{Progress, number_in, count_in, over, or_syntax, value, value_or, next_of, start, ended_by}
-use Rattle.run_defs.specs.Language.{Word, Reading, mapped, is_comment, is_in_no_word, words_of}
+use Rattle.run_defs.specs.Fields.{Progress, number_in, count_in, value, start}
+use Rattle.run_defs.specs.Language.{Word, mapped, words_of}
 use Rattle.run_defs.specs.Laws.{IsInRange, SaysInRange}
 use Rattle.run_defs.specs.Numbers.{within, number, number_of, natural, color_from, color}
-use Rattle.run_defs.specs.Script.{Said, line_says, words_say, max_line}
+use Rattle.run_defs.specs.Script.{line_says, words_say}
 use Rattle.run_defs.proofs.Fields.{value-over, value-is}
 
 -- Numbers.
 
-within-ok : (low high : ℤ) (o : Option ℤ) → IfOk (within low high o) (λ n. (int_le low n && int_le n high) ≡ true)
+within-ok : (low high : ℤ) (o : Option ℤ) → IfOk (within low high o) (λ n. is_within (record { low = low; high = high }) n ≡ true)
 within-ok low high None = tt
-within-ok low high (Some n) = by (int_le low n && int_le n high) refl where
-  by : (b : Bool) → (int_le low n && int_le n high) ≡ b → IfOk (if b then Ok n else Err Range) (λ n. (int_le low n && int_le n high) ≡ true)
-  by true e = e
-  by false e = tt
-
-between : (low high : ℕ) (n : ℤ) → (int_le (pos low) n && int_le n (pos high)) ≡ true → (nat_le low (unsigned_abs n) && nat_le (unsigned_abs n) high) ≡ true
-between low high n e = grind (arith, ints, nat_tests, e)
+within-ok low high (Some n) = grind arith
 
 natural-ok : (low high : ℕ) (word : Word) → IfOk (natural low high word) (λ n. (nat_le low n && nat_le n high) ≡ true)
 unfolding natural number
-natural-ok low high word = by (within (pos low) (pos high) (number_of word)) (within-ok (pos low) (pos high) (number_of word)) where
-  by : (r : Reading ℤ) → IfOk r (λ n. (int_le (pos low) n && int_le n (pos high)) ≡ true) → IfOk (mapped unsigned_abs r) (λ n. (nat_le low n && nat_le n high) ≡ true)
-  by (Ok n) e = between low high n e
-  by (Err fault) e = tt
+natural-ok low high word = by (number_of word) where
+  by : (o : Option ℤ) → IfOk (mapped unsigned_abs (within (pos low) (pos high) o)) (λ n. (nat_le low n && nat_le n high) ≡ true)
+  by None = tt
+  by (Some n) = grind (arith, ints, nat_tests)
 
 number-in : (i : Interval) → is_within i i.low ≡ true → (at : Progress) → is_within i (value (number_in i) at) ≡ true
 unfolding number
@@ -81,10 +68,7 @@ color_from-ok digits (Err fault) e = tt
 color-ok : (word : Word) → IfOk (color word) (λ n. is_within COLOR n ≡ true)
 unfolding color
 color-ok [] = tt
-color-ok (mark ∷ digits) = by (mark == 35) where
-  by : (b : Bool) → IfOk (if b then color_from (decode_sized digits 3) else Err Syntax) (λ n. is_within COLOR n ≡ true)
-  by true = color_from-ok digits (decode_sized digits 3) refl
-  by false = tt
+color-ok (mark ∷ digits) = grind (arith, color_from-ok digits (decode_sized digits 3) refl)
 
 -- One lemma for each kind of field with a number.
 
@@ -120,10 +104,7 @@ row-in name at = simp inside
 -- a command makes no kind that only roots have
 kind-is : (at : Progress) → value kind at ≡ Obj
 unfolding value named
-kind-is at = by (bytes_eq (next_of at.rest) (codes "obj")) where
-  by : (b : Bool) → value_or Obj (or_syntax (if b then Some Obj else None)) ≡ Obj
-  by true = refl
-  by false = refl
+kind-is at = grind arith
 
 tree-is : (name : TreeName) (at : Progress) → IsChange (tree_fields name at).made
 tree-is tree.New at = kind-is _
@@ -138,26 +119,17 @@ line-in name.Frame at = tt
 line-in (name.Tree n) at = (tree-in n at, tree-is n at)
 line-in (name.Row n) at = (row-in n at, row-is n at)
 
-ended-in : (words : List Word) (fault : Option LineFault) (line : Line) → IsInRange (Ok line) → IsInRange (ended_by words fault line)
-ended-in [] None line h = h
-ended-in [] (Some fault) line h = tt
-ended-in (word ∷ words) fault line h = tt
-
 words-in : (words : List Word) → IsInRange (words_say words)
 unfolding command_says
 words-in [] = tt
 words-in (name ∷ words) = by (named (table {A = Name} COMMANDS) name) where
   by : (n : Option Name) → IsInRange (named_says n words)
   by None = tt
-  by (Some n) = let m = line_fields n (start words) in ended-in m.at.rest m.at.fault m.made (line-in n (start words))
-
-either : (b : Bool) (r s : Said) → IsInRange r → IsInRange s → IsInRange (if b then r else s)
-either true r s h k = h
-either false r s h k = k
+  by (Some n) = grind (arith, line-in n (start words))
 
 line_says-in : (line : List ℕ) → IsInRange (line_says line)
 unfolding line_says
-line_says-in line = either (is_comment line) (Ok Blank) _ tt (either (list_any is_in_no_word line) (Err Syntax) _ tt (words-in (words_of line)))
+line_says-in line = grind (arith, words-in (words_of line))
 
 pub says_in_range : SaysInRange
-says_in_range line = either (nat_lt max_line (length line)) (Err Long) (line_says line) tt (line_says-in line)
+says_in_range line = grind (arith, line_says-in line)

@@ -1,5 +1,5 @@
 -- What lines say, worked out by the definitions.
-use Rattle.std.proofs.Common.{◌≡◌, refl, true, List, [], ◌∷◌, map}
+use Rattle.std.proofs.Common.{◌≡◌, refl, true, [], ◌∷◌, map}
 use Rattle.std.specs.Prelude.{codes, Ok, Err, pos, neg_ℤ}
 use Rattle.hex.specs.Hex.{decode_pairs}
 use Rattle.gui_base.specs.Names.{named}

@@ -1,5 +1,5 @@
 -- How numbers are read.
-use Rattle.std.proofs.Common.{◌≡◌, ◌∙◌, refl, ap, ℕ, ◌+◌, ◌*◌, ◌≤◌, true, false, ◌&&◌, List, [], ◌∷◌, length, get_or, arith}
+use Rattle.std.proofs.Common.{◌≡◌, refl, ℕ, ◌+◌, ◌*◌, ◌≤◌, true, false, ◌&&◌, List, length, get_or, arith}
 use Rattle.std.specs.Prelude.{ℤ, pos, neg_ℤ, ◌<ℤ◌, int_le, Some, None, Ok, Err, option_map, nat_le}
 use Rattle.std.specs.declared.option.Option.{Option}
 use Rattle.std.specs.List.{list_all}
@@ -11,9 +11,7 @@ use Rattle.scene_script.specs.Numbers.{beyond, capped}
 
 -- a number of two digits and more
 pub long_number : (word : List ℕ) → 2 ≤ length word → is_number word ≡ (nat_le 49 (get_or word 0 0) && list_all is_digit word)
-long_number [] h = absurd (omega arith)
-long_number (a ∷ []) h = absurd (omega arith)
-long_number (a ∷ b ∷ word) h = refl
+long_number word h = grind arith
 
 -- an interval may be asked about the capped number
 within_capped : (low high : ℤ) (o : Option ℤ) → neg_ℤ (pos beyond) <ℤ low → high <ℤ pos beyond → within low high o ≡ within low high (option_map capped o)
@@ -21,23 +19,19 @@ within_capped low high None h k = refl
 within_capped low high (Some z) h k = grind (arith, ints, nat_tests)
 
 pub no_number : (low high : ℤ) (o : Option ℤ) → neg_ℤ (pos beyond) <ℤ low → high <ℤ pos beyond → option_map capped o ≡ None → within low high o ≡ Err Syntax
-no_number low high o h k e = within_capped low high o h k ∙ ap (within low high) e
+no_number low high o h k e = grind (arith, within_capped low high o h k, e)
 
 pub inside : (low high : ℤ) (o : Option ℤ) (n : ℤ) → neg_ℤ (pos beyond) <ℤ low → high <ℤ pos beyond → option_map capped o ≡ Some n →
     (int_le low n && int_le n high) ≡ true → within low high o ≡ Ok n
-inside low high o n h k e is = within_capped low high o h k ∙ ap (within low high) e ∙ rw is refl
+inside low high o n h k e is = grind (arith, within_capped low high o h k, e, is)
 
 pub outside : (low high : ℤ) (o : Option ℤ) (n : ℤ) → neg_ℤ (pos beyond) <ℤ low → high <ℤ pos beyond → option_map capped o ≡ Some n →
     (int_le low n && int_le n high) ≡ false → within low high o ≡ Err Range
-outside low high o n h k e isnt = within_capped low high o h k ∙ ap (within low high) e ∙ rw isnt refl
+outside low high o n h k e isnt = grind (arith, within_capped low high o h k, e, isnt)
 
 pub ruleset intervals = (no_number, inside)
 
 -- the number of three bytes
 pub three_bytes : (bytes : List ℕ) → length bytes ≡ 3 →
     color_from (Ok bytes) ≡ Ok (pos (65536 * get_or bytes 0 0 + 256 * get_or bytes 1 0 + get_or bytes 2 0))
-three_bytes [] h = absurd (omega arith)
-three_bytes (a ∷ []) h = absurd (omega arith)
-three_bytes (a ∷ b ∷ []) h = absurd (omega arith)
-three_bytes (a ∷ b ∷ c ∷ []) h = refl
-three_bytes (a ∷ b ∷ c ∷ d ∷ bytes) h = absurd (omega arith)
+three_bytes bytes h = grind arith

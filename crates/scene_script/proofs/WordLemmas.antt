@@ -1,7 +1,7 @@
 -- How the words of a line are cut off one at a time.
-use Rattle.std.proofs.Common.{◌≡◌, ◌≢◌, refl, ◌∙◌, sym, ap, ℕ, ◌≤◌, ◌<◌, Bool, true, false, List, [], ◌∷◌, length, take, drop, arith, cond, not, one-add, length-take}
+use Rattle.std.proofs.Common.{◌≡◌, ◌≢◌, ◌∙◌, refl, sym, ap, ℕ, ◌<◌, Bool, true, false, List, [], ◌∷◌, length, take, drop, arith, not, one-add, length-take}
 use Rattle.std.proofs.lemmas.List.Folds.{length-prefix_len}
-use Rattle.std.specs.Prelude.{Some, None, filter, slice_get, position, unwrap_or, nat_lt}
+use Rattle.std.specs.Prelude.{Some, filter, slice_get, position, unwrap_or}
 use Rattle.std.specs.declared.option.Option.{Option}
 use Rattle.std.specs.List.{slice_split, position_or_len}
 use Rattle.std.proofs.lemmas.Bool.Decides.{nat_tests}
@@ -22,28 +22,17 @@ parted : (bs : List ℕ) → Parted bs
 parted [] = ([], refl, refl)
 parted (b ∷ bs) = parted_by b bs (is_space b) refl (parted bs)
 
-solid : (b : ℕ) (bs : List ℕ) → slice_get (b ∷ bs) 0 ≢ Some 32 → is_space b ≡ false
-solid b bs n = grind (arith, nat_tests, n)
-
-cut_at : (b : ℕ) (bs : List ℕ) (e : ℕ) → is_space b ≡ false → e ≡ position_or_len is_space (b ∷ bs) → Parted (b ∷ bs) →
-    words_of (b ∷ bs) ≡ take e (b ∷ bs) ∷ words_of (drop e (b ∷ bs))
-cut_at b bs e h s cut =
-    let some : has_a_byte (take e (b ∷ bs)) ≡ true = rw (s, h, one-add) refl in
-    let all : words_of (b ∷ bs) ≡ filter has_a_byte (take e (b ∷ bs) ∷ cut.0) = rw s (ap (filter has_a_byte) cut.1) in
-    let first : filter has_a_byte (take e (b ∷ bs) ∷ cut.0) ≡ take e (b ∷ bs) ∷ filter has_a_byte cut.0 = rw some refl in
-    let others : filter has_a_byte cut.0 ≡ words_of (drop e (b ∷ bs)) = rw s cut.2 in
-    all ∙ first ∙ ap (λ (t : List Word). take e (b ∷ bs) ∷ t) others
-
 -- a place, or the end
 place_or_end : (xs : List ℕ) → unwrap_or (position is_space xs) (length xs) ≡ position_or_len is_space xs
-place_or_end xs = by_bound (position_or_len is_space xs) (length xs) (omega (arith, length-prefix_len (λ (b : ℕ). not (is_space b)) xs, length-take (position_or_len is_space xs) xs))
-  where
-    by_bound : (p l : ℕ) → p ≤ l → unwrap_or (cond (nat_lt p l) (Some p) None) l ≡ p
-    by_bound p l h = grind (arith, nat_tests)
+place_or_end xs =
+    grind (arith, nat_tests, length-prefix_len (λ (b : ℕ). not (is_space b)) xs, length-take (position_or_len is_space xs) xs)
 
 -- the first word of bytes that begin with it
 pub word_cut : (bs : List ℕ) (o : Option ℕ) → o ≡ position is_space bs → 0 < length bs → slice_get bs 0 ≢ Some 32 →
     words_of bs ≡ take (unwrap_or o (length bs)) bs ∷ words_of (drop (unwrap_or o (length bs)) bs)
 word_cut [] o s l n = absurd (omega arith)
 word_cut (b ∷ bs) o s l n =
-    cut_at b bs (unwrap_or o (length (b ∷ bs))) (solid b bs n) (ap (λ (p : Option ℕ). unwrap_or p (length (b ∷ bs))) s ∙ place_or_end (b ∷ bs)) (parted (b ∷ bs))
+    let solid : is_space b ≡ false = grind (arith, nat_tests, n) in
+    let cut = parted (b ∷ bs) in
+    let some : has_a_byte (take (position_or_len is_space (b ∷ bs)) (b ∷ bs)) ≡ true = rw (solid, one-add) refl in
+    rw (s, place_or_end (b ∷ bs)) (ap (filter has_a_byte) cut.1 ∙ rw (some, cut.2) refl)

@@ -13,3 +13,9 @@ returns-clause-owners g c = has_owners c.in_ok-buckets.buckets c.mask_for-mask.r
 pub returns-clause-empty : goal.returns-clause-empty
 returns-clause-empty g c =
     start_lists c.in_ok-buckets.buckets c.mask_for-mask.result c.args.owners c.in_ok-buckets.ensures.empty
+
+pub returns-clause-spare : goal.returns-clause-spare
+returns-clause-spare g c = c.in_ok-buckets.ensures.spare
+
+pub returns-clause-size : goal.returns-clause-size
+returns-clause-size g c = c.in_ok-buckets.ensures.size

@@ -1,5 +1,6 @@
 //! Reads the words of the command line.
-ghost use Rattle.std.specs.Prelude.{◌≡◌, ◌≤◌, ◌∷◌, [], Some, IfSome, MatchOption, is_some, filter_map, fold, map};
+ghost use Rattle.std.specs.Prelude.{◌≡◌, ◌≤◌, ◌∷◌, [], Some, IfSome, MatchOption, is_some};
+ghost use Rattle.std.specs.Prelude.{filter_map, fold, map};
 ghost use Rattle.std.specs.Option.{option_map};
 ghost use Rattle.std.specs.List.{list_all, list_any};
 ghost use Rattle.gui_base.specs.Bounded.{bounds_of};

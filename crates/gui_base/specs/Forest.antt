@@ -1,5 +1,5 @@
 -- Forests: rose trees in a list, with a row of any type at each node.
-use Rattle.std.specs.Prelude.{◌≡◌, ◌≤◌, ℕ, zero, suc, ◌+◌, max, Bool, false, cond, eqb, ◌||◌, List, [], ◌∷◌, ◌++◌, Option, None, Some, refl}
+use Rattle.std.specs.Prelude.{◌≡◌, ◌≤◌, ℕ, zero, suc, ◌+◌, max, Bool, true, false, cond, eqb, ◌&&◌, ◌||◌, List, [], ◌∷◌, ◌++◌, Option, None, Some, refl}
 use Rattle.std.specs.Coded.{Coded, code_by, coded_list, coded_option}
 use Rattle.std.proofs.Common.{ap, sym, ◌∙◌, append_assoc}
 use Rattle.std.proofs.lemmas.List.{append-nil}
@@ -63,6 +63,11 @@ leaf row = Tree row Empty Empty
 abbrev pub has_by : {A : Type 0} → (A → Bool) → Forest A → Bool
 has_by test Empty = false
 has_by test (Tree row cs rest) = test row || (has_by test cs || has_by test rest)
+
+-- whether each row passes the test
+abbrev pub all_by : {A : Type 0} → (A → Bool) → Forest A → Bool
+all_by test Empty = true
+all_by test (Tree row cs rest) = test row && (all_by test cs && all_by test rest)
 
 -- without the trees whose root passes the test
 abbrev pub cut_by : {A : Type 0} → (A → Bool) → Forest A → Forest A

@@ -1,4 +1,5 @@
 pub mod Area
+pub mod Bits
 pub mod Bounded
 pub mod Color
 pub mod Corners
@@ -8,3 +9,4 @@ pub mod Limits
 pub mod Names
 pub mod Pools
 pub mod Ppm
+pub mod Refusing

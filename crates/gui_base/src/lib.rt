@@ -2,6 +2,7 @@
 #![tactic(auto)]
 
 pub mod area;
+pub mod bits;
 pub mod color;
 pub mod intervals;
 pub mod limits;
@@ -12,6 +13,7 @@ pub mod steps;
 pub mod words;
 
 pub use area::Area;
+pub use bits::Bits;
 pub use color::Rgb565;
 pub use limits::{Limits, Pool};
 pub use names::named;

@@ -1,4 +1,5 @@
 //! The words of the script language that several crates share. Each kind of word has one table of its names.
+ghost use Rattle.std.specs.Prelude.{◌≡◌};
 
 /// What an object is. Screens and layers are roots and cannot be made by `new`.
 #[derive(Clone, Copy, Debug, PartialEq, Eq)]
@@ -36,6 +37,17 @@ pub const FLAGS: [(&'static str, Flag); 4] = [
 
 /// What a flag is set to.
 pub const ON_OFF: [(&'static str, bool); 2] = [("on", true), ("off", false)];
+
+impl Flag {
+    ghost use Rattle.gui_base.specs.Bits.{flag_bit};
+
+    /// Its bit in a set of flags, from 0.
+    pub fn bit(self) -> u8
+        ensures { result ≡ flag_bit self }
+    {
+        self as u8
+    }
+}
 
 /// The part of an object that a property is for.
 #[derive(Clone, Copy, Debug, PartialEq, Eq)]

@@ -1,6 +1,4 @@
-pub mod Sums
-pub mod Shown
+pub mod Edits
 pub mod Kept
-pub mod Changes
-pub mod Bits
-pub mod Told
+pub mod RowTests
+pub mod Shown

@@ -1,5 +1,5 @@
-pub mod Answers
-pub mod Codes
+pub mod Changed
 pub mod Parts
+pub mod Removed
 pub mod Rows
 pub mod Views

@@ -1,59 +1,26 @@
 //! Whether the numbers of a change lie in their intervals.
 ghost use Rattle.std.specs.Prelude.{◌≡◌};
-ghost use Rattle.scene_defs.specs.Ranges.{is_handle, is_new_handle, is_offset, is_size, is_value, is_in_range};
+ghost use Rattle.scene_defs.specs.Ranges.{is_size, is_value, is_in_range};
 
-use gui_base::{Handle, Length, Prop};
+use gui_base::intervals::{COLOR, COORDINATE, EXTENT, HANDLE, INDEX, NEW_HANDLE, OPACITY};
+use gui_base::{Length, Prop};
 use scene_defs::Change;
-
-/// The greatest handle.
-const LAST: u16 = 9999;
-
-/// The least handle that a caller may choose.
-const FIRST_CHOSEN: u16 = 10;
-
-/// The greatest place among siblings.
-const LAST_INDEX: u16 = 3999;
-
-/// The greatest wanted coordinate on either side of 0, in pixels.
-const FARTHEST: i32 = 4000;
-
-/// The greatest wanted width or height, in pixels.
-const LARGEST: u16 = 4000;
-
-fn is_handle(h: Handle) -> bool
-    ensures { result ≡ is_handle h.0 }
-{
-    h.0 >= 1 && h.0 <= LAST
-}
-
-fn is_new_handle(n: Handle) -> bool
-    ensures { result ≡ is_new_handle n.0 }
-{
-    n.0 >= FIRST_CHOSEN && n.0 <= LAST
-}
-
-fn is_offset(n: i32) -> bool
-    ensures { result ≡ is_offset n }
-{
-    n >= -FARTHEST && n <= FARTHEST
-}
 
 fn is_size(length: Length) -> bool
     ensures { result ≡ is_size length }
 {
     match length {
-        Length::Pixels(n) => n <= LARGEST,
+        Length::Pixels(n) => EXTENT.holds(n),
     }
 }
 
 fn is_value(prop: Prop, value: i32) -> bool
     ensures { result ≡ is_value prop value }
 {
-    let greatest = match prop {
-        Prop::BgColor => 0xFF_FFFF,
-        Prop::BgOpa => 255,
-    };
-    value >= 0 && value <= greatest
+    match prop {
+        Prop::BgColor => COLOR.holds(value),
+        Prop::BgOpa => OPACITY.holds(value),
+    }
 }
 
 /// Whether each number of a change lies in its interval.
@@ -61,17 +28,17 @@ pub fn is_in_range(change: &Change) -> bool
     ensures { result ≡ is_in_range change.now }
 {
     match *change {
-        Change::Screen(n) => is_new_handle(n),
-        Change::New(n, parent, _) => is_new_handle(n) && is_handle(parent),
-        Change::Parent(h, parent) => is_handle(h) && is_handle(parent),
-        Change::Index(h, index) => is_handle(h) && index <= LAST_INDEX,
+        Change::Screen(n) => NEW_HANDLE.holds(n.0),
+        Change::New(n, parent, _) => NEW_HANDLE.holds(n.0) && HANDLE.holds(parent.0),
+        Change::Parent(h, parent) => HANDLE.holds(h.0) && HANDLE.holds(parent.0),
+        Change::Index(h, index) => HANDLE.holds(h.0) && INDEX.holds(index),
         Change::Delete(h)
         | Change::Front(h)
         | Change::Back(h)
         | Change::Load(h)
-        | Change::Flag(h, _, _) => is_handle(h),
-        Change::Pos(h, x, y) => is_handle(h) && is_offset(x) && is_offset(y),
-        Change::Size(h, width, height) => is_handle(h) && is_size(width) && is_size(height),
-        Change::Local(h, _, prop, value) => is_handle(h) && is_value(prop, value),
+        | Change::Flag(h, _, _) => HANDLE.holds(h.0),
+        Change::Pos(h, x, y) => HANDLE.holds(h.0) && COORDINATE.holds(x) && COORDINATE.holds(y),
+        Change::Size(h, width, height) => HANDLE.holds(h.0) && is_size(width) && is_size(height),
+        Change::Local(h, _, prop, value) => HANDLE.holds(h.0) && is_value(prop, value),
     }
 }

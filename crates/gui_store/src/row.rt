@@ -1,10 +1,12 @@
 //! The row of an object.
-ghost use Rattle.std.specs.Prelude.{◌≡◌, ◌≤◌, ℕ, ℤ};
-ghost use Rattle.scene_defs.specs.Scene.{new_row, flags_of, local_of, value_of, default_of, entry_count};
-ghost use Rattle.scene_defs.specs.Change.{flagged, placed_at, sized, styled};
-ghost use Rattle.gui_store.specs.Rows.{bit_of, flags_in, is_on, row_of};
+ghost use Rattle.std.specs.Prelude.{◌≡◌, ◌≤◌, ◌<◌, ℕ, ℤ};
+ghost use Rattle.gui_base.specs.Bits.{flag_bit, with_bit};
+ghost use Rattle.scene_defs.specs.Scene.{new_row, flags_of, is_on, local_of, value_of, default_of, entry_count};
+ghost use Rattle.scene_defs.specs.Change.{row_after};
+ghost use Rattle.gui_store.specs.Rows.{row_of};
 
-use gui_base::{Flag, Kind, Length, Part, Prop};
+use gui_base::{Bits, Flag, Kind, Length, Part, Prop};
+use scene_defs::Change;
 
 /// The flags of a new screen or object.
 const CLICKABLE: u8 = 2;
@@ -27,22 +29,9 @@ pub struct Row {
     pub bg_opa: Option<i32>,
 }
 
-/// The bit of a flag.
-fn bit_of(flag: Flag) -> u8
-    ensures value { result ≡ bit_of flag }
-    ensures most { result ≤ 3 }
-{
-    match flag {
-        Flag::Hidden => 0,
-        Flag::Clickable => 1,
-        Flag::Checkable => 2,
-        Flag::Bubble => 3,
-    }
-}
-
 /// The flags of a new object.
 fn flags_of(kind: Kind) -> u8
-    ensures { flags_in result ≡ flags_of kind }
+    ensures { result ≡ flags_of kind }
 {
     match kind {
         Kind::Layer => 0,
@@ -69,9 +58,9 @@ impl Row {
 
     /// Whether a flag is on.
     pub fn is_on(&self, flag: Flag) -> bool
-        ensures { result ≡ is_on (flags_in self.now.flags) flag }
+        ensures { result ≡ is_on self.now.flags flag }
     {
-        self.flags >> bit_of(flag) & 1 == 1
+        Bits(self.flags as u16).has(flag.bit())
     }
 
     /// What a property is set to here, if it is.
@@ -102,43 +91,32 @@ impl Row {
         u32::from(self.bg_color.is_some()) + u32::from(self.bg_opa.is_some())
     }
 
-    /// Switches a flag on or off.
-    pub(crate) fn set_flag(&mut self, flag: Flag, on: bool)
-        ensures { (h : ℕ) → row_of h self.new ≡ flagged flag on (row_of h self.old) }
+    /// Makes a change of a row to it. Any other change leaves it.
+    pub(crate) fn change(&mut self, change: &Change)
+        ensures { (h : ℕ) → row_of h self.new ≡ row_after change.now (row_of h self.old) }
     {
-        let bit = 1 << bit_of(flag);
-        self.flags = if on {
-            self.flags | bit
-        } else {
-            self.flags & !bit
-        };
-    }
-
-    /// Sets the wanted place.
-    pub(crate) fn place_at(&mut self, x: i32, y: i32)
-        ensures { (h : ℕ) → row_of h self.new ≡ placed_at x y (row_of h self.old) }
-    {
-        self.x = x;
-        self.y = y;
-    }
-
-    /// Sets the wanted sizes.
-    pub(crate) fn resize(&mut self, width: Length, height: Length)
-        ensures { (h : ℕ) → row_of h self.new ≡ sized width height (row_of h self.old) }
-    {
-        self.width = width;
-        self.height = height;
-    }
-
-    /// Sets a property.
-    pub(crate) fn set_local(&mut self, part: Part, prop: Prop, value: i32)
-        ensures { (h : ℕ) → row_of h self.new ≡ styled prop value (row_of h self.old) }
-    {
-        match (part, prop) {
-            (Part::Main, Prop::BgColor) => self.bg_color = Some(value),
-            (Part::Main, Prop::BgOpa) => self.bg_opa = Some(value),
+        match *change {
+            Change::Flag(_, flag, on) => self.flags = with_flag(self.flags, flag, on),
+            Change::Pos(_, x, y) => {
+                self.x = x;
+                self.y = y;
+            }
+            Change::Size(_, width, height) => {
+                self.width = width;
+                self.height = height;
+            }
+            Change::Local(_, Part::Main, Prop::BgColor, value) => self.bg_color = Some(value),
+            Change::Local(_, Part::Main, Prop::BgOpa, value) => self.bg_opa = Some(value),
+            _ => {}
         }
     }
+}
+
+/// The flags with one of them switched on or off.
+fn with_flag(flags: u8, flag: Flag, on: bool) -> u8
+    ensures { result ≡ with_bit flags (flag_bit flag) on }
+{
+    Bits(flags as u16).with(flag.bit(), on).0 as u8
 }
 
 /// What a property is where nothing sets it.

@@ -1,24 +1,26 @@
 //! The store.
-ghost use Rattle.std.specs.Prelude.{◌≡◌, ◌<◌, ◌^◌, IfOk, IfSome, Some, None, true, option_map, sum_by, length};
+ghost use Rattle.std.specs.Prelude.{◌≡◌, ◌<◌, ◌^◌, IfOk, IfSome, Some, None, true, option_map, sum_by};
 ghost use Rattle.std.specs.Option.{option_copied};
-ghost use Rattle.gui_base.specs.declared.words.Kind.TheVariants.{Obj};
 ghost use Rattle.gui_base.specs.Bounded.{bounds_of};
+ghost use Rattle.gui_base.specs.Refusing.{first_of, result_of, move_tests};
 ghost use Rattle.scene_defs.specs.Scene.{handles_of, is_there, row_at, value_of, first_scene};
-ghost use Rattle.scene_defs.specs.Change.{answer_of, answer_in_range, scene_by, changed, below_root_answer};
-ghost use Rattle.scene_defs.specs.Valid.{IsValid, IsChange, IsOrderly, IsRow, IsNewHandle, IsOffset, IsSize, IsValue};
-ghost use Rattle.gui_store.specs.Answers.{result_of};
+ghost use Rattle.scene_defs.specs.Change.{answer_of, changed, tests, row_set};
+ghost use Rattle.scene_defs.specs.Ranges.{is_in_range};
+ghost use Rattle.scene_defs.specs.Valid.{IsValid, IsChange, IsRow};
+ghost use Rattle.gui_store.specs.Parts.{AreKept};
+ghost use Rattle.gui_store.specs.Removed.{removed_by};
 ghost use Rattle.gui_store.specs.Rows.{row_of, entries_in};
 
 use crate::range::is_in_range;
 use crate::row::Row;
-use gui_base::{Flag, Handle, Kind, Length, Limits, NoMemory, Part, Pool, Prop, Refusal};
+use gui_base::intervals::HANDLE;
+use gui_base::{Handle, Kind, Limits, NoMemory, Part, Pool, Prop, Refusal};
 use gui_tree::Tree;
 use scene_defs::Change;
 use std::alloc::Global;
-use std::marker::Model;
 
-/// One more than the greatest number of a handle.
-const HANDLES: usize = 10000;
+/// One more than the greatest handle.
+const HANDLES: usize = HANDLE.high as usize + 1;
 
 /// The screen that is shown at first.
 const FIRST_SCREEN: Handle = Handle(3);
@@ -33,22 +35,13 @@ pub struct Store {
     limits: Limits,
     // How many properties are set.
     entries: u32,
-}
-
-impl Model for Store {
-    ghost use Rattle.scene_defs.specs.Scene.{Scene};
-    ghost use Rattle.gui_store.specs.Codes.{scene_code};
-
-    ghost Value = { Scene };
-
-    ghost coded = { scene_code };
-
-    ghost use Rattle.gui_store.specs.Parts.{scene_of, AreKept};
-    ghost use Rattle.gui_store.specs.Views.{parts_of};
-
-    ghost view = { λ s. scene_of (parts_of s) };
-
-    ghost invariant = { λ s. AreKept (parts_of s) };
+    ghost kept: { AreKept (record {
+        tree = tree;
+        rows = rows.items;
+        active = active.0;
+        limits = bounds_of limits;
+        entries = entries;
+    }) },
 }
 
 /// How many properties are set in the row of a handle.
@@ -74,9 +67,11 @@ fn entries_of(rows: &[Row], handles: &[Handle]) -> u32
 }
 
 impl Store {
+    ghost use Rattle.gui_store.specs.Views.{scene_of, removed_of, Changes};
+
     /// The top layer, the system layer and a screen, which is active. It takes all the memory that the store will need.
     pub fn open(alloc: Global, limits: &Limits) -> Result<Store, NoMemory>
-        ensures { IfOk result (λ store. store ≡ first_scene (bounds_of limits.now)) }
+        ensures { IfOk result (λ store. scene_of store ≡ first_scene (bounds_of limits.now)) }
     {
         let tree = Tree::open(alloc, limits.objects)?;
         let Ok(mut rows) = Vec::from_elem(alloc, Row::new(Kind::Obj), HANDLES) else {
@@ -96,11 +91,12 @@ impl Store {
 
     /// Changes the scene, or answers the first refusal of this change, which leaves all as it was: Range where a number of it lies
     /// outside its interval, and then those of each change. A new object is a plain one.
-    #[tactic(auto, using(scene_defs::proofs::InRange::orderly))]
     pub fn apply(&mut self, change: &Change) -> Result<(), Refusal>
         requires { IsChange change.now }
-        ensures answer { result ≡ result_of (answer_of self.old change.now) }
-        ensures after { self.new ≡ changed self.old change.now }
+        ensures answer { result ≡ result_of (answer_of (scene_of self.old) change.now) }
+        ensures after { scene_of self.new ≡ changed (scene_of self.old) change.now }
+        ensures removed { removed_of self.new
+            ≡ removed_by (answer_of (scene_of self.old) change.now) (removed_of self.old) (scene_of self.old) change.now }
     {
         if !is_in_range(change) {
             return Err(Refusal::Range);
@@ -108,31 +104,33 @@ impl Store {
         self.carry_out(change)
     }
 
-    /// The tree of the objects.
+    /// The tree of the objects. Its `last_removed` lists what the last delete with Ok has removed, each object before those
+    /// below it.
     pub fn tree(&self) -> &Tree
-        ensures forest { result.now.forest ≡ handles_of self.now.trees }
-        ensures valid { IsValid self.now }
+        ensures forest { result.now.forest ≡ handles_of (scene_of self.now).trees }
+        ensures removed { result.now.removed ≡ removed_of self.now }
+        ensures valid { IsValid (scene_of self.now) }
     {
         &self.tree
     }
 
     /// The screen that is shown.
     pub fn active(&self) -> Handle
-        ensures { result.0 ≡ self.now.active }
+        ensures { result.0 ≡ (scene_of self.now).active }
     {
         self.active
     }
 
     /// The limits that it was opened with.
     pub fn limits(&self) -> &Limits
-        ensures { bounds_of result.now ≡ self.now.limits }
+        ensures { bounds_of result.now ≡ (scene_of self.now).limits }
     {
         &self.limits
     }
 
     /// The row of an object, or none where it is not there.
     pub fn row(&self, h: Handle) -> Option<&Row>
-        ensures value { option_map (row_of h.0) (option_copied result) ≡ row_at self.now h.0 }
+        ensures value { option_map (row_of h.0) (option_copied result) ≡ row_at (scene_of self.now) h.0 }
         ensures in_range { IfSome result (λ row. IsRow (row_of h.0 row.now)) }
     {
         if self.tree.has(h) {
@@ -144,38 +142,38 @@ impl Store {
 
     /// The value of a property of an object that is there: what is set locally, or the default.
     pub fn value(&self, h: Handle, part: Part, prop: Prop) -> i32
-        requires { is_there self.now h.0 ≡ true }
-        ensures { option_map (λ row. value_of row prop) (row_at self.now h.0) ≡ Some result }
+        requires { is_there (scene_of self.now) h.0 ≡ true }
+        ensures { option_map (λ row. value_of row prop) (row_at (scene_of self.now) h.0) ≡ Some result }
     {
         self.rows[h.0 as usize].value(part, prop)
     }
 
-    /// Does a change whose numbers lie in their intervals, or answers why not.
+    /// Carries out a change whose numbers lie in their intervals, or answers its first refusal.
     fn carry_out(&mut self, change: &Change) -> Result<(), Refusal>
-        requires { IsOrderly change.now }
-        ensures answer { result ≡ result_of (answer_in_range self.old change.now) }
-        ensures after { self.new ≡ scene_by (answer_in_range self.old change.now) self.old change.now }
+        requires in_range { is_in_range change.now ≡ true }
+        requires plain { IsChange change.now }
+        ensures { Changes self.old self.new change.now result }
     {
         match *change {
             Change::Screen(n) => self.add_screen(n),
             Change::New(n, parent, kind) => self.add_object(n, parent, kind),
             Change::Delete(h) => self.delete(h),
-            Change::Parent(h, parent) => self.set_parent(h, parent),
-            Change::Index(h, index) => self.move_to_index(h, index),
-            Change::Front(h) => self.move_to_front(h),
-            Change::Back(h) => self.move_to_back(h),
+            Change::Parent(h, parent) => self.tree.set_parent(h, parent),
+            Change::Index(h, index) => self.tree.move_to_index(h, index),
+            // An index past the last is the last.
+            Change::Front(h) => self.tree.move_to_index(h, u16::MAX),
+            Change::Back(h) => self.tree.move_to_index(h, 0),
             Change::Load(h) => self.load(h),
-            Change::Flag(h, flag, on) => self.set_flag(h, flag, on),
-            Change::Pos(h, x, y) => self.set_pos(h, x, y),
-            Change::Size(h, width, height) => self.set_size(h, width, height),
-            Change::Local(h, part, prop, value) => self.set_local(h, part, prop, value),
+            Change::Flag(h, _, _)
+            | Change::Pos(h, _, _)
+            | Change::Size(h, _, _)
+            | Change::Local(h, _, _, _) => self.change_row(h, change),
         }
     }
 
     fn add_screen(&mut self, n: Handle) -> Result<(), Refusal>
-        requires { IsNewHandle n.0 }
-        ensures answer { result ≡ result_of (answer_in_range self.old (Change.Screen n)) }
-        ensures after { self.new ≡ scene_by (answer_in_range self.old (Change.Screen n)) self.old (Change.Screen n) }
+        requires { is_in_range (Change.Screen n) ≡ true }
+        ensures { Changes self.old self.new (Change.Screen n) result }
     {
         self.tree.add_root(n)?;
         self.rows[n.0 as usize] = Row::new(Kind::Screen);
@@ -183,9 +181,9 @@ impl Store {
     }
 
     fn add_object(&mut self, n: Handle, parent: Handle, kind: Kind) -> Result<(), Refusal>
-        requires { IsNewHandle n.0 × (kind ≡ Obj) }
-        ensures answer { result ≡ result_of (answer_in_range self.old (Change.New n parent kind)) }
-        ensures after { self.new ≡ scene_by (answer_in_range self.old (Change.New n parent kind)) self.old (Change.New n parent kind) }
+        requires in_range { is_in_range (Change.New n parent kind) ≡ true }
+        requires plain { IsChange (Change.New n parent kind) }
+        ensures { Changes self.old self.new (Change.New n parent kind) result }
     {
         self.tree.add(n, parent)?;
         self.rows[n.0 as usize] = Row::new(kind);
@@ -193,8 +191,8 @@ impl Store {
     }
 
     fn delete(&mut self, h: Handle) -> Result<(), Refusal>
-        ensures answer { result ≡ result_of (answer_in_range self.old (Change.Delete h)) }
-        ensures after { self.new ≡ scene_by (answer_in_range self.old (Change.Delete h)) self.old (Change.Delete h) }
+        requires { is_in_range (Change.Delete h) ≡ true }
+        ensures { Changes self.old self.new (Change.Delete h) result }
     {
         if h == self.active {
             return Err(Refusal::Place);
@@ -205,38 +203,9 @@ impl Store {
         Ok(())
     }
 
-    fn set_parent(&mut self, h: Handle, parent: Handle) -> Result<(), Refusal>
-        ensures answer { result ≡ result_of (answer_in_range self.old (Change.Parent h parent)) }
-        ensures after { self.new ≡ scene_by (answer_in_range self.old (Change.Parent h parent)) self.old (Change.Parent h parent) }
-    {
-        self.tree.set_parent(h, parent)
-    }
-
-    fn move_to_index(&mut self, h: Handle, index: u16) -> Result<(), Refusal>
-        ensures answer { result ≡ result_of (answer_in_range self.old (Change.Index h index)) }
-        ensures after { self.new ≡ scene_by (answer_in_range self.old (Change.Index h index)) self.old (Change.Index h index) }
-    {
-        self.tree.move_to_index(h, index)
-    }
-
-    fn move_to_front(&mut self, h: Handle) -> Result<(), Refusal>
-        ensures answer { result ≡ result_of (answer_in_range self.old (Change.Front h)) }
-        ensures after { self.new ≡ scene_by (answer_in_range self.old (Change.Front h)) self.old (Change.Front h) }
-    {
-        // An index past the last is the last.
-        self.tree.move_to_index(h, u16::MAX)
-    }
-
-    fn move_to_back(&mut self, h: Handle) -> Result<(), Refusal>
-        ensures answer { result ≡ result_of (answer_in_range self.old (Change.Back h)) }
-        ensures after { self.new ≡ scene_by (answer_in_range self.old (Change.Back h)) self.old (Change.Back h) }
-    {
-        self.tree.move_to_index(h, 0)
-    }
-
     fn load(&mut self, h: Handle) -> Result<(), Refusal>
-        ensures answer { result ≡ result_of (answer_in_range self.old (Change.Load h)) }
-        ensures after { self.new ≡ scene_by (answer_in_range self.old (Change.Load h)) self.old (Change.Load h) }
+        requires { is_in_range (Change.Load h) ≡ true }
+        ensures { Changes self.old self.new (Change.Load h) result }
     {
         if !self.tree.has(h) {
             return Err(Refusal::Unknown);
@@ -250,64 +219,48 @@ impl Store {
         }
     }
 
-    fn set_flag(&mut self, h: Handle, flag: Flag, on: bool) -> Result<(), Refusal>
-        ensures answer { result ≡ result_of (answer_in_range self.old (Change.Flag h flag on)) }
-        ensures after { self.new ≡ scene_by (answer_in_range self.old (Change.Flag h flag on)) self.old (Change.Flag h flag on) }
+    /// Whether an object is there, and such a change of its row is for one like it.
+    fn check_row(&self, h: Handle, change: &Change) -> Result<(), Refusal>
+        requires { row_set change.now ≡ Some h }
+        ensures { result ≡ result_of (first_of (tests (scene_of self.now) change.now) None) }
     {
         if !self.tree.has(h) {
             return Err(Refusal::Unknown);
         }
-        self.rows[h.0 as usize].set_flag(flag, on);
-        Ok(())
+        match *change {
+            Change::Pos(_, _, _) | Change::Size(_, _, _) => self.check_parent(h),
+            _ => Ok(()),
+        }
     }
 
-    /// Whether an object is there and has a parent, or what is answered where it has none.
-    fn has_parent(&self, h: Handle) -> Result<(), Refusal>
-        ensures { result ≡ result_of (below_root_answer self.now h.0) }
+    /// Whether an object that is there has a parent.
+    fn check_parent(&self, h: Handle) -> Result<(), Refusal>
+        requires { is_there (scene_of self.now) h.0 ≡ true }
+        ensures { result ≡ result_of (first_of (move_tests (handles_of (scene_of self.now).trees) h.0) None) }
     {
-        if !self.tree.has(h) {
-            return Err(Refusal::Unknown);
-        }
         if self.tree.parent(h).is_none() {
             return Err(Refusal::Place);
         }
         Ok(())
     }
 
-    fn set_pos(&mut self, h: Handle, x: i32, y: i32) -> Result<(), Refusal>
-        requires { IsOffset x × IsOffset y }
-        ensures answer { result ≡ result_of (answer_in_range self.old (Change.Pos h x y)) }
-        ensures after { self.new ≡ scene_by (answer_in_range self.old (Change.Pos h x y)) self.old (Change.Pos h x y) }
+    /// Changes the row of an object alone.
+    fn change_row(&mut self, h: Handle, change: &Change) -> Result<(), Refusal>
+        requires row { row_set change.now ≡ Some h }
+        requires in_range { is_in_range change.now ≡ true }
+        requires plain { IsChange change.now }
+        ensures { Changes self.old self.new change.now result }
     {
-        self.has_parent(h)?;
-        self.rows[h.0 as usize].place_at(x, y);
-        Ok(())
-    }
-
-    fn set_size(&mut self, h: Handle, width: Length, height: Length) -> Result<(), Refusal>
-        requires { IsSize width × IsSize height }
-        ensures answer { result ≡ result_of (answer_in_range self.old (Change.Size h width height)) }
-        ensures after { self.new ≡ scene_by (answer_in_range self.old (Change.Size h width height)) self.old (Change.Size h width height) }
-    {
-        self.has_parent(h)?;
-        self.rows[h.0 as usize].resize(width, height);
-        Ok(())
-    }
-
-    fn set_local(&mut self, h: Handle, part: Part, prop: Prop, value: i32) -> Result<(), Refusal>
-        requires { IsValue prop value }
-        ensures answer { result ≡ result_of (answer_in_range self.old (Change.Local h part prop value)) }
-        ensures after { self.new ≡ scene_by (answer_in_range self.old (Change.Local h part prop value)) self.old (Change.Local h part prop value) }
-    {
-        if !self.tree.has(h) {
-            return Err(Refusal::Unknown);
-        }
-        let added = u32::from(self.rows[h.0 as usize].local(part, prop).is_none());
-        if self.limits.entries - self.entries < added {
+        self.check_row(h, change)?;
+        let mut row = self.rows[h.0 as usize];
+        let others = self.entries - row.entry_count();
+        row.change(change);
+        let entries = others + row.entry_count();
+        if entries > self.limits.entries {
             return Err(Refusal::Full(Pool::Entries));
         }
-        self.rows[h.0 as usize].set_local(part, prop, value);
-        self.entries += added;
+        self.rows[h.0 as usize] = row;
+        self.entries = entries;
         Ok(())
     }
 }

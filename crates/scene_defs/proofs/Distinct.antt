@@ -26,17 +26,12 @@ count-off (Tree row cs rest) k off = grind (arith, nat_tests, count-off cs k, co
 pub distinct_once : (f : Forest Row) → StandsOnce (handles_of f) → IsDistinct f
 distinct_once Empty once = tt
 distinct_once (Tree row cs rest) once = (
-  λ k i. false_from_ne_true _ (λ j. absurd (let o : cond (eqb row.handle k) 1 0 + (count (handles_of cs) k + count (handles_of rest) k) ≤ 1 = once k in let a = count-there cs k i in let b = count-there rest k j in omega arith)),
-  false_from_ne_true _ (λ i. top cs i (λ o. omega arith)),
-  false_from_ne_true _ (λ i. top rest i (λ o. omega arith)),
+  λ k i. grind (arith, nat_tests, once k, count-there cs k, count-there rest k),
+  grind (arith, nat_tests, once row.handle, count-there cs row.handle),
+  grind (arith, nat_tests, once row.handle, count-there rest row.handle),
   distinct_once cs (λ k. let o : cond (eqb row.handle k) 1 0 + (count (handles_of cs) k + count (handles_of rest) k) ≤ 1 = once k in omega arith),
   distinct_once rest (λ k. let o : cond (eqb row.handle k) 1 0 + (count (handles_of cs) k + count (handles_of rest) k) ≤ 1 = once k in omega arith),
 )
-  where
-    top : (f : Forest Row) → there f row.handle ≡ true → (1 + (count (handles_of cs) row.handle + count (handles_of rest) row.handle) ≤ 1 → count (handles_of f) row.handle ≤ 0) → ⊥
-    top f i below =
-        let o : 1 + (count (handles_of cs) row.handle + count (handles_of rest) row.handle) ≤ 1 = rw (eq-eqb row.handle row.handle refl) at (once row.handle) in
-        let a = count-there f row.handle i in let b = below o in absurd (omega arith)
 
 pub other_than : (row : Row) (f : Forest Row) (k : ℕ) → there f row.handle ≡ false → there f k ≡ true → is_at k row ≡ false
 other_than row f k out i = grind (arith, nat_tests)
@@ -52,26 +47,8 @@ there_from_root (Tree row cs rest) a k i = grind (arith, nat_tests, there_from_r
 -- two roots have no handle in common
 pub apart : (f : Forest Row) (a b k : ℕ) → IsDistinct f → a ≢ b → there (root_tree f a) k ≡ true → there (root_tree f b) k ≡ false
 apart Empty a b k d ne i = refl
-apart (Tree row cs rest) a b k d ne i = elim (cases_Bool (eqb row.handle a)) [
-  | inl is ↦
-      let other : eqb row.handle b ≡ false = grind (arith, nat_tests) in
-      let here : (eqb row.handle k || (there cs k || false)) ≡ true = rw is at i in
-      rw other (false_from_ne_true _ (λ j. only k here (there_from_root rest b k j)))
-  | inr isnt ↦
-      let later : there (root_tree rest a) k ≡ true = rw isnt at i in
-      elim (cases_Bool (eqb row.handle b)) [
-        | inl is ↦ rw is (false_from_ne_true _ (λ j. only k j (there_from_root rest a k later)))
-        | inr else ↦ rw else (apart rest a b k d.4 ne later)
-      ]
-]
-  where
-    only : (k : ℕ) → (eqb row.handle k || (there cs k || false)) ≡ true → there rest k ≡ true → ⊥
-    only k here later =
-        let cases : (eqb row.handle k ≡ true) ⊎ ((there cs k || false) ≡ true) = or_cases _ _ here in
-        elim cases [
-          | inl is ↦ both_ways _ d.2 (ap (there rest) (eqb-true _ _ is) ∙ later)
-          | inr below ↦ let inner : (there cs k ≡ true) ⊎ (false ≡ true) = or_cases _ _ below in elim inner [ inl i ↦ both_ways _ (d.0 k i) later | inr i ↦ both_ways _ refl i ]
-        ]
+apart (Tree row cs rest) a b k d ne i =
+    grind (arith, nat_tests, d.0 k, d.2, there_from_root rest a k, there_from_root rest b k, apart rest a b k d.4 ne)
 
 distinct-root : (f : Forest Row) (a : ℕ) → IsDistinct f → IsDistinct (root_tree f a)
 distinct-root Empty a d = d

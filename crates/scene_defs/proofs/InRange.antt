@@ -1,58 +1,48 @@
--- A change whose numbers pass the tests of their intervals.
-use Rattle.std.proofs.Common.{◌≡◌, ℕ, Bool, true, false, ◌&&◌, Option, Some, None, refl, arith}
-use Rattle.std.specs.Prelude.{if◌then◌else◌, ℤ}
-use Rattle.std.proofs.lemmas.Int.{ints}
-use Rattle.std.proofs.lemmas.Bool.Decides.{nat_tests}
-use Rattle.gui_base.specs.declared.refusal.Refusal.{Refusal}
-use Rattle.gui_base.specs.declared.refusal.Refusal.TheVariants.{Range, Full}
-use Rattle.gui_base.specs.declared.limits.Pool.{Pool}
-use Rattle.gui_base.specs.declared.words.Length.{Length}
-use Rattle.gui_base.specs.declared.words.Length.TheVariants.{Pixels}
-use Rattle.gui_base.specs.declared.words.Prop.{Prop}
+-- The numbers of rows.
+use Rattle.std.proofs.Common.{◌≡◌, true}
+use Rattle.std.proofs.lemmas.Bool.{and_parts}
+use Rattle.gui_base.specs.declared.intervals.TheConstants.{HANDLE, COORDINATE}
+use Rattle.gui_base.specs.declared.words.Prop.TheVariants.{BgColor, BgOpa}
+use Rattle.gui_base.specs.Intervals.{is_counted, is_within}
 use Rattle.scene_defs.specs.declared.Change.{Change}
-use Rattle.scene_defs.specs.declared.Change.TheVariants.{Screen as NewScreen, New, Delete, Parent, Index, Front, Back, Load, Flag as SetFlag, Pos, Size, Local}
-use Rattle.scene_defs.specs.Ranges.{is_handle, is_new_handle, is_offset, is_size, is_value, is_in_range}
-use Rattle.scene_defs.specs.Valid.{IsNewHandle, IsOffset, IsSize, IsValue, IsChange, IsOrderly}
+use Rattle.scene_defs.specs.declared.Change.TheVariants as change
+use Rattle.scene_defs.specs.Change.{row_after}
+use Rattle.scene_defs.specs.Ranges.{is_size, is_value, is_in_range}
+use Rattle.scene_defs.specs.Scene.{Row}
+use Rattle.scene_defs.specs.Valid.{IsOffset, IsSize, IsRow, is_row, is_local}
 
-both_hold : (a b : Bool) → (a && b) ≡ true → (a ≡ true) × (b ≡ true)
-both_hold true b e = (refl, e)
-both_hold false b e = cc
+-- the numbers of a row in range, one by one
+pub record Numbers (row : Row) : Type 0 where
+  pub handle : is_counted HANDLE row.handle ≡ true
+  pub x : IsOffset row.x
+  pub y : IsOffset row.y
+  pub width : IsSize row.width
+  pub height : IsSize row.height
+  pub bg_color : is_local BgColor row.locals.bg_color ≡ true
+  pub bg_opa : is_local BgOpa row.locals.bg_opa ≡ true
 
-new_handle-is : (n : ℕ) → is_new_handle n ≡ true → IsNewHandle n
-new_handle-is n e = record { least = grind (arith, nat_tests, e); most = grind (arith, nat_tests, e) }
+pub numbers_of : (row : Row) → IsRow row → Numbers row
+numbers_of row r =
+    let a = and_parts _ _ r in
+    let b = and_parts _ _ a.1 in
+    let c = and_parts _ _ b.1 in
+    let d = and_parts _ _ c.1 in
+    let e = and_parts _ _ d.1 in
+    let f = and_parts _ _ e.1 in
+    record { handle = a.0; x = b.0; y = c.0; width = d.0; height = e.0; bg_color = f.0; bg_opa = f.1 }
 
-offset-is : (n : ℤ) → is_offset n ≡ true → IsOffset n
-offset-is n e = record { least = grind (arith, ints, nat_tests, e); most = grind (arith, ints, nat_tests, e) }
-
-size-is : (length : Length) → is_size length ≡ true → IsSize length
-size-is (Pixels n) e = grind (arith, nat_tests, e)
-
-value-is : (prop : Prop) (value : ℤ) → is_value prop value ≡ true → IsValue prop value
-value-is prop value e = record { least = grind (arith, ints, nat_tests, e); most = grind (arith, ints, nat_tests, e) }
-
-pub orderly : (change : Change) → is_in_range change ≡ true → IsChange change → IsOrderly change
-orderly (NewScreen n) e c = new_handle-is n.0 e
-orderly (New n p kind) e c = (new_handle-is n.0 (both_hold _ _ e).0, c)
-orderly (Delete h) e c = tt
-orderly (Parent h p) e c = tt
-orderly (Index h n) e c = tt
-orderly (Front h) e c = tt
-orderly (Back h) e c = tt
-orderly (Load h) e c = tt
-orderly (SetFlag h flag on) e c = tt
-orderly (Pos h x y) e c = let a = both_hold _ _ (both_hold (is_handle h.0) _ e).1 in (offset-is x a.0, offset-is y a.1)
-orderly (Size h width height) e c = let a = both_hold _ _ (both_hold (is_handle h.0) _ e).1 in (size-is width a.0, size-is height a.1)
-orderly (Local h part prop value) e c = value-is prop value (both_hold (is_handle h.0) _ e).1
-
--- The test of the range comes first.
-pub range_done : (ok : Bool) (later : Option Refusal) → (if ok then later else Some Range) ≡ None → (ok ≡ true) × (later ≡ None)
-range_done true later e = (refl, e)
-range_done false later e = cc
-
-pub range_full : (ok : Bool) (later : Option Refusal) (pool : Pool) → (if ok then later else Some Range) ≡ Some (Full pool) → later ≡ Some (Full pool)
-range_full true later pool e = e
-range_full false later pool e = cc
-
-pub range_same : (ok : Bool) (later with : Option Refusal) (refusal : Refusal) → (later ≡ Some refusal → with ≡ Some refusal) → (if ok then later else Some Range) ≡ Some refusal → (if ok then with else Some Range) ≡ Some refusal
-range_same true later with refusal same e = same e
-range_same false later with refusal same e = e
+-- a change in range leaves a row in range
+pub row_in_range : (change : Change) (row : Row) → is_in_range change ≡ true → IsRow row → IsRow (row_after change row)
+row_in_range (change.Pos h x y) row e r =
+    let n = numbers_of row r in
+    let c = and_parts (is_within COORDINATE x) (is_within COORDINATE y) (and_parts (is_counted HANDLE h.0) _ e).1 in
+    rw (c.0, c.1) (rw (n.x, n.y) at r)
+row_in_range (change.Size h width height) row e r =
+    let n = numbers_of row r in
+    let c = and_parts (is_size width) (is_size height) (and_parts (is_counted HANDLE h.0) _ e).1 in
+    rw (c.0, c.1) (rw (n.width, n.height) at r)
+row_in_range (change.Local h part BgColor value) row e r =
+    let n = numbers_of row r in rw (and_parts (is_counted HANDLE h.0) (is_value BgColor value) e).1 (rw n.bg_color at r)
+row_in_range (change.Local h part BgOpa value) row e r =
+    let n = numbers_of row r in rw (and_parts (is_counted HANDLE h.0) (is_value BgOpa value) e).1 (rw n.bg_opa at r)
+row_in_range change row e r = r

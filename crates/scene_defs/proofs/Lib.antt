@@ -1,9 +1,8 @@
 pub mod Changes
 pub mod Distinct
-pub mod First
 pub mod Handles
-pub mod InRange
 pub mod Heights
+pub mod InRange
 pub mod Pictures
 pub mod RowKinds
 pub mod Totals

@@ -1,24 +1,22 @@
--- Sums over the rows of trees.
-use Rattle.std.proofs.Common.{◌≡◌, ◌≤◌, ◌∙◌, sym, ap, ℕ, zero, suc, ◌+◌, Bool, false, ◌||◌, Some, refl, arith, inl, inr, eqb-true, cond, eqb}
-use Rattle.std.proofs.lemmas.Bool.{cases_Bool, or_parts}
-use Rattle.gui_base.specs.Forest.{Forest, Empty, Tree, and_then, put_at, cut_by, tree_by, has_by, with_children_by, with_row_by, size, count}
+-- Sums over the rows of trees, as the trees change.
+use Rattle.std.proofs.Common.{◌≡◌, ◌≤◌, ℕ, zero, suc, ◌+◌, Bool, true, false, cond, eqb, Some, refl, arith}
+use Rattle.std.proofs.lemmas.Bool.Decides.{nat_tests}
+use Rattle.gui_base.specs.Forest.{Forest, Empty, Tree, and_then, put_at, cut_by, tree_by, with_children_by, with_row_by, size, count}
 use Rattle.scene_defs.specs.Scene.{Row, is_at, handles_of, row_by, entry_count, entries_of}
 use Rattle.scene_defs.proofs.Distinct.{there, IsDistinct}
 
--- Trees without p stay.
+-- Trees without h stay.
+pub cut-off : (f : Forest Row) (h : ℕ) → there f h ≡ false → cut_by (is_at h) f ≡ f
+cut-off Empty h off = refl
+cut-off (Tree row cs rest) h off = grind (arith, nat_tests, cut-off cs h, cut-off rest h)
+
 pub with_children-off : (f : Forest Row) (p : ℕ) (g : Forest Row → Forest Row) → there f p ≡ false → with_children_by (is_at p) g f ≡ f
 with_children-off Empty p g off = refl
-with_children-off (Tree row cs rest) p g off =
-    let a : (is_at p row ≡ false) × ((there cs p || there rest p) ≡ false) = or_parts _ _ off in
-    let b : (there cs p ≡ false) × (there rest p ≡ false) = or_parts _ _ a.1 in
-    rw (a.0, with_children-off cs p g b.0, with_children-off rest p g b.1) refl
+with_children-off (Tree row cs rest) p g off = grind (arith, nat_tests, with_children-off cs p g, with_children-off rest p g)
 
-pub with_row-off : (f : Forest Row) (h : ℕ) (set : Row → Row) → there f h ≡ false → with_row_by (is_at h) set f ≡ f
+with_row-off : (f : Forest Row) (h : ℕ) (set : Row → Row) → there f h ≡ false → with_row_by (is_at h) set f ≡ f
 with_row-off Empty h set off = refl
-with_row-off (Tree row cs rest) h set off =
-    let a : (is_at h row ≡ false) × ((there cs h || there rest h) ≡ false) = or_parts _ _ off in
-    let b : (there cs h ≡ false) × (there rest h ≡ false) = or_parts _ _ a.1 in
-    rw (a.0, with_row-off cs h set b.0, with_row-off rest h set b.1) refl
+with_row-off (Tree row cs rest) h set off = grind (arith, nat_tests, with_row-off cs h set, with_row-off rest h set)
 
 -- the sum of w over all rows
 abbrev pub total : (Row → ℕ) → Forest Row → ℕ
@@ -37,46 +35,29 @@ module _ (w : Row → ℕ) where
 
   pub total-cut : (test : Row → Bool) (f : Forest Row) → total w (cut_by test f) ≤ total w f
   total-cut test Empty = omega arith
-  total-cut test (Tree row cs rest) =
-      let a = total-cut test cs in let b = total-cut test rest in
-      elim (cases_Bool (test row)) [ inl is ↦ rw is (omega arith) | inr isnt ↦ rw isnt (omega arith) ]
+  total-cut test (Tree row cs rest) = grind (arith, total-cut test cs, total-cut test rest)
 
-  pub total-cut-tree : (test : Row → Bool) (f : Forest Row) → total w (cut_by test f) + total w (tree_by test f) ≤ total w f
-  total-cut-tree test Empty = omega arith
-  total-cut-tree test (Tree row cs rest) =
-      let a = total-cut test cs in let b = total-cut test rest in
-      elim (cases_Bool (test row)) [
-        | inl is ↦ rw is (omega arith)
-        | inr isnt ↦ rw isnt (elim (cases_Bool (has_by test cs)) [
-          | inl inner ↦ rw inner (let c = total-cut-tree test cs in omega arith)
-          | inr out ↦ rw out (let c = total-cut-tree test rest in omega arith)
-        ])
-      ]
+  -- what is cut out, and what is left
+  pub total-parts : (f : Forest Row) (h : ℕ) → IsDistinct f → total w (cut_by (is_at h) f) + total w (tree_by (is_at h) f) ≡ total w f
+  total-parts Empty h d = refl
+  total-parts (Tree row cs rest) h d = grind (arith, nat_tests, d.0 h, d.2, cut-off cs h, cut-off rest h, total-parts cs h d.3, total-parts rest h d.4)
 
-  pub total-with_children : (p more : ℕ) (g : Forest Row → Forest Row) (f : Forest Row) → IsDistinct f → ((cs : Forest Row) → total w (g cs) ≤ more + total w cs) → total w (with_children_by (is_at p) g f) ≤ more + total w f
-  total-with_children p more g Empty d each = omega arith
-  total-with_children p more g (Tree row cs rest) d each =
-      elim (cases_Bool (is_at p row)) [
-        | inl is ↦ rw is (let a = each cs in omega arith)
-        | inr isnt ↦ rw isnt (elim (cases_Bool (there cs p)) [
-          | inl inner ↦ rw (with_children-off rest p g (d.0 p inner)) (let a = total-with_children p more g cs d.3 each in omega arith)
-          | inr out ↦ rw (with_children-off cs p g out) (let a = total-with_children p more g rest d.4 each in omega arith)
-        ])
-      ]
+  -- more children of p
+  pub total-more : (f : Forest Row) (p more : ℕ) (g : Forest Row → Forest Row) → IsDistinct f → there f p ≡ true → ((cs : Forest Row) → total w (g cs) ≡ more + total w cs) → total w (with_children_by (is_at p) g f) ≡ more + total w f
+  total-more Empty p more g d i each = cc
+  total-more (Tree row cs rest) p more g d i each =
+      grind (arith, nat_tests, d.0 p, each cs, with_children-off cs p g, with_children-off rest p g, total-more cs p more g d.3, total-more rest p more g d.4)
 
-  pub total-with_row : (h more : ℕ) (set : Row → Row) (f : Forest Row) → IsDistinct f → ((row : Row) → row_by (is_at h) f ≡ Some row → w (set row) ≤ more + w row) → total w (with_row_by (is_at h) set f) ≤ more + total w f
-  total-with_row h more set Empty d each = omega arith
-  total-with_row h more set (Tree row cs rest) d each =
-      elim (cases_Bool (is_at h row)) [
-        | inl is ↦
-            let same : row.handle ≡ h = eqb-true _ _ is in
-            let a : w (set row) ≤ more + w row = each row (rw is refl) in
-            rw (is, with_row-off cs h set (ap (there cs) (sym same) ∙ d.1), with_row-off rest h set (ap (there rest) (sym same) ∙ d.2)) (omega arith)
-        | inr isnt ↦ rw isnt (elim (cases_Bool (there cs h)) [
-          | inl inner ↦ rw (with_row-off rest h set (d.0 h inner)) (let a = total-with_row h more set cs d.3 (λ r e. each r (rw (isnt, inner) e)) in omega arith)
-          | inr out ↦ rw (with_row-off cs h set out) (let a = total-with_row h more set rest d.4 (λ r e. each r (rw (isnt, out) e)) in omega arith)
-        ])
-      ]
+  -- one row of all
+  pub total-row : (f : Forest Row) (h : ℕ) (r : Row) → row_by (is_at h) f ≡ Some r → w r ≤ total w f
+  total-row Empty h r e = cc
+  total-row (Tree row cs rest) h r e = grind (arith, nat_tests, e, total-row cs h r, total-row rest h r)
+
+  -- another row at h
+  pub total-set : (f : Forest Row) (h : ℕ) (set : Row → Row) (r : Row) → IsDistinct f → row_by (is_at h) f ≡ Some r → total w (with_row_by (is_at h) set f) + w r ≡ total w f + w (set r)
+  total-set Empty h set r d e = cc
+  total-set (Tree row cs rest) h set r d e =
+      grind (arith, nat_tests, d.0 h, d.1, d.2, with_row-off cs h set, with_row-off rest h set, total-set cs h set r d.3, total-set rest h set r d.4)
 
 abbrev pub one : Row → ℕ
 one row = 1

@@ -1,16 +1,17 @@
 -- One walk down the trees meets what is shown.
-use Rattle.std.proofs.Common.{◌≡◌, ◌∙◌, sym, ap, ℕ, Bool, true, false, ◌||◌, Option, Some, None, is_some, List, [], ◌∷◌, ◌++◌, map, refl, inl, inr, arith, eq-eqb}
+use Rattle.std.proofs.Common.{◌≡◌, ◌∙◌, sym, ap, ℕ, if◌then◌else◌, Bool, true, false, ◌||◌, Option, Some, None, is_some, List, [], ◌∷◌, ◌++◌, map, refl, inl, inr, arith, eq-eqb}
 use Rattle.std.specs.List.{filter, All}
 use Rattle.std.specs.Option.{IfSome}
 use Rattle.std.proofs.lemmas.List.{map-append}
 use Rattle.std.proofs.lemmas.List.Elements.{filter-append, All-append, All-nil, All-cons}
 use Rattle.std.proofs.lemmas.Bool.{cases_Bool, or_parts, or_left, or_right, both_ways, false_from_ne_true, and_parts, false≢true}
 use Rattle.std.proofs.lemmas.Bool.Decides.{nat_tests}
+use Rattle.gui_base.specs.declared.words.Flag.TheVariants.{Hidden}
 use Rattle.gui_base.specs.Area.{Rect, is_empty, common, Covers}
 use Rattle.gui_base.specs.Forest.{Forest, Empty, Tree, and_then, preorder}
 use Rattle.gui_base.proofs.Areas.{has-common}
-use Rattle.scene_defs.specs.Scene.{Row, Scene, is_at, handles_of, row_by}
-use Rattle.scene_defs.specs.Picture.{Item, Seen, panel_of, placed, place_in, place, some_area, met, visible_in, visible, root_tree, shown_trees, items_of, items_at, items, order, seen}
+use Rattle.scene_defs.specs.Scene.{Row, Scene, is_at, is_on, handles_of, row_by}
+use Rattle.scene_defs.specs.Picture.{Item, Seen, panel_of, placed, place_in, place, some_area, met, seen_of, visible_in, visible, root_tree, shown_trees, items_of, items_at, items, order, seen}
 use Rattle.scene_defs.specs.Walk.{clipped, seen_row, walked, ShownByWalk, NothingBelowNothing, IsSeenInside, WalkedInside, ShownInside}
 use Rattle.scene_defs.proofs.Distinct.{there, IsDistinct, distinct_once, other_than, there-and_then, there_from_root, three, distinct-three}
 
@@ -25,86 +26,41 @@ walked-none panel parent (Tree row cs rest) =
 
 -- What is found of k in a list of trees.
 module _ (panel parent : Rect) where
-  -- where it stands, and its row, are the same among both
+  -- its area and its row are the same among both
   abbrev Same : Forest Row → Forest Row → ℕ → Type 0
   Same f g k = (place_in panel parent f k ≡ place_in panel parent g k) × (row_by (is_at k) f ≡ row_by (is_at k) g)
 
-  first_of_two : (f g : Forest Row) (k : ℕ) → there f k ≡ true → Same (and_then f g) f k
-  first_of_two Empty g k i = absurd (false≢true i)
-  first_of_two (Tree row cs rest) g k i = elim (cases_Bool (is_at k row)) [
-    | inl is ↦ (rw is refl, rw is refl)
-    | inr isnt ↦ elim (cases_Bool (there cs k)) [
-      | inl inner ↦ (rw (isnt, inner) refl, rw (isnt, inner) refl)
-      | inr out ↦
-          let later : there rest k ≡ true = rw (isnt, out) at i in
-          let s = first_of_two rest g k later in
-          (rw (isnt, out) s.0, rw (isnt, out) s.1)
-    ]
-  ]
-
-  second_of_two : (f g : Forest Row) (k : ℕ) → there f k ≡ false → Same (and_then f g) g k
-  second_of_two Empty g k i = (refl, refl)
-  second_of_two (Tree row cs rest) g k i =
-      let a : (is_at k row ≡ false) × ((there cs k || there rest k) ≡ false) = or_parts _ _ i in
-      let b : (there cs k ≡ false) × (there rest k ≡ false) = or_parts _ _ a.1 in
-      let s = second_of_two rest g k b.1 in
-      (rw (a.0, b.0) s.0, rw (a.0, b.0) s.1)
+  of_two : (f g : Forest Row) (k : ℕ) → Same (and_then f g) (if there f k then f else g) k
+  of_two Empty g k = (refl, refl)
+  of_two (Tree row cs rest) g k = (grind (arith, nat_tests, (of_two rest g k).0), grind (arith, nat_tests, (of_two rest g k).1))
 
   of_root : (f : Forest Row) (a k : ℕ) → IsDistinct f → there (root_tree f a) k ≡ true → Same f (root_tree f a) k
   of_root Empty a k d i = (refl, refl)
-  of_root (Tree row cs rest) a k d i = elim (cases_Bool (is_at a row)) [
-    | inl is ↦
-        let here : (is_at k row || (there cs k || false)) ≡ true = rw is at i in
-        rw is (elim (cases_Bool (is_at k row)) [
-          | inl top ↦ (rw top refl, rw top refl)
-          | inr below ↦ let inner : there cs k ≡ true = grind (arith, nat_tests) in (rw (below, inner) refl, rw (below, inner) refl)
-        ])
-    | inr isnt ↦
-        let later : there (root_tree rest a) k ≡ true = rw isnt at i in
-        let j = there_from_root rest a k later in
-        let off : is_at k row ≡ false = other_than row rest k d.2 j in
-        let out : there cs k ≡ false = false_from_ne_true _ (λ e. both_ways _ (d.0 k e) j) in
-        let s = of_root rest a k d.4 later in
-        rw isnt (rw (off, out) s.0, rw (off, out) s.1)
-  ]
+  of_root (Tree row cs rest) a k d i =
+      let later = of_root rest a k d.4 in
+      let inner = there_from_root rest a k in
+      (grind (arith, nat_tests, d.0 k, d.2, later, inner), grind (arith, nat_tests, d.0 k, d.2, later, inner))
 
   of_three : (f : Forest Row) (a k : ℕ) → IsDistinct f → there (three f a) k ≡ true → Same f (three f a) k
-  of_three f a k d i = elim (cases_Bool (there (root_tree f a) k)) [
-    | inl first ↦
-        let s = of_root f a k d first in
-        let t = first_of_two (root_tree f a) (and_then (root_tree f 1) (root_tree f 2)) k first in
-        (s.0 ∙ sym t.0, s.1 ∙ sym t.1)
-    | inr out ↦
-        let j : (there (root_tree f a) k || there (and_then (root_tree f 1) (root_tree f 2)) k) ≡ true = sym (there-and_then (root_tree f a) (and_then (root_tree f 1) (root_tree f 2)) k) ∙ i in
-        let l : there (and_then (root_tree f 1) (root_tree f 2)) k ≡ true = rw out at j in
-        let t = second_of_two (root_tree f a) (and_then (root_tree f 1) (root_tree f 2)) k out in
-        let s = of_layers l in
-        (s.0 ∙ sym t.0, s.1 ∙ sym t.1)
-  ]
-    where
-      of_layers : there (and_then (root_tree f 1) (root_tree f 2)) k ≡ true → Same f (and_then (root_tree f 1) (root_tree f 2)) k
-      of_layers l = elim (cases_Bool (there (root_tree f 1) k)) [
-        | inl first ↦
-            let s = of_root f 1 k d first in
-            let t = first_of_two (root_tree f 1) (root_tree f 2) k first in
-            (s.0 ∙ sym t.0, s.1 ∙ sym t.1)
-        | inr out ↦
-            let j : (there (root_tree f 1) k || there (root_tree f 2) k) ≡ true = sym (there-and_then (root_tree f 1) (root_tree f 2) k) ∙ l in
-            let last : there (root_tree f 2) k ≡ true = rw out at j in
-            let t = second_of_two (root_tree f 1) (root_tree f 2) k out in
-            let s = of_root f 2 k d last in
-            (s.0 ∙ sym t.0, s.1 ∙ sym t.1)
-      ]
+  of_three f a k d i =
+      let first = of_two (root_tree f a) (and_then (root_tree f 1) (root_tree f 2)) k in
+      let second = of_two (root_tree f 1) (root_tree f 2) k in
+      let one = of_root f a k d in
+      let two = of_root f 1 k d in
+      let three = of_root f 2 k d in
+      let at = there-and_then (root_tree f a) (and_then (root_tree f 1) (root_tree f 2)) k in
+      let below = there-and_then (root_tree f 1) (root_tree f 2) k in
+      (grind (arith, nat_tests, first, second, one, two, three, at, below), grind (arith, nat_tests, first, second, one, two, three, at, below))
 
 -- an object as it is found by its handle
-abbrev found : (ℕ → Option Rect) → (ℕ → Rect) → (ℕ → Option Row) → ℕ → Seen
+abbrev found : (ℕ → Option Rect) → (ℕ → Option Rect) → (ℕ → Option Row) → ℕ → Seen
 found area at row h = record { handle = h; visible = area h; items = items_at (at h) (row h) }
 
 abbrev is_seen : Seen → Bool
 is_seen s = is_some s.visible
 
 -- what is found by the handles of a forest agrees with it
-record Agrees (panel parent : Rect) (clip : Option Rect) (area : ℕ → Option Rect) (at : ℕ → Rect) (row : ℕ → Option Row) (f : Forest Row) : Type 0 where
+record Agrees (panel parent : Rect) (clip : Option Rect) (area at : ℕ → Option Rect) (row : ℕ → Option Row) (f : Forest Row) : Type 0 where
   areas : (k : ℕ) → there f k ≡ true → area k ≡ visible_in at clip f k
   places : (k : ℕ) → there f k ≡ true → at k ≡ place_in panel parent f k
   rows : (k : ℕ) → there f k ≡ true → row k ≡ row_by (is_at k) f
@@ -113,19 +69,19 @@ seen_alone : (area : Option Rect) (place : Rect) (row : Row) (more : List Seen) 
 seen_alone None place row more = refl
 seen_alone (Some v) place row more = refl
 
-found_by_walk : (panel parent : Rect) (clip : Option Rect) (area : ℕ → Option Rect) (at : ℕ → Rect) (row : ℕ → Option Row) (f : Forest Row) → IsDistinct f → Agrees panel parent clip area at row f →
+found_by_walk : (panel parent : Rect) (clip : Option Rect) (area at : ℕ → Option Rect) (row : ℕ → Option Row) (f : Forest Row) → IsDistinct f → Agrees panel parent clip area at row f →
     filter is_seen (map (found area at row) (preorder (handles_of f))) ≡ walked panel clip parent f
 found_by_walk panel parent clip area at look Empty d agrees = refl
 found_by_walk panel parent clip area at look (Tree row cs rest) d agrees =
     let self : is_at row.handle row ≡ true = eq-eqb row.handle row.handle refl in
     let here : there (Tree row cs rest) row.handle ≡ true = or_left _ _ self in
-    let spot : at row.handle ≡ placed panel parent row = agrees.places row.handle here ∙ rw self refl in
-    let shape : area row.handle ≡ clipped clip (at row.handle) row = agrees.areas row.handle here ∙ rw self refl in
+    let spot : at row.handle ≡ Some (placed panel parent row) = agrees.places row.handle here ∙ rw self refl in
+    let shape : area row.handle ≡ seen_of at clip row = agrees.areas row.handle here ∙ rw self refl in
     let line : look row.handle ≡ Some row = agrees.rows row.handle here ∙ rw self refl in
     let v = clipped clip (placed panel parent row) row in
     let inner : filter is_seen (map (found area at look) (preorder (handles_of cs))) ≡ walked panel v (placed panel parent row) cs =
     found_by_walk panel (placed panel parent row) v area at look cs d.3 (record {
-      areas = λ k i. agrees.areas k (in_cs k i) ∙ rw (off_cs k i, i) (ap (λ p. visible_in at (clipped clip p row) cs k) spot);
+      areas = λ k i. agrees.areas k (in_cs k i) ∙ rw (off_cs k i, i) (rw spot refl);
       places = λ k i. agrees.places k (in_cs k i) ∙ rw (off_cs k i, i) refl;
       rows = λ k i. agrees.rows k (in_cs k i) ∙ rw (off_cs k i, i) refl;
     }) in
@@ -177,12 +133,14 @@ some_inside area clip place covers = elim (cases_Bool (is_empty (common clip pla
   | inr some ↦ rw some (some, λ x y i. covers x y (and_parts _ _ (sym (has-common clip place x y) ∙ i)).0)
 ]
 
-met_inside : (area : Rect) (clip : Option Rect) (place : Rect) → IfSome clip (Covers area) → IfSome (met clip place) (LiesIn area)
+met_inside : (area : Rect) (clip place : Option Rect) → IfSome clip (Covers area) → IfSome (met clip place) (LiesIn area)
 met_inside area None place covers = tt
-met_inside area (Some clip) place covers = some_inside area clip place covers
+met_inside area (Some clip) None covers = tt
+met_inside area (Some clip) (Some place) covers = some_inside area clip place covers
 
-clipped_inside : (area : Rect) (clip : Option Rect) (place : Rect) (row : Row) → IfSome clip (Covers area) → IfSome (clipped clip place row) (LiesIn area)
-clipped_inside area clip place row covers = elim (cases_Bool row.flags.hidden) [ inl is ↦ rw is tt | inr isnt ↦ rw isnt (met_inside area clip place covers) ]
+unhidden : (hidden : Bool) (area : Rect) (v : Option Rect) → IfSome v (LiesIn area) → IfSome (if hidden then None else v) (LiesIn area)
+unhidden true area v inside = tt
+unhidden false area v inside = inside
 
 covered : (area : Rect) (v : Option Rect) → IfSome v (LiesIn area) → IfSome v (Covers area)
 covered area None inside = tt
@@ -197,7 +155,7 @@ walk_inside panel area clip parent Empty covers = All-nil (IsSeenInside area)
 walk_inside panel area clip parent (Tree row cs rest) covers =
     let p = placed panel parent row in
     let v = clipped clip p row in
-    let inside : IfSome v (LiesIn area) = clipped_inside area clip p row covers in
+    let inside : IfSome v (LiesIn area) = unhidden (is_on row.flags Hidden) area _ (met_inside area clip (Some p) covers) in
     All-append (IsSeenInside area) (seen_row v p row) (walked panel v p cs ++ walked panel clip parent rest)
     (row_inside area v p row inside)
     (All-append (IsSeenInside area) (walked panel v p cs) (walked panel clip parent rest)
@@ -207,14 +165,14 @@ walk_inside panel area clip parent (Tree row cs rest) covers =
 pub walked_inside : WalkedInside
 walked_inside panel clip parent trees = walk_inside panel clip (Some clip) parent trees (λ x y i. i)
 
-visible_inside : (area : Rect) (at : ℕ → Rect) (clip : Option Rect) (f : Forest Row) (k : ℕ) → IfSome clip (Covers area) → IfSome (visible_in at clip f k) (LiesIn area)
+visible_inside : (area : Rect) (at : ℕ → Option Rect) (clip : Option Rect) (f : Forest Row) (k : ℕ) → IfSome clip (Covers area) → IfSome (visible_in at clip f k) (LiesIn area)
 visible_inside area at clip Empty k covers = tt
 visible_inside area at clip (Tree row cs rest) k covers =
-    let inside : IfSome (clipped clip (at row.handle) row) (LiesIn area) = clipped_inside area clip (at row.handle) row covers in
+    let inside : IfSome (seen_of at clip row) (LiesIn area) = unhidden (is_on row.flags Hidden) area _ (met_inside area clip (at row.handle) covers) in
     elim (cases_Bool (is_at k row)) [
       | inl is ↦ rw is inside
       | inr isnt ↦ elim (cases_Bool (there cs k)) [
-        | inl inner ↦ rw (isnt, inner) (visible_inside area at (clipped clip (at row.handle) row) cs k (covered area _ inside))
+        | inl inner ↦ rw (isnt, inner) (visible_inside area at (seen_of at clip row) cs k (covered area _ inside))
         | inr out ↦ rw (isnt, out) (visible_inside area at clip rest k covers)
       ]
     ]

@@ -1,30 +1,22 @@
 -- A change of a scene: whether it is done or why it is refused, and the scene after it.
-use Rattle.std.specs.Prelude.{ℕ, ◌+◌, Bool, true, false, not, ◌&&◌, ◌||◌, ◌==◌, nat_lt, nat_le, if◌then◌else◌, Some, None, is_some, ℤ}
+use Rattle.std.specs.Prelude.{ℕ, Bool, true, false, not, ◌==◌, nat_lt, if◌then◌else◌, Some, None, is_some, option_map, List, [], ◌∷◌, ◌++◌, ℤ}
 use Rattle.std.specs.declared.option.Option.{Option}
+use Rattle.gui_base.specs.declared.Handle.{Handle}
 use Rattle.gui_base.specs.declared.limits.Pool.{Pool}
-use Rattle.gui_base.specs.declared.limits.Pool.TheVariants.{Objects, Entries}
+use Rattle.gui_base.specs.declared.limits.Pool.TheVariants.{Objects, Styles, Entries, Uses, Texts, Fonts, Glyphs, Ink, Images, Pixels as PixelBytes, Handlers, Groups, Anims}
 use Rattle.gui_base.specs.declared.refusal.Refusal.{Refusal}
-use Rattle.gui_base.specs.declared.refusal.Refusal.TheVariants.{Range, Unknown, Taken, Kind as WrongKind, Place, Full}
-use Rattle.gui_base.specs.declared.words.Flag.{Flag}
-use Rattle.gui_base.specs.declared.words.Flag.TheVariants.{Hidden, Clickable, Checkable, Bubble}
+use Rattle.gui_base.specs.declared.refusal.Refusal.TheVariants.{Range, Full}
 use Rattle.gui_base.specs.declared.words.Kind.{Kind}
 use Rattle.gui_base.specs.declared.words.Kind.TheVariants.{Screen, Layer, Obj}
-use Rattle.gui_base.specs.declared.words.Length.{Length}
 use Rattle.gui_base.specs.declared.words.Prop.{Prop}
 use Rattle.gui_base.specs.declared.words.Prop.TheVariants.{BgColor, BgOpa}
-use Rattle.gui_base.specs.Forest.{Forest, and_then, put_at, leaf, height, has_by, cut_by, tree_by, depth_by, parent_by, with_children_by, with_row_by}
+use Rattle.gui_base.specs.Bits.{flag_bit, with_bit}
+use Rattle.gui_base.specs.Forest.{Forest, and_then, leaf, added_by, cut_by, moved_by, moved_last_by, size, tree_by, parent_by, with_row_by}
+use Rattle.gui_base.specs.Refusing.{Test, first_of, absent, root_tests, child_tests, removal_tests, move_tests, parent_tests, Kind as WrongKind, Place}
 use Rattle.scene_defs.specs.declared.Change.{Change}
-use Rattle.scene_defs.specs.declared.Change.TheVariants.{Screen as NewScreen, New, Delete, Parent, Index, Front, Back, Load, Flag as SetFlag, Pos, Size, Local}
+use Rattle.scene_defs.specs.declared.Change.TheVariants as change
 use Rattle.scene_defs.specs.Ranges.{is_in_range}
-use Rattle.scene_defs.specs.Scene.{Flags, Locals, Row, Scene, is_at, is_there, row_at, local_of, spare, new_row}
-
--- how deep an object may lie, a root having depth 1
-abbrev pub max_depth : ℕ
-max_depth = 16
-
--- how deep h lies
-abbrev pub depth_at : Scene → ℕ → ℕ
-depth_at scene h = depth_by (is_at h) scene.trees
+use Rattle.scene_defs.specs.Scene.{Locals, Row, Scene, is_at, handles_of, row_at, local_of, entries_of, spare, new_row}
 
 -- the tree at h alone
 abbrev pub tree_below : Scene → ℕ → Forest Row
@@ -33,10 +25,6 @@ tree_below scene h = tree_by (is_at h) scene.trees
 -- the row above h, which a root has not
 abbrev pub parent_row : Scene → ℕ → Option Row
 parent_row scene h = parent_by (is_at h) None scene.trees
-
--- whether no object stands above h
-abbrev pub stands_alone : Scene → ℕ → Bool
-stands_alone scene h = not (is_some (parent_row scene h))
 
 -- whether a pool has fewer free slots than are needed
 abbrev pub lacks : Scene → Pool → ℕ → Bool
@@ -65,69 +53,50 @@ is_screen scene h = has_screen (row_at scene h)
 
 -- how many slots of a pool a change takes
 abbrev pub need_of : Scene → Change → Pool → ℕ
-need_of scene (NewScreen n) Objects = 1
-need_of scene (New n p kind) Objects = 1
-need_of scene (Local h part prop value) Entries = if is_set scene h.0 prop then 0 else 1
+need_of scene (change.Screen n) Objects = 1
+need_of scene (change.New n p kind) Objects = 1
+need_of scene (change.Local h part prop value) Entries = if is_set scene h.0 prop then 0 else 1
 need_of scene change pool = 0
 
--- Why a change is refused whose numbers lie in their intervals: the first reason, or none where it is done.
-abbrev pub screen_answer : Scene → ℕ → Option Refusal
-screen_answer scene n = if is_there scene n then Some Taken else if lacks scene Objects 1 then Some (Full Objects) else None
+-- how many slots of a pool it frees
+abbrev pub freed_by : Scene → Change → Pool → ℕ
+freed_by scene (change.Delete h) Objects = size (tree_below scene h.0)
+freed_by scene (change.Delete h) Entries = entries_of (tree_below scene h.0)
+freed_by scene change pool = 0
 
-abbrev pub new_answer : Scene → ℕ → ℕ → Option Refusal
-new_answer scene n p =
-    if not (is_there scene p) then Some Unknown
-    else if is_there scene n then Some Taken
-    else if depth_at scene p == max_depth then Some Place
-    else if lacks scene Objects 1 then Some (Full Objects)
-    else None
+-- the pools, in the order in which they are looked at
+abbrev pub pools : List Pool
+pools =
+    Objects ∷ Styles ∷ Entries ∷ Uses ∷ Texts ∷ Fonts ∷ Glyphs ∷ Ink ∷ Images ∷ PixelBytes ∷ Handlers ∷ Groups
+    ∷ Anims ∷ []
 
--- the layers, the first screen and the screen that is shown stay
-abbrev pub delete_answer : Scene → ℕ → Option Refusal
-delete_answer scene h =
-    if not (is_there scene h) then Some Unknown else if nat_le h 3 || h == scene.active then Some Place else None
+-- the first of these pools that has fewer free slots than a change takes
+abbrev pub first_short : Scene → Change → List Pool → Option Pool
+first_short scene change [] = None
+first_short scene change (pool ∷ others) =
+    if lacks scene pool (need_of scene change pool) then Some pool else first_short scene change others
 
--- a root stays where it is, nothing goes below itself, and none goes deeper than objects may lie
-abbrev pub parent_answer : Scene → ℕ → ℕ → Option Refusal
-parent_answer scene h p =
-    if not (is_there scene h && is_there scene p) then Some Unknown
-    else if stands_alone scene h then Some Place
-    else if has_by (is_at p) (tree_below scene h) then Some Place
-    else if nat_lt max_depth (depth_at scene p + height (tree_below scene h)) then Some Place
-    else None
+-- The tests of a change, in order: what is asked whatever room there is.
+abbrev pub tests : Scene → Change → List Test
+tests scene (change.Screen n) = root_tests (handles_of scene.trees) n.0
+tests scene (change.New n p kind) = child_tests (handles_of scene.trees) n.0 p.0
+tests scene (change.Delete h) = removal_tests (handles_of scene.trees) h.0 ++ (h.0 == scene.active, Place) ∷ []
+tests scene (change.Parent h p) = parent_tests (handles_of scene.trees) h.0 p.0
+tests scene (change.Index h n) = move_tests (handles_of scene.trees) h.0
+tests scene (change.Front h) = move_tests (handles_of scene.trees) h.0
+tests scene (change.Back h) = move_tests (handles_of scene.trees) h.0
+tests scene (change.Load h) = absent (handles_of scene.trees) h.0 ∷ (not (is_screen scene h.0), WrongKind) ∷ []
+tests scene (change.Flag h flag on) = absent (handles_of scene.trees) h.0 ∷ []
+tests scene (change.Pos h x y) = move_tests (handles_of scene.trees) h.0
+tests scene (change.Size h width height) = move_tests (handles_of scene.trees) h.0
+tests scene (change.Local h part prop value) = absent (handles_of scene.trees) h.0 ∷ []
 
--- whatever only an object with a parent may do
-abbrev pub below_root_answer : Scene → ℕ → Option Refusal
-below_root_answer scene h = if not (is_there scene h) then Some Unknown else if stands_alone scene h then Some Place else None
-
-abbrev pub load_answer : Scene → ℕ → Option Refusal
-load_answer scene h = if not (is_there scene h) then Some Unknown else if is_screen scene h then None else Some WrongKind
-
-abbrev pub flag_answer : Scene → ℕ → Option Refusal
-flag_answer scene h = if is_there scene h then None else Some Unknown
-
-abbrev pub local_answer : Scene → ℕ → Prop → Option Refusal
-local_answer scene h prop =
-    if not (is_there scene h) then Some Unknown
-    else if lacks scene Entries (if is_set scene h prop then 0 else 1) then Some (Full Entries)
-    else None
-
--- the same of any change whose numbers lie in their intervals
+-- the first refusal of a change whose numbers lie in their intervals: the first test that holds, or the first pool
+-- without room; none where it is done
 abbrev pub answer_in_range : Scene → Change → Option Refusal
-answer_in_range scene (NewScreen n) = screen_answer scene n.0
-answer_in_range scene (New n p kind) = new_answer scene n.0 p.0
-answer_in_range scene (Delete h) = delete_answer scene h.0
-answer_in_range scene (Parent h p) = parent_answer scene h.0 p.0
-answer_in_range scene (Index h n) = below_root_answer scene h.0
-answer_in_range scene (Front h) = below_root_answer scene h.0
-answer_in_range scene (Back h) = below_root_answer scene h.0
-answer_in_range scene (Load h) = load_answer scene h.0
-answer_in_range scene (SetFlag h flag on) = flag_answer scene h.0
-answer_in_range scene (Pos h x y) = below_root_answer scene h.0
-answer_in_range scene (Size h width height) = below_root_answer scene h.0
-answer_in_range scene (Local h part prop value) = local_answer scene h.0 prop
+answer_in_range scene change = first_of (tests scene change) (option_map Full (first_short scene change pools))
 
--- why a change is refused: the first reason, or none where it is done
+-- the first refusal of a change, or none where it is done
 abbrev pub answer_of : Scene → Change → Option Refusal
 answer_of scene change = if is_in_range change then answer_in_range scene change else Some Range
 
@@ -139,7 +108,7 @@ with_screen trees n = and_then trees (leaf (new_row n Screen))
 
 -- one child of p more, the last
 abbrev pub with_object : Forest Row → ℕ → ℕ → Kind → Forest Row
-with_object trees n p kind = with_children_by (is_at p) (λ cs. and_then cs (leaf (new_row n kind))) trees
+with_object trees n p kind = added_by (is_at p) (new_row n kind) trees
 
 -- without h and all below it
 abbrev pub without : Forest Row → ℕ → Forest Row
@@ -147,11 +116,11 @@ without trees h = cut_by (is_at h) trees
 
 -- the tree at h becomes the last child of p
 abbrev pub moved_last : Forest Row → ℕ → ℕ → Forest Row
-moved_last trees h p = with_children_by (is_at p) (λ cs. and_then cs (tree_by (is_at h) trees)) (cut_by (is_at h) trees)
+moved_last trees h p = moved_last_by (is_at h) (is_at p) trees
 
 -- the tree at h becomes the child of p before which so many others stand, or the last
 abbrev pub moved_to : Forest Row → ℕ → ℕ → ℕ → Forest Row
-moved_to trees h p n = with_children_by (is_at p) (put_at n (tree_by (is_at h) trees)) (cut_by (is_at h) trees)
+moved_to trees h p n = moved_by (is_at h) (is_at p) n trees
 
 -- the same for the row of p, if there is one
 abbrev pub last_below : Option Row → Forest Row → ℕ → Forest Row
@@ -162,47 +131,46 @@ abbrev pub at_index_below : Option Row → Forest Row → ℕ → ℕ → Forest
 at_index_below None trees h n = trees
 at_index_below (Some p) trees h n = moved_to trees h p.handle n
 
-abbrev pub set_flag : Flag → Bool → Flags → Flags
-set_flag Hidden on flags = record flags { hidden = on }
-set_flag Clickable on flags = record flags { clickable = on }
-set_flag Checkable on flags = record flags { checkable = on }
-set_flag Bubble on flags = record flags { bubble = on }
-
 abbrev pub set_local : Prop → ℤ → Locals → Locals
 set_local BgColor value locals = record locals { bg_color = Some value }
 set_local BgOpa value locals = record locals { bg_opa = Some value }
 
--- the rows after a change of one
-abbrev pub flagged : Flag → Bool → Row → Row
-flagged flag on row = record row { flags = set_flag flag on row.flags }
+-- what a change makes of the row that it sets
+abbrev pub row_after : Change → Row → Row
+row_after (change.Flag h flag on) row = record row { flags = with_bit row.flags (flag_bit flag) on }
+row_after (change.Pos h x y) row = record row { x = x; y = y }
+row_after (change.Size h width height) row = record row { width = width; height = height }
+row_after (change.Local h part prop value) row = record row { locals = set_local prop value row.locals }
+row_after change row = row
 
-abbrev pub placed_at : ℤ → ℤ → Row → Row
-placed_at x y row = record row { x = x; y = y }
+-- the object whose row a change sets, and nothing else
+abbrev pub row_set : Change → Option Handle
+row_set (change.Flag h flag on) = Some h
+row_set (change.Pos h x y) = Some h
+row_set (change.Size h width height) = Some h
+row_set (change.Local h part prop value) = Some h
+row_set change = None
 
-abbrev pub sized : Length → Length → Row → Row
-sized width height row = record row { width = width; height = height }
-
-abbrev pub styled : Prop → ℤ → Row → Row
-styled prop value row = record row { locals = set_local prop value row.locals }
-
--- the scene with the row of h by f
+-- the scene with f of the row of h
 abbrev pub with_row : Scene → ℕ → (Row → Row) → Scene
 with_row scene h f = record scene { trees = with_row_by (is_at h) f scene.trees }
 
+abbrev pub with_row_set : Scene → Option Handle → (Row → Row) → Scene
+with_row_set scene None f = scene
+with_row_set scene (Some h) f = with_row scene h.0 f
+
 -- the scene after a change that is done
 abbrev pub scene_after : Scene → Change → Scene
-scene_after scene (NewScreen n) = record scene { trees = with_screen scene.trees n.0 }
-scene_after scene (New n p kind) = record scene { trees = with_object scene.trees n.0 p.0 kind }
-scene_after scene (Delete h) = record scene { trees = without scene.trees h.0 }
-scene_after scene (Parent h p) = record scene { trees = moved_last scene.trees h.0 p.0 }
-scene_after scene (Index h n) = record scene { trees = at_index_below (parent_row scene h.0) scene.trees h.0 n }
-scene_after scene (Front h) = record scene { trees = last_below (parent_row scene h.0) scene.trees h.0 }
-scene_after scene (Back h) = record scene { trees = at_index_below (parent_row scene h.0) scene.trees h.0 0 }
-scene_after scene (Load h) = record scene { active = h.0 }
-scene_after scene (SetFlag h flag on) = with_row scene h.0 (flagged flag on)
-scene_after scene (Pos h x y) = with_row scene h.0 (placed_at x y)
-scene_after scene (Size h width height) = with_row scene h.0 (sized width height)
-scene_after scene (Local h part prop value) = with_row scene h.0 (styled prop value)
+scene_after scene (change.Screen n) = record scene { trees = with_screen scene.trees n.0 }
+scene_after scene (change.New n p kind) = record scene { trees = with_object scene.trees n.0 p.0 kind }
+scene_after scene (change.Delete h) = record scene { trees = without scene.trees h.0 }
+scene_after scene (change.Parent h p) = record scene { trees = moved_last scene.trees h.0 p.0 }
+scene_after scene (change.Index h n) =
+    record scene { trees = at_index_below (parent_row scene h.0) scene.trees h.0 n }
+scene_after scene (change.Front h) = record scene { trees = last_below (parent_row scene h.0) scene.trees h.0 }
+scene_after scene (change.Back h) = record scene { trees = at_index_below (parent_row scene h.0) scene.trees h.0 0 }
+scene_after scene (change.Load h) = record scene { active = h.0 }
+scene_after scene change = with_row_set scene (row_set change) (row_after change)
 
 -- the scene after a change with this answer: a refusal leaves it as it is
 abbrev pub scene_by : Option Refusal → Scene → Change → Scene

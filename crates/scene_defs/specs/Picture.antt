@@ -1,11 +1,10 @@
 -- How a scene is painted: back to front, each pixel by itself.
-use Rattle.std.specs.Prelude.{ℕ, zero, suc, ◌*◌, ◌/◌, ◌%◌, Bool, true, false, if◌then◌else◌, Some, None, is_some, List, [], ◌∷◌, ◌++◌, fold, map, ℤ, pos, ◌+ℤ◌, ◌-ℤ◌}
+use Rattle.std.specs.Prelude.{ℕ, zero, suc, ◌*◌, ◌/◌, ◌%◌, Bool, false, if◌then◌else◌, Some, None, is_some, List, [], ◌∷◌, ◌++◌, fold, map, ℤ, pos, ◌+ℤ◌, ◌-ℤ◌}
 use Rattle.std.specs.declared.option.Option.{Option}
 use Rattle.std.specs.List.{filter}
 use Rattle.std.specs.Int.RustNames.{unsigned_abs}
 use Rattle.gui_base.specs.declared.color.Rgb565.{Rgb565}
-use Rattle.gui_base.specs.declared.words.Kind.{Kind}
-use Rattle.gui_base.specs.declared.words.Kind.TheVariants.{Screen, Layer, Obj}
+use Rattle.gui_base.specs.declared.words.Flag.TheVariants.{Hidden}
 use Rattle.gui_base.specs.declared.words.Length.{Length}
 use Rattle.gui_base.specs.declared.words.Length.TheVariants.{Pixels}
 use Rattle.gui_base.specs.declared.words.Prop.TheVariants.{BgColor, BgOpa}
@@ -13,7 +12,7 @@ use Rattle.gui_base.specs.Area.{Rect, has, is_empty, common}
 use Rattle.gui_base.specs.Color.{color, black, mix}
 use Rattle.gui_base.specs.Forest.{Forest, Empty, Tree, has_by, and_then, preorder}
 use Rattle.gui_base.specs.Ppm.{ppm}
-use Rattle.scene_defs.specs.Scene.{Row, Scene, is_at, handles_of, row_at, value_of}
+use Rattle.scene_defs.specs.Scene.{Row, Scene, is_at, is_on, is_root, handles_of, row_at, value_of}
 
 -- the area from a corner with these sizes in pixels
 abbrev pub area_at : ℤ → ℤ → ℕ → ℕ → Rect
@@ -25,48 +24,45 @@ panel_of scene = area_at (pos 0) (pos 0) scene.limits.width scene.limits.height
 abbrev pub pixels_of : Length → ℕ
 pixels_of (Pixels n) = n
 
-abbrev pub is_root : Kind → Bool
-is_root Screen = true
-is_root Layer = true
-is_root Obj = false
-
--- where an object stands whose parent stands there: a root fills the panel, and another object stands at its wanted place in its parent
+-- an object's area, from its parent's: a root fills the panel, and any other stands at its wanted place in its parent
 abbrev pub placed : Rect → Rect → Row → Rect
 placed panel parent row =
-    if is_root row.kind then panel else area_at (parent.x1 +ℤ row.x) (parent.y1 +ℤ row.y) (pixels_of row.width) (pixels_of row.height)
+    if is_root row.kind then panel
+    else area_at (parent.x1 +ℤ row.x) (parent.y1 +ℤ row.y) (pixels_of row.width) (pixels_of row.height)
 
--- where h stands among these trees
-abbrev pub place_in : Rect → Rect → Forest Row → ℕ → Rect
-place_in panel parent Empty h = panel
+-- the area of h, if it is among these trees, whose parent has the area `parent`
+abbrev pub place_in : Rect → Rect → Forest Row → ℕ → Option Rect
+place_in panel parent Empty h = None
 place_in panel parent (Tree row cs rest) h =
-    if is_at h row then placed panel parent row
+    if is_at h row then Some (placed panel parent row)
     else if has_by (is_at h) cs then place_in panel (placed panel parent row) cs h
     else place_in panel parent rest h
 
--- where h stands
-abbrev pub place : Scene → ℕ → Rect
+-- the area of h, if it is there
+abbrev pub place : Scene → ℕ → Option Rect
 place scene h = place_in (panel_of scene) (panel_of scene) scene.trees h
 
 -- the area, where it has a pixel
 abbrev pub some_area : Rect → Option Rect
 some_area area = if is_empty area then None else Some area
 
--- the pixels that both have
-abbrev pub met : Option Rect → Rect → Option Rect
+-- the pixels that both have, where there are both
+abbrev pub met : Option Rect → Option Rect → Option Rect
 met None area = None
-met (Some clip) area = some_area (common clip area)
+met (Some clip) None = None
+met (Some clip) (Some area) = some_area (common clip area)
 
 -- whether the area, if there is one, has the pixel
 abbrev pub holds : Option Rect → ℤ → ℤ → Bool
 holds None x y = false
 holds (Some area) x y = has area x y
 
--- what the clip leaves of an object that stands there: nothing of a hidden one
-abbrev pub seen_of : (ℕ → Rect) → Option Rect → Row → Option Rect
-seen_of place clip row = if row.flags.hidden then None else met clip (place row.handle)
+-- what is seen of an object through a clip: nothing of a hidden one
+abbrev pub seen_of : (ℕ → Option Rect) → Option Rect → Row → Option Rect
+seen_of place clip row = if is_on row.flags Hidden then None else met clip (place row.handle)
 
 -- what is seen of h among these trees; the clip is what is seen of their parent
-abbrev pub visible_in : (ℕ → Rect) → Option Rect → Forest Row → ℕ → Option Rect
+abbrev pub visible_in : (ℕ → Option Rect) → Option Rect → Forest Row → ℕ → Option Rect
 visible_in place clip Empty h = None
 visible_in place clip (Tree row cs rest) h =
     if is_at h row then seen_of place clip row
@@ -80,9 +76,11 @@ root_tree (Tree row cs rest) h = if is_at h row then Tree row cs Empty else root
 
 -- the active screen, and the layers above it
 abbrev pub shown_trees : Scene → Forest Row
-shown_trees scene = and_then (root_tree scene.trees scene.active) (and_then (root_tree scene.trees 1) (root_tree scene.trees 2))
+shown_trees scene =
+    and_then (root_tree scene.trees scene.active) (and_then (root_tree scene.trees 1) (root_tree scene.trees 2))
 
--- what is seen of h: its place met with those of all ancestors and with the panel, and nothing where it, or one above it, is hidden or not shown
+-- what is seen of h: its area met with those of all ancestors and with the panel; nothing where it, or one above it,
+-- is hidden or not shown
 abbrev pub visible : Scene → ℕ → Option Rect
 visible scene h = visible_in (place scene) (Some (panel_of scene)) (shown_trees scene) h
 
@@ -102,13 +100,16 @@ rgb_of value = let n = unsigned_abs value in color (n / 65536 / 8) (n / 256 % 25
 abbrev pub opa_of : ℤ → ℕ
 opa_of value = unsigned_abs value
 
--- what an object with this row paints that stands there: its fill
+-- what an object with this area and row paints: its fill
 abbrev pub items_of : Rect → Row → List Item
-items_of area row = record { area = area; paint = Fill (rgb_of (value_of row BgColor)) (opa_of (value_of row BgOpa)) } ∷ []
+items_of area row =
+    record { area = area; paint = Fill (rgb_of (value_of row BgColor)) (opa_of (value_of row BgOpa)) } ∷ []
 
-abbrev pub items_at : Rect → Option Row → List Item
-items_at area None = []
-items_at area (Some row) = items_of area row
+-- the same where there is such an object
+abbrev pub items_at : Option Rect → Option Row → List Item
+items_at None row = []
+items_at (Some area) None = []
+items_at (Some area) (Some row) = items_of area row
 
 abbrev pub items : Scene → ℕ → List Item
 items scene h = items_at (place scene h) (row_at scene h)
@@ -149,9 +150,11 @@ abbrev pub each_below : {A : Type 0} → ℕ → (ℕ → A) → List A
 each_below zero f = []
 each_below (suc n) f = each_below n f ++ f n ∷ []
 
--- the colours of the panel, row by row
+-- the colours of the panel, line by line
 abbrev pub picture : Scene → List Rgb565
-picture scene = each_below (scene.limits.width * scene.limits.height) (λ i. paint scene (pos (i % scene.limits.width)) (pos (i / scene.limits.width)))
+picture scene =
+    each_below (scene.limits.width * scene.limits.height)
+    (λ i. paint scene (pos (i % scene.limits.width)) (pos (i / scene.limits.width)))
 
 -- the picture as a file
 abbrev pub frame_file : Scene → List ℕ

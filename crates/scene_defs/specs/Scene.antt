@@ -1,8 +1,11 @@
 -- A scene is trees of rows, the screen that is active, and the limits.
-use Rattle.std.specs.Prelude.{ℕ, ◌+◌, ◌-◌, Bool, true, false, ◌==◌, if◌then◌else◌, Some, None, is_some, unwrap_or, pos, ℤ}
+use Rattle.std.specs.Prelude.{ℕ, ◌+◌, ◌-◌, ◌^◌, Bool, true, false, ◌==◌, if◌then◌else◌, Some, None, is_some, unwrap_or, pos, ℤ}
 use Rattle.std.specs.declared.option.Option.{Option}
-use Rattle.gui_base.specs.Forest.{Forest, Empty, Tree, map_forest, size, has_by}
+use Rattle.gui_base.specs.Bits.{has_bit, flag_bit}
+use Rattle.gui_base.specs.Forest.{Forest, Empty, Tree, map_forest, size, has, has_by}
 use Rattle.gui_base.specs.Limits.{Bounds}
+use Rattle.gui_base.specs.declared.words.Flag.{Flag}
+use Rattle.gui_base.specs.declared.words.Flag.TheVariants.{Clickable}
 use Rattle.gui_base.specs.declared.words.Kind.{Kind}
 use Rattle.gui_base.specs.declared.words.Kind.TheVariants.{Screen, Layer, Obj}
 use Rattle.gui_base.specs.declared.words.Length.{Length}
@@ -12,13 +15,6 @@ use Rattle.gui_base.specs.declared.words.Prop.TheVariants.{BgColor, BgOpa}
 use Rattle.gui_base.specs.declared.limits.Pool.{Pool}
 use Rattle.gui_base.specs.declared.limits.Pool.TheVariants.{Objects, Styles, Entries, Uses, Texts, Fonts, Glyphs, Ink, Images, Pixels as PixelBytes, Handlers, Groups, Anims}
 
--- what an object's flags are
-pub record Flags : Type 0 where
-  pub hidden : Bool
-  pub clickable : Bool
-  pub checkable : Bool
-  pub bubble : Bool
-
 -- the properties that are set locally
 pub record Locals : Type 0 where
   pub bg_color : Option ℤ
@@ -27,7 +23,8 @@ pub record Locals : Type 0 where
 pub record Row : Type 0 where
   pub handle : ℕ
   pub kind : Kind
-  pub flags : Flags
+  -- the set of the flags that are on, by their bits
+  pub flags : ℕ
   -- the wanted place
   pub x : ℤ
   pub y : ℤ
@@ -54,15 +51,22 @@ handles_of trees = map_forest handle_of trees
 
 -- whether h is there
 abbrev pub is_there : Scene → ℕ → Bool
-is_there scene h = has_by (is_at h) scene.trees
+is_there scene h = has (handles_of scene.trees) h
 
 -- the first row that passes the test
 abbrev pub row_by : (Row → Bool) → Forest Row → Option Row
 row_by test Empty = None
-row_by test (Tree row cs rest) = if test row then Some row else (if has_by test cs then row_by test cs else row_by test rest)
+row_by test (Tree row cs rest) =
+    if test row then Some row else (if has_by test cs then row_by test cs else row_by test rest)
 
 abbrev pub row_at : Scene → ℕ → Option Row
 row_at scene h = row_by (is_at h) scene.trees
+
+-- the kinds of roots
+abbrev pub is_root : Kind → Bool
+is_root Screen = true
+is_root Layer = true
+is_root Obj = false
 
 -- what a property is where nothing sets it: a screen is filled, and all else is not
 abbrev pub default_of : Kind → Prop → ℤ
@@ -81,7 +85,8 @@ value_of row prop = unwrap_or (local_of row.locals prop) (default_of row.kind pr
 
 -- how many entries a row has
 abbrev pub entry_count : Row → ℕ
-entry_count row = (if is_some row.locals.bg_color then 1 else 0) + (if is_some row.locals.bg_opa then 1 else 0)
+entry_count row =
+    (if is_some row.locals.bg_color then 1 else 0) + (if is_some row.locals.bg_opa then 1 else 0)
 
 abbrev pub entries_of : Forest Row → ℕ
 entries_of Empty = 0
@@ -103,24 +108,32 @@ spare scene Handlers = scene.limits.handlers
 spare scene Groups = scene.limits.groups
 spare scene Anims = scene.limits.anims
 
-abbrev pub no_flags : Flags
-no_flags = record { hidden = false; clickable = false; checkable = false; bubble = false }
-
-abbrev pub clickable_alone : Flags
-clickable_alone = record { hidden = false; clickable = true; checkable = false; bubble = false }
-
+-- nothing is set
 abbrev pub no_locals : Locals
 no_locals = record { bg_color = None; bg_opa = None }
 
--- the flags of a new object
-abbrev pub flags_of : Kind → Flags
-flags_of Screen = clickable_alone
-flags_of Layer = no_flags
-flags_of Obj = clickable_alone
+-- whether a flag is on
+abbrev pub is_on : ℕ → Flag → Bool
+is_on flags flag = has_bit flags (flag_bit flag)
+
+-- the flags of a new object: all but layers are clickable
+abbrev pub flags_of : Kind → ℕ
+flags_of Screen = 2 ^ flag_bit Clickable
+flags_of Layer = 0
+flags_of Obj = 2 ^ flag_bit Clickable
 
 -- a new object of a kind: 100 by 50 pixels at its parent's corner
 abbrev pub new_row : ℕ → Kind → Row
-new_row handle kind = record { handle = handle; kind = kind; flags = flags_of kind; x = pos 0; y = pos 0; width = Pixels 100; height = Pixels 50; locals = no_locals }
+new_row handle kind = record {
+  handle = handle;
+  kind = kind;
+  flags = flags_of kind;
+  x = pos 0;
+  y = pos 0;
+  width = Pixels 100;
+  height = Pixels 50;
+  locals = no_locals;
+}
 
 -- two layers and a screen, which is active
 abbrev pub first_trees : Forest Row

@@ -1,103 +1,101 @@
--- Scenes and changes that are in order.
-use Rattle.std.specs.Prelude.{◌≡◌, ◌≢◌, ◌≤◌, ℕ, Bool, true, ◌||◌, ◌==◌, if◌then◌else◌, ℤ, pos, neg_ℤ, ◌≤ℤ◌}
+-- Scenes and changes that are in order. Each fact about numbers and kinds is that a test is true.
+use Rattle.std.specs.Prelude.{◌≡◌, ◌≢◌, ◌≤◌, ℕ, Bool, true, false, not, ◌&&◌, ◌||◌, ◌==◌, if◌then◌else◌, Some, None, ℤ}
+use Rattle.std.specs.declared.option.Option.{Option}
 use Rattle.std.specs.List.{list_any}
-use Rattle.std.specs.Option.{IfSome}
-use Rattle.gui_base.specs.Limits.{Bounds}
+use Rattle.gui_base.specs.declared.intervals.TheConstants.{HANDLE, COORDINATE, MAX_DEPTH}
 use Rattle.gui_base.specs.declared.words.Kind.{Kind}
 use Rattle.gui_base.specs.declared.words.Kind.TheVariants.{Screen, Layer, Obj}
 use Rattle.gui_base.specs.declared.words.Length.{Length}
-use Rattle.gui_base.specs.declared.words.Length.TheVariants.{Pixels}
 use Rattle.gui_base.specs.declared.words.Prop.{Prop}
 use Rattle.gui_base.specs.declared.words.Prop.TheVariants.{BgColor, BgOpa}
-use Rattle.gui_base.specs.Forest.{Forest, Empty, Tree, roots, size, height, StandsOnce}
+use Rattle.gui_base.specs.Forest.{Forest, Empty, Tree, all_by, roots, size, height, StandsOnce}
+use Rattle.gui_base.specs.Intervals.{is_counted, is_within}
+use Rattle.gui_base.specs.Limits.{Bounds}
 use Rattle.scene_defs.specs.declared.Change.{Change}
-use Rattle.scene_defs.specs.declared.Change.TheVariants.{Screen as NewScreen, New, Pos, Size, Local}
-use Rattle.scene_defs.specs.Ranges.{last_handle, first_chosen, farthest, largest, greatest}
-use Rattle.scene_defs.specs.Scene.{Row, Scene, is_at, handles_of, entries_of, first_scene}
-use Rattle.scene_defs.specs.Change.{max_depth, changed}
+use Rattle.scene_defs.specs.declared.Change.TheVariants as change
+use Rattle.scene_defs.specs.Change.{changed, is_screen_kind}
+use Rattle.scene_defs.specs.Ranges.{is_size, is_value}
+use Rattle.scene_defs.specs.Scene.{Row, Scene, is_at, is_root, handles_of, entries_of, first_scene}
 use Rattle.scene_defs.specs.Walk.{IsShowable}
 
--- P of each row
-abbrev pub EachRow : (Row → Type 0) → Forest Row → Type 0
-EachRow P Empty = Unit {0}
-EachRow P (Tree row cs rest) = P row × EachRow P cs × EachRow P rest
-
 -- a wanted coordinate in pixels
-pub record IsOffset (n : ℤ) : Type 0 where
-  pub least : neg_ℤ (pos farthest) ≤ℤ n
-  pub most : n ≤ℤ pos farthest
+abbrev pub IsOffset : ℤ → Type 0
+IsOffset n = is_within COORDINATE n ≡ true
 
--- a wanted width or height in pixels
+-- a wanted width or height
 abbrev pub IsSize : Length → Type 0
-IsSize (Pixels n) = n ≤ largest
+IsSize length = is_size length ≡ true
 
-pub record IsValue (prop : Prop) (value : ℤ) : Type 0 where
-  pub least : pos 0 ≤ℤ value
-  pub most : value ≤ℤ pos (greatest prop)
+abbrev pub IsValue : Prop → ℤ → Type 0
+IsValue prop value = is_value prop value ≡ true
 
-pub record IsHandle (h : ℕ) : Type 0 where
-  pub least : 1 ≤ h
-  pub most : h ≤ last_handle
+-- whether a property is not set, or set to one of its values
+abbrev pub is_local : Prop → Option ℤ → Bool
+is_local prop None = true
+is_local prop (Some value) = is_value prop value
 
--- a handle that a caller may choose
-pub record IsNewHandle (h : ℕ) : Type 0 where
-  pub least : first_chosen ≤ h
-  pub most : h ≤ last_handle
+-- whether each number of a row lies in its interval
+abbrev pub is_row : Row → Bool
+is_row row =
+    is_counted HANDLE row.handle
+    && (is_within COORDINATE row.x && (is_within COORDINATE row.y && (is_size row.width && (is_size row.height
+    && (is_local BgColor row.locals.bg_color && is_local BgOpa row.locals.bg_opa)))))
 
--- each number of a row lies in its interval
-pub record IsRow (row : Row) : Type 0 where
-  pub handle : IsHandle row.handle
-  pub x : IsOffset row.x
-  pub y : IsOffset row.y
-  pub width : IsSize row.width
-  pub height : IsSize row.height
-  pub bg_color : IfSome row.locals.bg_color (IsValue BgColor)
-  pub bg_opa : IfSome row.locals.bg_opa (IsValue BgOpa)
+abbrev pub IsRow : Row → Type 0
+IsRow row = is_row row ≡ true
 
--- the kind that a root has
-abbrev pub root_kind : ℕ → Kind
-root_kind h = if h == 1 || h == 2 then Layer else Screen
+abbrev pub is_layer_kind : Kind → Bool
+is_layer_kind Screen = false
+is_layer_kind Layer = true
+is_layer_kind Obj = false
 
-abbrev pub IsObj : Row → Type 0
-IsObj row = row.kind ≡ Obj
+-- whether a row is that of a layer at 1 and 2, and that of a screen elsewhere
+abbrev pub is_root_row : Row → Bool
+is_root_row row = if row.handle == 1 || row.handle == 2 then is_layer_kind row.kind else is_screen_kind row.kind
 
--- roots are layers and screens, and all below them are plain objects
-abbrev pub HaveKinds : Forest Row → Type 0
-HaveKinds Empty = Unit {0}
-HaveKinds (Tree row cs rest) = (row.kind ≡ root_kind row.handle) × EachRow IsObj cs × HaveKinds rest
+abbrev pub is_object : Row → Bool
+is_object row = not (is_root row.kind)
+
+-- whether roots are layers and screens, and all below them are objects
+abbrev pub have_kinds : Forest Row → Bool
+have_kinds Empty = true
+have_kinds (Tree row cs rest) = is_root_row row && (all_by is_object cs && have_kinds rest)
 
 -- whether h is a root
 abbrev pub is_root_at : Forest Row → ℕ → Bool
 is_root_at trees h = list_any (is_at h) (roots trees)
 
--- a scene that is in order
-pub record IsValid (scene : Scene) : Type 0 where
-  pub once : StandsOnce (handles_of scene.trees)
-  pub top_layer : is_root_at scene.trees 1 ≡ true
-  pub system_layer : is_root_at scene.trees 2 ≡ true
-  pub first_screen : is_root_at scene.trees 3 ≡ true
-  pub active : is_root_at scene.trees scene.active ≡ true
-  pub above_top : scene.active ≢ 1
-  pub above_system : scene.active ≢ 2
-  pub kinds : HaveKinds scene.trees
-  pub low : height scene.trees ≤ max_depth
+-- trees, and the screen among them that is shown, are in order
+pub record AreTrees (trees : Forest Row) (screen : ℕ) : Type 0 where
+  pub once : StandsOnce (handles_of trees)
+  pub top_layer : is_root_at trees 1 ≡ true
+  pub system_layer : is_root_at trees 2 ≡ true
+  pub first_screen : is_root_at trees 3 ≡ true
+  pub active : is_root_at trees screen ≡ true
+  pub above_top : screen ≢ 1
+  pub above_system : screen ≢ 2
+  pub low : height trees ≤ MAX_DEPTH
+
+-- the rows of trees are in order
+pub record AreRows (trees : Forest Row) : Type 0 where
+  pub kinds : have_kinds trees ≡ true
+  pub numbers : all_by is_row trees ≡ true
+
+-- no pool is over its count
+pub record FitPools (scene : Scene) : Type 0 where
   pub objects : size scene.trees ≤ scene.limits.objects
   pub entries : entries_of scene.trees ≤ scene.limits.entries
-  pub rows : EachRow IsRow scene.trees
+
+-- a scene that is in order
+pub record IsValid (scene : Scene) : Type 0 where
+  pub trees : AreTrees scene.trees scene.active
+  pub rows : AreRows scene.trees
+  pub pools : FitPools scene
 
 -- a change that may be asked for: below a parent stand plain objects, and no screens or layers
 abbrev pub IsChange : Change → Type 0
-IsChange (New n p kind) = kind ≡ Obj
+IsChange (change.New n p kind) = kind ≡ Obj
 IsChange change = Unit {0}
-
--- such a change of which each number that a row would keep lies in its interval
-abbrev pub IsOrderly : Change → Type 0
-IsOrderly (NewScreen n) = IsNewHandle n.0
-IsOrderly (New n p kind) = IsNewHandle n.0 × (kind ≡ Obj)
-IsOrderly (Pos h x y) = IsOffset x × IsOffset y
-IsOrderly (Size h width height) = IsSize width × IsSize height
-IsOrderly (Local h part prop value) = IsValue prop value
-IsOrderly change = Unit {0}
 
 -- what is shown of a scene in order is met by a walk
 abbrev pub ValidIsShowable : Type 0

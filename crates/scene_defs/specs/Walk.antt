@@ -3,21 +3,23 @@ use Rattle.std.specs.Prelude.{◌≡◌, ◌≢◌, false, if◌then◌else◌, 
 use Rattle.std.specs.declared.option.Option.{Option}
 use Rattle.std.specs.List.{All}
 use Rattle.std.specs.Option.{IsSomeAnd}
+use Rattle.gui_base.specs.declared.words.Flag.TheVariants.{Hidden}
 use Rattle.gui_base.specs.Area.{Rect, is_empty, Covers}
 use Rattle.gui_base.specs.Forest.{Forest, Empty, Tree, StandsOnce}
-use Rattle.scene_defs.specs.Scene.{Row, Scene, handles_of}
+use Rattle.scene_defs.specs.Scene.{Row, Scene, is_on, handles_of}
 use Rattle.scene_defs.specs.Picture.{Seen, panel_of, placed, met, items_of, shown_trees, shown}
 
--- what the clip leaves of an object with this row that stands there
+-- what is seen through a clip of an object with this area and row
 abbrev pub clipped : Option Rect → Rect → Row → Option Rect
-clipped clip place row = if row.flags.hidden then None else met clip place
+clipped clip place row = if is_on row.flags Hidden then None else met clip (Some place)
 
--- the object alone, where something is seen of it
+-- an object by itself, where something is seen of it
 abbrev pub seen_row : Option Rect → Rect → Row → List Seen
 seen_row None place row = []
 seen_row (Some area) place row = record { handle = row.handle; visible = Some area; items = items_of place row } ∷ []
 
--- the objects of these trees that are seen, each before those below it; the trees' parent stands at `parent`, and the clip is what is seen of it
+-- the objects of these trees that are seen, each before those below it; `parent` is the area of the trees' parent, and
+-- the clip is what is seen of it
 abbrev pub walked : Rect → Option Rect → Rect → Forest Row → List Seen
 walked panel clip parent Empty = []
 walked panel clip parent (Tree row cs rest) =
@@ -33,7 +35,9 @@ pub record IsShowable (scene : Scene) : Type 0 where
 
 -- the walk meets what is shown, in its order
 abbrev pub ShownByWalk : Type 0
-ShownByWalk = (scene : Scene) → IsShowable scene → shown scene ≡ walked (panel_of scene) (Some (panel_of scene)) (panel_of scene) (shown_trees scene)
+ShownByWalk =
+    (scene : Scene) → IsShowable scene →
+    shown scene ≡ walked (panel_of scene) (Some (panel_of scene)) (panel_of scene) (shown_trees scene)
 
 -- nothing is seen below what is not seen
 abbrev pub NothingBelowNothing : Type 0
@@ -45,7 +49,8 @@ IsSeenInside area s = IsSomeAnd s.visible (λ v. (is_empty v ≡ false) × Cover
 
 -- a walk goes nowhere outside its clip
 abbrev pub WalkedInside : Type 0
-WalkedInside = (panel clip parent : Rect) (trees : Forest Row) → All (IsSeenInside clip) (walked panel (Some clip) parent trees)
+WalkedInside =
+    (panel clip parent : Rect) (trees : Forest Row) → All (IsSeenInside clip) (walked panel (Some clip) parent trees)
 
 -- all that is shown is seen inside the panel
 abbrev pub ShownInside : Type 0

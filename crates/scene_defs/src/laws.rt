@@ -1,5 +1,5 @@
 //! What follows from the definitions. Each function does nothing: its contract is a law, which is proved.
-ghost use Rattle.scene_defs.specs.Laws.{ChangeKeepsLimits, RefusedChangesNothing, RangeComesFirst, FullWithoutRoom, DoneWithRoom, RefusedWhateverLimits};
+ghost use Rattle.scene_defs.specs.Laws.{ChangeKeepsLimits, RefusedChangesNothing, RangeComesFirst, FullWithoutRoom, DoneWithRoom, RefusedWhateverLimits, SetsRowAlone, SlotsAddUp};
 ghost use Rattle.scene_defs.specs.Valid.{FirstIsValid, ChangeKeepsValid, ValidIsShowable};
 ghost use Rattle.scene_defs.specs.Walk.{ShownByWalk, NothingBelowNothing, WalkedInside, ShownInside};
 
@@ -14,11 +14,22 @@ pub fn refusals_change_nothing()
     ensures range { RangeComesFirst }
 {}
 
-/// A change is refused for a full pool where it needs more slots than are free, after all other refusals, which do not look at the limits.
+/// A change is refused for a full pool where it needs more slots than are free. All other refusals come before, and do not
+/// look at the limits.
 pub fn full_by_count()
     ensures without_room { FullWithoutRoom }
     ensures with_room { DoneWithRoom }
     ensures others { RefusedWhateverLimits }
+{}
+
+/// A change takes from each pool the slots that it needs, and gives back those that it frees.
+pub fn slots_add_up()
+    ensures { SlotsAddUp }
+{}
+
+/// A change that sets the row of an object does nothing else.
+pub fn setters_set_one_row()
+    ensures { SetsRowAlone }
 {}
 
 /// One walk down the trees meets what is shown, in its order, and goes no further where nothing is seen.

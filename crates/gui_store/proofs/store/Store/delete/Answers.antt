@@ -1,65 +1,57 @@
-use Rattle.std.proofs.Common.{◌≡◌, ◌∙◌, ◌-◌, sym, ap, subst, None, arith}
+use Rattle.std.proofs.Common.{◌≡◌, ◌∙◌, ◌-◌, sym, subst, Ok, arith}
 use Rattle.std.specs.Prelude.{OnOk}
+use Rattle.std.specs.List.{sum_by}
 use Rattle.std.proofs.lemmas.Result.{err_from_is_err_and}
-use Rattle.gui_tree.specs.Trees.{Trees, Answer, without}
-use Rattle.scene_defs.specs.declared.Change.TheVariants.{Delete}
-use Rattle.scene_defs.specs.Change.{answer_in_range}
-use Rattle.gui_store.specs.Answers.{result_of}
-use Rattle.gui_store.specs.Parts.{scene_of}
-use Rattle.gui_store.specs.Views.{parts_of}
-use Rattle.gui_store.proofs.Kept.{Done, done, failed, ok-none, delete-answer}
-use Rattle.gui_store.proofs.Changes.{fine-delete, counted-below}
-use Rattle.gui_store.proofs.Told.{delete-active, removed-sum, few}
+use Rattle.gui_base.specs.declared.Handle.{Handle}
+use Rattle.gui_base.specs.declared.refusal.Refusal.TheVariants.{Place}
+use Rattle.gui_tree.specs.Trees.{Answer, without}
+use Rattle.scene_defs.specs.declared.Change.TheVariants as change
+use Rattle.scene_defs.specs.Scene.{entries_of}
+use Rattle.scene_defs.specs.Change.{tree_below}
+use Rattle.gui_store.specs.Rows.{entries_in}
+use Rattle.gui_store.specs.Views.{parts_of, scene_of}
+use Rattle.gui_store.proofs.Edits.{delete-answer, delete-active, listed-sum, freed-few, fine-delete}
+use Rattle.gui_store.proofs.Kept.{Left, refused, failed, grown}
 use Rattle.gui_store.proofs.store.Store.delete.Goals as goal
+use Rattle.gui_store.proofs.store.Store.delete.Goals.{After-as_slice, After-entries_of}
 
-deleted : (c : goal.After-self-1) → Done (parts_of c.self.inside) (Delete c.args.h) (record (parts_of c.self.inside) { tree = c.remove.new.self; entries = c.self.inside.entries - c.entries_of.result })
-deleted c =
-    let p = parts_of c.self.inside in
-    let e : answer_in_range (scene_of p) (Delete c.args.h) ≡ None = ok-none _ _ (delete-answer p c.self.invariant c.args.h.0 (sym c.eq.ensures ∙ c.if-eq.false) ∙ sym c.remove.ensures.answer ∙ c.in_ok-remove.was) in
+-- the entries of what was removed
+listed : (c : After-as_slice) → sum_by (λ (h : Handle). entries_in c.as_slice.result.now h.0) c.last_removed-removed.result.now ≡ entries_of (tree_below (scene_of c.args.self.now) c.args.h.0)
+listed c =
+    let p = parts_of c.args.self.now in
     let tree : c.remove.new.self ≡ without p.tree c.args.h.0 = subst (λ (x : Answer). OnOk x (c.remove.new.self ≡ without p.tree c.args.h.0)) c.in_ok-remove.was c.remove.ensures.ok in
-    subst (λ (x : Trees). Done p (Delete c.args.h) (record p { tree = x; entries = p.entries - c.entries_of.result })) (sym tree)
-    (done p c.self.invariant (Delete c.args.h) tt _ e (fine-delete p c.self.invariant c.args.h c.entries_of.result (c.entries_of.ensures ∙ removed-sum p c.self.invariant c.as_slice.result.now c.as_slice.ensures.value c.last_removed-removed.result.now c.args.h.0 c.remove.new.self tree c.last_removed-removed.ensures)))
+    listed-sum p c.args.self.now.kept c.as_slice.result.now c.as_slice.ensures.value c.last_removed-removed.result.now c.args.h.0 c.remove.new.self tree c.last_removed-removed.ensures
 
-pub returns-then-eq-clause-answer : goal.returns-then-eq-clause-answer
-returns-then-eq-clause-answer c =
-    let p = parts_of c.self.inside in rw (← c.self.view_is) (sym (ap result_of (delete-active p c.self.invariant c.args.h.0 (sym c.eq.ensures ∙ c.if-eq.true))))
+deleted : (c : After-entries_of) → c.entries_of.result ≡ entries_of (tree_below (scene_of c.args.self.now) c.args.h.0) → Left (parts_of c.args.self.now) (change.Delete c.args.h) (record (parts_of c.args.self.now) { tree = c.remove.new.self; entries = c.args.self.now.entries - c.entries_of.result }) (Ok tt)
+deleted c sum =
+    let p = parts_of c.args.self.now in
+    grown p c.args.self.now.kept (change.Delete c.args.h) c.requires tt c.remove.new.self (without p.tree c.args.h.0) c.remove.result p.rows _ _
+    (delete-answer p c.args.self.now.kept c.args.h (sym c.eq.ensures ∙ c.if-eq.false) ∙ sym c.remove.ensures.answer) c.in_ok-remove.was c.remove.ensures.ok (λ e. fine-delete p c.args.self.now.kept c.args.h c.entries_of.result sum)
 
-pub returns-in_err-remove-clause-answer : goal.returns-in_err-remove-clause-answer
-returns-in_err-remove-clause-answer c =
-    let p = parts_of c.self.inside in
+pub returns-then-eq : goal.returns-then-eq
+returns-then-eq c =
+    refused (parts_of c.args.self.now) c.args.self.now.kept (change.Delete c.args.h) Place (delete-active (parts_of c.args.self.now) c.args.self.now.kept c.args.h (sym c.eq.ensures ∙ c.if-eq.true))
+
+pub returns-in_err-remove : goal.returns-in_err-remove
+returns-in_err-remove c =
+    let p = parts_of c.args.self.now in
     let q = err_from_is_err_and c.from_residual.result c.from_residual.ensures.1 in
-    rw (← c.self.view_is, q.1, q.2) (sym c.in_err-remove.was ∙ c.remove.ensures.answer ∙ sym (delete-answer p c.self.invariant c.args.h.0 (sym c.eq.ensures ∙ c.if-eq.false)))
-
-pub returns-in_err-remove-clause-after : goal.returns-in_err-remove-clause-after
-returns-in_err-remove-clause-after c =
-    let p = parts_of c.self.inside in
-    let kept : Done p (Delete c.args.h) (record p { tree = c.remove.new.self }) =
-    failed p c.self.invariant (Delete c.args.h) tt c.remove.new.self _ c.remove.result (delete-answer p c.self.invariant c.args.h.0 (sym c.eq.ensures ∙ c.if-eq.false) ∙ sym c.remove.ensures.answer) c.in_err-remove.was c.remove.ensures.refused in
-    rw (← c.self.view_is) kept.shows
+    rw (q.1, q.2)
+    (failed p c.args.self.now.kept (change.Delete c.args.h) c.remove.new.self _ c.remove.result (delete-answer p c.args.self.now.kept c.args.h (sym c.eq.ensures ∙ c.if-eq.false) ∙ sym c.remove.ensures.answer) c.in_err-remove.was c.remove.ensures.refused)
 
 pub entries_of-requires : goal.entries_of-requires
 entries_of-requires c =
-    let p = parts_of c.self.inside in
-    let tree : c.remove.new.self ≡ without p.tree c.args.h.0 = subst (λ (x : Answer). OnOk x (c.remove.new.self ≡ without p.tree c.args.h.0)) c.in_ok-remove.was c.remove.ensures.ok in
-    let a = removed-sum p c.self.invariant c.as_slice.result.now c.as_slice.ensures.value c.last_removed-removed.result.now c.args.h.0 c.remove.new.self tree c.last_removed-removed.ensures in
-    let b = counted-below p c.self.invariant c.args.h in
-    let d = few p c.self.invariant in
-    let e = c.self.inside.limits.pools.most_entries in omega arith
+    let k = c.args.self.now.kept in
+    let few = freed-few (parts_of c.args.self.now) k c.args.h.0 in
+    omega (arith, listed (goal.at.entries_of-requires c).After-as_slice, few, k.entries, k.valid.pools.entries, c.args.self.now.limits.pools.most_entries)
 
 pub overflow_sub-self : goal.overflow_sub-self
 overflow_sub-self c =
-    let p = parts_of c.self.inside in
-    let tree : c.remove.new.self ≡ without p.tree c.args.h.0 = subst (λ (x : Answer). OnOk x (c.remove.new.self ≡ without p.tree c.args.h.0)) c.in_ok-remove.was c.remove.ensures.ok in
-    let a = c.entries_of.ensures ∙ removed-sum p c.self.invariant c.as_slice.result.now c.as_slice.ensures.value c.last_removed-removed.result.now c.args.h.0 c.remove.new.self tree c.last_removed-removed.ensures in
-    let b = counted-below p c.self.invariant c.args.h in omega arith
+    let few = freed-few (parts_of c.args.self.now) c.args.self.now.kept c.args.h.0 in
+    omega (arith, c.entries_of.ensures, listed (goal.at.overflow_sub-self c).After-as_slice, few)
 
 pub invariant_of-self-2 : goal.invariant_of-self-2
-invariant_of-self-2 c = (deleted c).kept
+invariant_of-self-2 c = let at = goal.at.invariant_of-self-2 c in record { kept = (deleted at.After-entries_of (c.entries_of.ensures ∙ listed at.After-as_slice)).kept }
 
-pub returns-clause-answer : goal.returns-clause-answer
-returns-clause-answer c =
-    let p = parts_of c.self.inside in
-    rw (← c.self.view_is) (sym (ap result_of (ok-none _ _ (delete-answer p c.self.invariant c.args.h.0 (sym c.eq.ensures ∙ c.if-eq.false) ∙ sym c.remove.ensures.answer ∙ c.in_ok-remove.was))))
-
-pub returns-clause-after : goal.returns-clause-after
-returns-clause-after c = rw (← c.self.view_is) (deleted c).shows
+pub returns : goal.returns
+returns c = let at = goal.at.returns c in (deleted at.After-entries_of (c.entries_of.ensures ∙ listed at.After-as_slice)).is

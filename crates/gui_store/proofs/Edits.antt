@@ -1,0 +1,303 @@
+-- The parts of a store after each change that is done.
+use Rattle.std.proofs.Common.{◌≡◌, ◌<◌, ◌≤◌, ◌⊎◌, ◌∙◌, sym, ap, subst, ℕ, zero, suc, ◌+◌, ◌-◌, Bool, true, false, length, slice_set, List, Option, Some, None, option_map, refl, arith, length-set, nat_lt, nat_le, nat_eq, ◌&&◌, eqb-true, slice_index_or, not, ◌++◌, inl, inr, [], ◌∷◌}
+use Rattle.std.specs.List.{sum_by}
+use Rattle.std.specs.Prelude.{if◌then◌else◌}
+use Rattle.std.proofs.lemmas.Bool.Decides.{nat_tests}
+use Rattle.std.proofs.lemmas.List.{get_or-set_same, get_or-set_other}
+use Rattle.std.proofs.lemmas.List.Sums.{sum_by-cons}
+use Rattle.gui_base.specs.declared.Handle.{Handle}
+use Rattle.gui_base.specs.declared.limits.Pool.{Pool}
+use Rattle.gui_base.specs.declared.limits.Pool.TheVariants.{Objects, Entries}
+use Rattle.gui_base.specs.declared.refusal.Refusal.{Refusal}
+use Rattle.gui_base.specs.declared.refusal.Refusal.TheVariants.{Full}
+use Rattle.gui_base.specs.declared.refusal.Refusal.TheVariants as refusal
+use Rattle.gui_base.specs.declared.words.Kind.{Kind}
+use Rattle.gui_base.specs.declared.words.Kind.TheVariants.{Screen, Layer}
+use Rattle.gui_base.specs.Forest.{Forest, Empty, Tree, and_then, leaf, put_at, has, size, preorder, moved_last, cut, cut_by, tree_at, tree_by, parent_of, with_children_by}
+use Rattle.gui_base.specs.Limits.{Bounds}
+use Rattle.gui_base.specs.Refusing.{first_of, result_of, root_tests, child_tests, removal_tests, move_tests, parent_tests, Place}
+use Rattle.gui_base.proofs.Forests.{map-and_then, map-preorder, map-size, map-cut_by, map-tree_by, map-parent_by, map-added_by, map-moved_by, map-moved_last_by}
+use Rattle.gui_tree.specs.Handles.{numbers}
+use Rattle.gui_tree.specs.Trees.{Trees, opened, add_root_answer, add_answer, remove_answer, move_answer, set_parent_answer, with_root, with_child, at_index, below, moved_below, without as without_tree}
+use Rattle.scene_defs.specs.declared.Change.{Change}
+use Rattle.scene_defs.specs.declared.Change.TheVariants as change
+use Rattle.scene_defs.specs.Scene.{Row as SceneRow, Scene, is_at, handles_of, entry_count, entries_of, new_row, first_scene}
+use Rattle.scene_defs.specs.Change.{is_screen_kind, answer_in_range, tests, pools, first_short, scene_after, tree_below, parent_row, at_index_below, last_below, row_after, row_set, lacks, need_of, freed_by}
+use Rattle.scene_defs.specs.Valid.{IsValid, is_root_at}
+use Rattle.scene_defs.proofs.Changes.{tests-fail, room_in_range, none_short, one_short, first-then, first-some, sets_row_alone}
+use Rattle.scene_defs.proofs.Totals.{total-cut, total-parts, total-row, one, size-total, entries-total}
+use Rattle.scene_defs.proofs.Handles.{has-handles}
+use Rattle.scene_defs.proofs.RowKinds.{root_there}
+use Rattle.scene_defs.proofs.Distinct.{distinct_once}
+use Rattle.scene_defs.proofs.Validity.{first_is_valid, needs, set_slots, set_only}
+use Rattle.gui_store.specs.declared.row.Row.{Row}
+use Rattle.gui_store.specs.Rows.{blank, row_of, row_in, entries_in}
+use Rattle.gui_store.specs.Removed.{removed_after}
+use Rattle.gui_store.specs.Parts.{Parts, scene_in, AreKept}
+use Rattle.gui_store.proofs.Shown.{shown, shown-handles, shown-aside, shown-set, sum-preorder}
+use Rattle.gui_store.proofs.RowTests.{passed_there}
+use Rattle.gui_store.proofs.Kept.{there-is, size-is, row-is, read-at, within, growth-answer, edit-answer, Fine}
+
+-- With an index past the last tree, it is put last.
+put_at-last : {A : Type 0} (n : ℕ) (t f : Forest A) → size f ≤ n → put_at n t f ≡ and_then f t
+put_at-last zero t Empty few = nothing_after t where
+  nothing_after : {A : Type 0} (t : Forest A) → and_then t Empty ≡ t
+  nothing_after Empty = refl
+  nothing_after (Tree row cs rest) = rw (nothing_after rest) refl
+put_at-last (suc n) t Empty few = refl
+put_at-last zero t (Tree row cs rest) few = absurd (omega arith)
+put_at-last (suc n) t (Tree row cs rest) few = let less : size rest ≤ n = omega arith in rw (put_at-last n t rest less) refl
+
+last-alike : {A : Type 0} (test : A → Bool) (n : ℕ) (t f : Forest A) → size f ≤ n → with_children_by test (put_at n t) f ≡ with_children_by test (λ cs. and_then cs t) f
+last-alike test n t Empty few = refl
+last-alike test n t (Tree row cs rest) few =
+    let a = last-alike test n t cs (omega arith) in
+    let b = last-alike test n t rest (omega arith) in rw (a, b, put_at-last n t cs (omega arith)) refl
+
+sum-numbers : (f : ℕ → ℕ) (hs : List Handle) → sum_by (λ (x : Handle). f x.0) hs ≡ sum_by f (numbers hs)
+sum-numbers f [] = refl
+sum-numbers f (h ∷ hs) = let a = sum_by-cons (λ (x : Handle). f x.0) h hs in let b = sum_by-cons f h.0 (numbers hs) in omega (arith, a, b, sum-numbers f hs)
+
+module _ (p : Parts) (k : AreKept p) where
+  -- the row of a new object
+  written : (n : ℕ) (row : Row) (kind : Kind) → n < 10000 → row_of n row ≡ new_row n kind → row_in (slice_set p.rows n row) n ≡ new_row n kind
+  written n row kind fits is = ap (row_of n) (get_or-set_same p.rows n row blank (omega (arith, k.long))) ∙ is
+
+  -- a slot is left where one is taken
+  one_left : (change : Change) → need_of (scene_in p) change Objects ≡ 1 → answer_in_range (scene_in p) change ≡ None → 1 ≤ p.tree.spare
+  one_left change one e = let a = room_in_range (scene_in p) change Objects e in omega (arith, one, size-is p, k.objects)
+
+  -- what each edit of the tree answers
+  pub screen-answer : (n : Handle) → result_of (answer_in_range (scene_in p) (change.Screen n)) ≡ add_root_answer p.tree n.0
+  screen-answer n = growth-answer p k (change.Screen n) (λ f. root_tests f n.0) refl refl objects where
+    objects : (q : Pool) → (q ≡ Objects) ⊎ (need_of (scene_in p) (change.Screen n) q ≡ 0)
+    objects Objects = inl refl
+    objects q = inr refl
+
+  pub object-answer : (n q : Handle) (kind : Kind) → result_of (answer_in_range (scene_in p) (change.New n q kind)) ≡ add_answer p.tree n.0 q.0
+  object-answer n q kind = growth-answer p k (change.New n q kind) (λ f. child_tests f n.0 q.0) refl refl objects where
+    objects : (r : Pool) → (r ≡ Objects) ⊎ (need_of (scene_in p) (change.New n q kind) r ≡ 0)
+    objects Objects = inl refl
+    objects r = inr refl
+
+  pub delete-answer : (h : Handle) → nat_eq h.0 p.active ≡ false → result_of (answer_in_range (scene_in p) (change.Delete h)) ≡ remove_answer p.tree h.0
+  delete-answer h other = edit-answer p k (change.Delete h) (λ f. removal_tests f h.0 ++ (nat_eq h.0 p.active, Place) ∷ []) refl (λ q. refl) ∙ rw other refl
+
+  pub delete-active : (h : Handle) → nat_eq h.0 p.active ≡ true → answer_in_range (scene_in p) (change.Delete h) ≡ Some refusal.Place
+  delete-active h same =
+      let active : h.0 ≡ p.active = eqb-true _ _ same in
+      let on : has (handles_of (scene_in p).trees) h.0 ≡ true = has-handles (scene_in p).trees h.0 ∙ root_there (scene_in p).trees h.0 (ap (is_root_at (scene_in p).trees) active ∙ k.valid.trees.active) in
+      rw (on, same) (either (nat_le 1 h.0 && nat_le h.0 3))
+    where
+      either : (b : Bool) → (if b then Some refusal.Place else Some refusal.Place) ≡ Some refusal.Place
+      either true = refl
+      either false = refl
+
+  pub move-answer : (change : Change) (h : ℕ) → tests (scene_in p) change ≡ move_tests (handles_of (scene_in p).trees) h → ((q : Pool) → need_of (scene_in p) change q ≡ 0) → result_of (answer_in_range (scene_in p) change) ≡ move_answer p.tree h
+  move-answer change h e none = edit-answer p k change (λ f. move_tests f h) e none
+
+  pub parent-answer : (h q : Handle) → result_of (answer_in_range (scene_in p) (change.Parent h q)) ≡ set_parent_answer p.tree h.0 q.0
+  parent-answer h q = edit-answer p k (change.Parent h q) (λ f. parent_tests f h.0 q.0) refl (λ q. refl)
+
+  pub load-absent : (h : Handle) → has p.tree.forest h.0 ≡ false → answer_in_range (scene_in p) (change.Load h) ≡ Some refusal.Unknown
+  load-absent h off = rw (there-is p h.0 ∙ off) refl
+
+  pub load-answer : (h : Handle) (b : Bool) → has p.tree.forest h.0 ≡ true → is_screen_kind (row_in p.rows h.0).kind ≡ b → answer_in_range (scene_in p) (change.Load h) ≡ (if b then None else Some refusal.Kind)
+  load-answer h b on is =
+      let none = none_short (scene_in p) (change.Load h) pools (λ q. refl) in
+      rw (there-is p h.0 ∙ on, row-is p h.0 on, is) (by b none)
+    where
+      by : (b : Bool) → first_short (scene_in p) (change.Load h) pools ≡ None → (if not b then Some refusal.Kind else option_map Full (first_short (scene_in p) (change.Load h) pools)) ≡ (if b then None else Some refusal.Kind)
+      by true none = rw none refl
+      by false none = refl
+
+  pub fine-screen : (n : Handle) (row : Row) → n.0 < 10000 → row_of n.0 row ≡ new_row n.0 Screen → answer_in_range (scene_in p) (change.Screen n) ≡ None → Fine p (change.Screen n) (record p { tree = with_root p.tree n.0; rows = slice_set p.rows n.0 row })
+  fine-screen n row fits is e =
+      let f = p.tree.forest in
+      let rows = slice_set p.rows n.0 row in
+      let t = tests-fail (tests (scene_in p) (change.Screen n)) (first_short (scene_in p) (change.Screen n) pools) e in
+      let off : has f n.0 ≡ false = sym (there-is p n.0) ∙ t.0 in
+      let left = one_left (change.Screen n) refl e in
+      record {
+        shows = ap (λ (t : Forest SceneRow). record (scene_in p) { trees = t }) (map-and_then (row_in rows) f (leaf n.0) ∙ rw (shown-aside p.rows f n.0 row off, written n.0 row Screen fits is) refl);
+        long = length-set p.rows n.0 row ∙ k.long;
+        slots = omega (arith, left);
+        entries = omega arith;
+        removed = refl;
+      }
+
+  pub fine-object : (n q : Handle) (kind : Kind) (row : Row) → n.0 < 10000 → row_of n.0 row ≡ new_row n.0 kind → answer_in_range (scene_in p) (change.New n q kind) ≡ None → Fine p (change.New n q kind) (record p { tree = with_child p.tree q.0 n.0; rows = slice_set p.rows n.0 row })
+  fine-object n q kind row fits is e =
+      let f = p.tree.forest in
+      let rows = slice_set p.rows n.0 row in
+      let t = tests-fail (tests (scene_in p) (change.New n q kind)) (first_short (scene_in p) (change.New n q kind) pools) e in
+      let off : has f n.0 ≡ false = sym (there-is p n.0) ∙ t.1.0 in
+      let left = one_left (change.New n q kind) refl e in
+      record {
+        shows = ap (λ (t : Forest SceneRow). record (scene_in p) { trees = t }) (map-added_by (row_in rows) (is_at q.0) (is_at q.0) n.0 f ∙ rw (shown-aside p.rows f n.0 row off, written n.0 row kind fits is) refl);
+        long = length-set p.rows n.0 row ∙ k.long;
+        slots = omega (arith, left);
+        entries = omega arith;
+        removed = refl;
+      }
+
+  tree-is : (h : ℕ) → shown p.rows (tree_at p.tree.forest h) ≡ tree_below (scene_in p) h
+  tree-is h = map-tree_by (row_in p.rows) (is_at h) p.tree.forest
+
+  -- the entries of what is removed
+  pub freed-is : (h : ℕ) → sum_by (entries_in p.rows) (preorder (tree_at p.tree.forest h)) ≡ entries_of (tree_below (scene_in p) h)
+  freed-is h = sum-preorder p.rows (tree_at p.tree.forest h) ∙ ap entries_of (tree-is h)
+
+  pub freed-few : (h : ℕ) → entries_of (tree_below (scene_in p) h) ≤ p.entries
+  freed-few h =
+      let a = total-parts entry_count (scene_in p).trees h (distinct_once (scene_in p).trees k.valid.trees.once) in
+      omega (arith, a, k.entries, entries-total (scene_in p).trees, entries-total (tree_below (scene_in p) h))
+
+  -- the entries of the handles that a removal lists
+  pub listed-sum : (rows : List Row) → rows ≡ p.rows → (hs : List Handle) (h : ℕ) (t : Trees) → t ≡ without_tree p.tree h → numbers hs ≡ t.removed → sum_by (λ (x : Handle). entries_in rows x.0) hs ≡ entries_of (tree_below (scene_in p) h)
+  listed-sum rows same hs h t gone listed =
+      ap (λ (rs : List Row). sum_by (λ (x : Handle). entries_in rs x.0) hs) same ∙ sum-numbers (entries_in p.rows) hs ∙ ap (sum_by (entries_in p.rows)) (listed ∙ ap (λ (x : Trees). x.removed) gone) ∙ freed-is h
+
+  pub fine-delete : (h : Handle) (n : ℕ) → n ≡ entries_of (tree_below (scene_in p) h.0) → Fine p (change.Delete h) (record p { tree = without_tree p.tree h.0; entries = p.entries - n })
+  fine-delete h n is = record {
+    shows = ap (λ (t : Forest SceneRow). record (scene_in p) { trees = t }) (map-cut_by (row_in p.rows) (is_at h.0) p.tree.forest);
+    long = k.long;
+    slots = let a = map-size (row_in p.rows) (tree_at p.tree.forest h.0) in let b = ap size (tree-is h.0) in omega arith;
+    entries = let a = freed-few h.0 in omega (arith, is);
+    removed = ap preorder (sym (ap handles_of (sym (tree-is h.0)) ∙ shown-handles p.rows (tree_at p.tree.forest h.0)));
+  }
+
+  -- a tree that is moved
+  moved : (change : Change) (g : Forest ℕ) → record (scene_in p) { trees = shown p.rows g } ≡ scene_after (scene_in p) change → need_of (scene_in p) change Objects ≡ freed_by (scene_in p) change Objects → need_of (scene_in p) change Entries ≡ freed_by (scene_in p) change Entries → p.tree.removed ≡ removed_after p.tree.removed (scene_in p) change → Fine p change (record p { tree = record p.tree { forest = g } })
+  moved change g shows objects entries removed = record { shows = shows; long = k.long; slots = omega (arith, objects); entries = omega (arith, entries); removed = removed }
+
+  pub fine-parent : (h q : Handle) → Fine p (change.Parent h q) (record p { tree = below p.tree h.0 q.0 })
+  fine-parent h q =
+      moved (change.Parent h q) (moved_last p.tree.forest h.0 q.0)
+      (ap (λ (t : Forest SceneRow). record (scene_in p) { trees = t }) (map-moved_last_by (row_in p.rows) (is_at h.0) (is_at q.0) p.tree.forest)) refl refl refl
+
+  -- a tree that goes to an index below the same parent
+  index-shows : (h n : ℕ) → shown p.rows (moved_below (parent_of p.tree.forest h) p.tree.forest h n) ≡ at_index_below (parent_row (scene_in p) h) (scene_in p).trees h n
+  index-shows h n = by (parent_of p.tree.forest h) ∙ ap (λ (o : Option SceneRow). at_index_below o (scene_in p).trees h n) (map-parent_by (row_in p.rows) (is_at h) None p.tree.forest) where
+    by : (o : Option ℕ) → shown p.rows (moved_below o p.tree.forest h n) ≡ at_index_below (option_map (row_in p.rows) o) (scene_in p).trees h n
+    by None = refl
+    by (Some q) = map-moved_by (row_in p.rows) (is_at h) (is_at q) n p.tree.forest
+
+  pub fine-index : (h : Handle) (n : ℕ) → Fine p (change.Index h n) (record p { tree = at_index p.tree h.0 n })
+  fine-index h n =
+      moved (change.Index h n) (moved_below (parent_of p.tree.forest h.0) p.tree.forest h.0 n) (ap (λ (t : Forest SceneRow). record (scene_in p) { trees = t }) (index-shows h.0 n)) refl refl refl
+
+  pub fine-back : (h : Handle) → Fine p (change.Back h) (record p { tree = at_index p.tree h.0 0 })
+  fine-back h =
+      moved (change.Back h) (moved_below (parent_of p.tree.forest h.0) p.tree.forest h.0 0) (ap (λ (t : Forest SceneRow). record (scene_in p) { trees = t }) (index-shows h.0 0)) refl refl refl
+
+  -- an index past so many is the last
+  last-shows : (h n : ℕ) → p.limits.objects ≤ n → (o : Option SceneRow) → at_index_below o (scene_in p).trees h n ≡ last_below o (scene_in p).trees h
+  last-shows h n few None = refl
+  last-shows h n few (Some q) =
+      let bare = cut_by (is_at h) (scene_in p).trees in
+      let a = total-cut one (is_at h) (scene_in p).trees in
+      last-alike (is_at q.handle) n (tree_below (scene_in p) h) bare (omega (arith, few, a, size-total bare, size-total (scene_in p).trees, k.valid.pools.objects))
+
+  pub fine-front : (h : Handle) (n : ℕ) → p.limits.objects ≤ n → Fine p (change.Front h) (record p { tree = at_index p.tree h.0 n })
+  fine-front h n few =
+      moved (change.Front h) (moved_below (parent_of p.tree.forest h.0) p.tree.forest h.0 n)
+      (ap (λ (t : Forest SceneRow). record (scene_in p) { trees = t }) (index-shows h.0 n ∙ last-shows h.0 n few (parent_row (scene_in p) h.0))) refl refl refl
+
+  pub fine-load : (h : Handle) → Fine p (change.Load h) (record p { active = h.0 })
+  fine-load h = record { shows = refl; long = k.long; slots = refl; entries = omega arith; removed = refl }
+
+  removed-set : (change : Change) (h : Handle) → row_set change ≡ Some h → p.tree.removed ≡ removed_after p.tree.removed (scene_in p) change
+  removed-set (change.Delete n) h set = cc
+  removed-set change h set = refl
+
+  -- Another row at h, and so many entries. Such a change is refused by its tests, or where the entries are too few.
+  pub record RowSet (change : Change) (h : Handle) (row : Row) (n : ℕ) : Type 0 where
+    set : row_set change ≡ Some h
+    passed : first_of (tests (scene_in p) change) None ≡ None
+    on : has p.tree.forest h.0 ≡ true
+    is : row_of h.0 row ≡ row_after change (row_in p.rows h.0)
+    count : n + entries_in p.rows h.0 ≡ p.entries + entry_count (row_of h.0 row)
+
+  pub set_there : (change : Change) (h : Handle) → row_set change ≡ Some h → first_of (tests (scene_in p) change) None ≡ None → has p.tree.forest h.0 ≡ true
+  set_there change h set passed = sym (there-is p h.0) ∙ passed_there (scene_in p) change h set passed
+
+  -- the entries of a row that is read
+  pub row-entries : (h : Handle) (row : Row) (n : ℕ) → has p.tree.forest h.0 ≡ true → row ≡ slice_index_or p.rows h.0 row → ((j : ℕ) → n ≡ entry_count (row_of j row)) → (n ≡ entries_in p.rows h.0) × (n ≤ p.entries)
+  row-entries h row n on read count =
+      let is : n ≡ entries_in p.rows h.0 = count h.0 ∙ ap entry_count (read-at p k h.0 row on read) in
+      let few = total-row entry_count (scene_in p).trees h.0 (row_in p.rows h.0) (row-is p h.0 on) in
+      (is, omega (arith, is, few, entries-total (scene_in p).trees, k.entries))
+
+  pub row-set : (change : Change) (h : Handle) (old new : Row) (a b : ℕ) → row_set change ≡ Some h → first_of (tests (scene_in p) change) None ≡ None → old ≡ slice_index_or p.rows h.0 old → ((j : ℕ) → row_of j new ≡ row_after change (row_of j old)) → ((j : ℕ) → a ≡ entry_count (row_of j old)) → ((j : ℕ) → b ≡ entry_count (row_of j new)) → RowSet change h new (p.entries - a + b)
+  row-set change h old new a b set passed read is before after =
+      let on = set_there change h set passed in
+      let was = row-entries h old a on read before in
+      let now = after h.0 in
+      record { set = set; passed = passed; on = on; is = is h.0 ∙ ap (row_after change) (read-at p k h.0 old on read); count = omega (arith, was.0, was.1, now) }
+
+  module _ (change : Change) (h : Handle) (row : Row) (n : ℕ) (r : RowSet change h row n) where
+    pub fine-row : Fine p change (record p { rows = slice_set p.rows h.0 row; entries = n })
+    fine-row =
+        let slots = set_slots (scene_in p) change h r.set in
+        record {
+          shows =
+              ap (λ (t : Forest SceneRow). record (scene_in p) { trees = t }) (shown-set p.rows p.tree.forest h.0 row (row_after change) (within p k h.0 r.on) r.is)
+              ∙ sym (sets_row_alone (scene_in p) change h r.set);
+          long = length-set p.rows h.0 row ∙ k.long;
+          slots = omega (arith, slots.0, slots.1);
+          entries =
+              let a = needs (scene_in p) change h (row_in p.rows h.0) r.set (row-is p h.0 r.on) in
+              let b = ap entry_count r.is in omega (arith, slots.2, r.count);
+          removed = removed-set change h r.set;
+        }
+
+    pub row-answer : (b : Bool) → nat_lt p.limits.entries n ≡ b → answer_in_range (scene_in p) change ≡ (if b then Some (Full Entries) else None)
+    row-answer b over =
+        let a = needs (scene_in p) change h (row_in p.rows h.0) r.set (row-is p h.0 r.on) in
+        let c = ap entry_count r.is in
+        let d = r.count in
+        let e = k.entries in
+        let f = k.valid.pools.entries in
+        let short : lacks (scene_in p) Entries (need_of (scene_in p) change Entries) ≡ b = grind (arith, nat_tests) in
+        first-then (tests (scene_in p) change) (option_map Full (first_short (scene_in p) change pools)) r.passed
+        ∙ ap (option_map Full) (one_short (scene_in p) change Entries (set_only (scene_in p) change h r.set) ∙ ap (λ (t : Bool). if t then Some Entries else None) short)
+        ∙ full b
+      where
+        full : (b : Bool) → option_map Full (if b then Some Entries else None) ≡ (if b then Some (Full Entries) else None)
+        full true = refl
+        full false = refl
+
+  pub row-refused : (change : Change) (x : Refusal) → first_of (tests (scene_in p) change) None ≡ Some x → answer_in_range (scene_in p) change ≡ Some x
+  row-refused change x e = first-some (tests (scene_in p) change) (option_map Full (first_short (scene_in p) change pools)) x e
+
+-- The first rows.
+module _ (tree : Trees) (limits : Bounds) (room : 3 ≤ limits.objects) (new : tree ≡ opened limits.objects) (xs : List Row) (long : length xs ≡ 10000) (a b c : Row) (top : (h : ℕ) → row_of h a ≡ new_row h Layer) (system : (h : ℕ) → row_of h b ≡ new_row h Layer) (screen : (h : ℕ) → row_of h c ≡ new_row h Screen) where
+  abbrev first_rows : List Row
+  first_rows = slice_set (slice_set (slice_set xs 1 a) 2 b) 3 c
+
+  abbrev first_parts : Parts
+  first_parts = record { tree = tree; rows = first_rows; active = 3; limits = limits; entries = 0 }
+
+  at_one : row_in first_rows 1 ≡ new_row 1 Layer
+  at_one =
+      ap (row_of 1) (get_or-set_other (slice_set (slice_set xs 1 a) 2 b) 3 1 c blank (omega arith) ∙ get_or-set_other (slice_set xs 1 a) 2 1 b blank (omega arith) ∙ get_or-set_same xs 1 a blank (omega arith)) ∙ top 1
+
+  at_two : row_in first_rows 2 ≡ new_row 2 Layer
+  at_two =
+      ap (row_of 2) (get_or-set_other (slice_set (slice_set xs 1 a) 2 b) 3 2 c blank (omega arith) ∙ get_or-set_same (slice_set xs 1 a) 2 b blank (omega (arith, length-set xs 1 a))) ∙ system 2
+
+  at_three : row_in first_rows 3 ≡ new_row 3 Screen
+  at_three =
+      ap (row_of 3) (get_or-set_same (slice_set (slice_set xs 1 a) 2 b) 3 c blank (omega (arith, length-set xs 1 a, length-set (slice_set xs 1 a) 2 b))) ∙ screen 3
+
+  pub first-shows : scene_in first_parts ≡ first_scene limits
+  first-shows = rw (new, at_one, at_two, at_three) refl
+
+  pub first-kept : AreKept first_parts
+  first-kept = record {
+    valid = subst (λ (s : Scene). IsValid s) (sym first-shows) (first_is_valid limits room);
+    long = length-set (slice_set (slice_set xs 1 a) 2 b) 3 c ∙ length-set (slice_set xs 1 a) 2 b ∙ length-set xs 1 a ∙ long;
+    objects = let e : size tree.forest + tree.spare ≡ 3 + (limits.objects - 3) = ap (λ (t : Trees). size t.forest + t.spare) new in omega arith;
+    entries = sym (ap (λ (s : Scene). entries_of s.trees) first-shows);
+  }

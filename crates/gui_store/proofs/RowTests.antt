@@ -1,0 +1,28 @@
+-- The tests of a change of one row.
+use Rattle.std.proofs.Common.{◌≡◌, ◌∙◌, sym, ℤ, true, false, Some, None, refl, arith, inl, inr}
+use Rattle.std.proofs.lemmas.Bool.{cases_Bool}
+use Rattle.gui_base.specs.declared.Handle.{Handle}
+use Rattle.gui_base.specs.declared.refusal.Refusal.TheVariants.{Unknown}
+use Rattle.gui_base.specs.declared.words.Length.{Length}
+use Rattle.gui_base.specs.Refusing.{first_of}
+use Rattle.scene_defs.specs.declared.Change.{Change}
+use Rattle.scene_defs.specs.declared.Change.TheVariants as change
+use Rattle.scene_defs.specs.Change.{row_set, tests}
+use Rattle.scene_defs.specs.Scene.{Scene, is_there}
+
+-- what is not there is unknown
+pub absent_first : (scene : Scene) (change : Change) (h : Handle) → row_set change ≡ Some h → is_there scene h.0 ≡ false → first_of (tests scene change) None ≡ Some Unknown
+absent_first scene (change.Pos a x y) h set off = grind (arith, set, off)
+absent_first scene change h set off = grind (arith, set, off)
+
+pub passed_there : (scene : Scene) (change : Change) (h : Handle) → row_set change ≡ Some h → first_of (tests scene change) None ≡ None → is_there scene h.0 ≡ true
+passed_there scene change h set e = elim (cases_Bool (is_there scene h.0)) [
+  | inl on ↦ on
+  | inr off ↦ let why : Some Unknown ≡ None = sym (absent_first scene change h set off) ∙ e in cc
+]
+
+-- all but a place and a size may be set of any object
+pub any_object : (scene : Scene) (c : Change) (h : Handle) → row_set c ≡ Some h → is_there scene h.0 ≡ true → ((a : Handle) (x y : ℤ) → c ≡ change.Pos a x y → ⊥) → ((a : Handle) (w t : Length) → c ≡ change.Size a w t → ⊥) → first_of (tests scene c) None ≡ None
+any_object scene (change.Pos a x y) h set on pos size = absurd (pos a x y refl)
+any_object scene (change.Size a w t) h set on pos size = absurd (size a w t refl)
+any_object scene change h set on pos size = grind (arith, set, on)

@@ -1,5 +1,6 @@
 -- Why an edit of trees is refused, whatever room there is: the first of its tests that holds.
-use Rattle.std.specs.Prelude.{ℕ, ◌+◌, Bool, not, ◌&&◌, ◌==◌, nat_lt, nat_le, if◌then◌else◌, List, [], ◌∷◌, Some, None, is_some, Result, Ok, Err}
+use Rattle.std.specs.Prelude.{ℕ, ◌+◌, Bool, not, ◌&&◌, ◌==◌, nat_lt, nat_le, if◌then◌else◌, List, [], ◌∷◌}
+use Rattle.std.specs.Prelude.{Some, None, is_some, Result, Ok, Err}
 use Rattle.std.specs.declared.option.Option.{Option}
 use Rattle.gui_base.specs.declared.intervals.TheConstants.{MAX_DEPTH}
 use Rattle.gui_base.specs.declared.refusal.Refusal.{Refusal}
@@ -54,7 +55,8 @@ too_deep f h p = (nat_lt MAX_DEPTH (depth_of f p + height (tree_at f h)), Place)
 abbrev pub inside : Forest ℕ → ℕ → ℕ → Test
 inside f h p = (has (tree_at f h) p, Place)
 
--- The tests of each edit, in order: of a new root, a new child of p, a removal, a move among siblings, and a new parent p.
+-- The tests of each edit, in order: of a new root, a new child of p, a removal, a move among siblings, and a new
+-- parent p.
 abbrev pub root_tests : Forest ℕ → ℕ → List Test
 root_tests f h = taken f h ∷ []
 

@@ -23,10 +23,6 @@ impl Bits {
         ensures below { (n : ℕ) → bit < n → self.0 < 2 ^ n → result.0 < 2 ^ n }
     {
         let one = 1 << bit;
-        Bits(if on {
-            self.0 | one
-        } else {
-            self.0 & !one
-        })
+        Bits(if on { self.0 | one } else { self.0 & !one })
     }
 }

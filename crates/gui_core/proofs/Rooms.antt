@@ -1,9 +1,9 @@
 -- That places below places keep coordinates, that values lie in their ranges, and what is seen of an object.
-use Rattle.std.proofs.Common.{◌≡◌, refl, ℕ, ◌≤◌, ℤ, pos, ◌+ℤ◌, ◌-ℤ◌, ◌&&◌, if◌then◌else◌, Bool, true, false, Some, None, Option, inl, inr, arith}
-use Rattle.std.specs.Option.{IfSome}
+use Rattle.std.proofs.Common.{◌≡◌, refl, ℕ, ◌≤◌, ℤ, pos, negsuc, ◌≤ℤ◌, ◌+ℤ◌, ◌-ℤ◌, ◌&&◌, if◌then◌else◌, Bool, true, false, Some, None, Option, inl, inr, arith}
 use Rattle.std.specs.Prelude.{unwrap_or}
 use Rattle.std.proofs.lemmas.Int.{ints}
 use Rattle.std.proofs.lemmas.Bool.{cases_Bool}
+use Rattle.std.proofs.lemmas.Bool.Decides.{nat_tests}
 use Rattle.std.specs.Int.RustNames.{unsigned_abs}
 use Rattle.gui_base.specs.declared.color.Rgb565.{Rgb565}
 use Rattle.gui_base.specs.declared.words.Length.{Length}
@@ -11,14 +11,16 @@ use Rattle.gui_base.specs.declared.words.Length.TheVariants.{Pixels}
 use Rattle.gui_base.specs.Area.{Rect, has, is_empty, common}
 use Rattle.gui_base.specs.Color.{mix}
 use Rattle.gui_base.specs.Forest.{Forest, Empty, Tree, height}
+use Rattle.gui_base.specs.declared.words.Flag.TheVariants.{Hidden}
 use Rattle.gui_base.specs.declared.words.Kind.{Kind}
-use Rattle.gui_base.specs.declared.words.Kind.TheVariants.{Screen, Layer, Obj}
+use Rattle.gui_base.specs.declared.words.Kind.TheVariants.{Screen}
 use Rattle.gui_base.specs.declared.words.Prop.{Prop}
 use Rattle.gui_base.specs.declared.words.Prop.TheVariants.{BgColor, BgOpa}
-use Rattle.scene_defs.specs.Scene.{Row, value_of, default_of}
-use Rattle.scene_defs.specs.Picture.{placed, area_at, is_root, pixels_of, rgb_of, opa_of}
-use Rattle.scene_defs.specs.Valid.{IsRow, IsSize, IsValue}
+use Rattle.scene_defs.specs.Scene.{Row, is_on, is_root, value_of, default_of}
+use Rattle.scene_defs.specs.Picture.{placed, area_at, pixels_of, rgb_of, opa_of}
+use Rattle.scene_defs.specs.Valid.{IsRow, IsOffset, IsSize, IsValue, is_local}
 use Rattle.scene_defs.specs.Walk.{clipped}
+use Rattle.scene_defs.proofs.InRange.{numbers_of}
 use Rattle.gui_color.specs.Buffer.{Buffer}
 use Rattle.gui_core.specs.Painting.{Paints, HasRoom, IsNear, filled_inside, painted_row}
 use Rattle.gui_core.proofs.Fills.{Paints-same}
@@ -42,39 +44,41 @@ room_rest place row cs rest room =
 pub room_panel : (panel : Rect) (trees : Forest Row) → panel.x1 ≡ pos 0 → panel.y1 ≡ pos 0 → height trees ≤ 16 → HasRoom panel trees
 room_panel panel trees x y low = record { low = low; left = omega (arith, ints); right = omega (arith, ints); top = omega (arith, ints); bottom = omega (arith, ints) }
 
+pub offset_bounds : (n : ℤ) → IsOffset n → (negsuc 3999 ≤ℤ n) × (n ≤ℤ pos 4000)
+offset_bounds n e = (grind (arith, ints, nat_tests, e), grind (arith, ints, nat_tests, e))
+
 -- what stands on an object has room where the object had
 pub room_below : (panel parent : Rect) (row : Row) (cs rest : Forest Row) → panel.x1 ≡ pos 0 → panel.y1 ≡ pos 0 → IsRow row → HasRoom parent (Tree row cs rest) → HasRoom (placed panel parent row) cs
 room_below panel parent row cs rest x y in_range room = elim (cases_Bool (is_root row.kind)) [
   | inl root ↦ rw root (room_panel panel cs x y (omega (arith, room.low)))
-  | inr object ↦ rw object (record {
-    low = omega (arith, room.low);
-    left = omega (arith, ints, room.left, in_range.x.least);
-    right = omega (arith, ints, room.right, in_range.x.most);
-    top = omega (arith, ints, room.top, in_range.y.least);
-    bottom = omega (arith, ints, room.bottom, in_range.y.most);
-  })
+  | inr object ↦
+      let n = numbers_of row in_range in
+      let across = offset_bounds row.x n.x in
+      let down = offset_bounds row.y n.y in
+      rw object (record {
+        low = omega (arith, room.low);
+        left = omega (arith, ints, room.left, across.0);
+        right = omega (arith, ints, room.right, across.1);
+        top = omega (arith, ints, room.top, down.0);
+        bottom = omega (arith, ints, room.bottom, down.1);
+      })
 ]
 
-set_or_default : (prop : Prop) (o : Option ℤ) (d : ℤ) → IfSome o (IsValue prop) → IsValue prop d → IsValue prop (unwrap_or o d)
+set_or_default : (prop : Prop) (o : Option ℤ) (d : ℤ) → is_local prop o ≡ true → IsValue prop d → IsValue prop (unwrap_or o d)
 set_or_default prop None d set other = other
 set_or_default prop (Some v) d set other = set
 
-default_color : (kind : Kind) → IsValue BgColor (default_of kind BgColor)
-default_color Screen = record { least = omega (arith, ints); most = omega (arith, ints) }
-default_color Layer = record { least = omega (arith, ints); most = omega (arith, ints) }
-default_color Obj = record { least = omega (arith, ints); most = omega (arith, ints) }
-
-default_opa : (kind : Kind) → IsValue BgOpa (default_of kind BgOpa)
-default_opa Screen = record { least = omega (arith, ints); most = omega (arith, ints) }
-default_opa Layer = record { least = omega (arith, ints); most = omega (arith, ints) }
-default_opa Obj = record { least = omega (arith, ints); most = omega (arith, ints) }
+default_in_range : (prop : Prop) (kind : Kind) → IsValue prop (default_of kind prop)
+default_in_range BgColor kind = refl
+default_in_range BgOpa Screen = refl
+default_in_range BgOpa kind = refl
 
 -- the values of a row in range lie in their ranges
 pub color_in_range : (row : Row) → IsRow row → IsValue BgColor (value_of row BgColor)
-color_in_range row in_range = set_or_default BgColor row.locals.bg_color (default_of row.kind BgColor) in_range.bg_color (default_color row.kind)
+color_in_range row in_range = set_or_default BgColor row.locals.bg_color (default_of row.kind BgColor) (numbers_of row in_range).bg_color (default_in_range BgColor row.kind)
 
 pub opa_in_range : (row : Row) → IsRow row → IsValue BgOpa (value_of row BgOpa)
-opa_in_range row in_range = set_or_default BgOpa row.locals.bg_opa (default_of row.kind BgOpa) in_range.bg_opa (default_opa row.kind)
+opa_in_range row in_range = set_or_default BgOpa row.locals.bg_opa (default_of row.kind BgOpa) (numbers_of row in_range).bg_opa (default_in_range BgOpa row.kind)
 
 pub area_is : (x y x1 y1 x2 y2 : ℤ) (width height : ℕ) → x1 ≡ x → y1 ≡ y → x2 ≡ (x +ℤ pos width) -ℤ pos 1 → y2 ≡ (y +ℤ pos height) -ℤ pos 1 → ◌≡◌ {A = Rect} (record { x1 = x1; y1 = y1; x2 = x2; y2 = y2 }) (area_at x y width height)
 area_is x y x1 y1 x2 y2 width height a b d e = rw (a, b, d, e) refl
@@ -83,13 +87,13 @@ pub area_same : (x y x' y' : ℤ) (w h w' h' : ℕ) → x ≡ x' → y ≡ y' �
 area_same x y x' y' w h w' h' a b d e = rw (a, b, d, e) refl
 
 pub size_small : (length : Length) → IsSize length → pixels_of length ≤ 4000
-size_small (Pixels n) small = small
+size_small (Pixels n) small = grind (arith, nat_tests, small)
 
 -- what the clip leaves of an object that is not hidden
-pub clipped_none : (clip place : Rect) (row : Row) → row.flags.hidden ≡ false → is_empty (common clip place) ≡ true → None ≡ clipped (Some clip) place row
+pub clipped_none : (clip place : Rect) (row : Row) → is_on row.flags Hidden ≡ false → is_empty (common clip place) ≡ true → None ≡ clipped (Some clip) place row
 clipped_none clip place row shown none = rw (shown, none) refl
 
-pub clipped_some : (clip place : Rect) (row : Row) → row.flags.hidden ≡ false → is_empty (common clip place) ≡ false → Some (common clip place) ≡ clipped (Some clip) place row
+pub clipped_some : (clip place : Rect) (row : Row) → is_on row.flags Hidden ≡ false → is_empty (common clip place) ≡ false → Some (common clip place) ≡ clipped (Some clip) place row
 clipped_some clip place row shown some = rw (shown, some) refl
 
 -- the fill of an object where it is seen
@@ -103,4 +107,6 @@ fill_seen old new visible place row fg opa color opacity h =
       go false b mixed under = refl
 
 pub opa_byte : (v : ℤ) → IsValue BgOpa v → unsigned_abs v ≤ 255
-opa_byte v in_range = let l = in_range.least in let m = in_range.most in omega (arith, ints)
+opa_byte v in_range =
+    let bounds : (pos 0 ≤ℤ v) × (v ≤ℤ pos 255) = (grind (arith, ints, nat_tests, in_range), grind (arith, ints, nat_tests, in_range)) in
+    omega (arith, ints, bounds)

@@ -20,7 +20,7 @@ use Rattle.gui_core.proofs.Walked.{painted-and_then, painted-same}
 
 -- the panel has room for the tree of each handle
 pub room_tree : (scene : Scene) (place : Rect) (h : ℕ) → IsValid scene → place ≡ panel_of scene → HasRoom place (tree_by (is_at h) scene.trees)
-room_tree scene place h valid is = room_panel place (tree_by (is_at h) scene.trees) (ap (λ (r : Rect). r.x1) is) (ap (λ (r : Rect). r.y1) is) (omega (arith, height-tree_by scene.trees h, valid.low))
+room_tree scene place h valid is = room_panel place (tree_by (is_at h) scene.trees) (ap (λ (r : Rect). r.x1) is) (ap (λ (r : Rect). r.y1) is) (omega (arith, height-tree_by scene.trees h, valid.trees.low))
 
 shown-painted : (scene : Scene) (x y : ℤ) (under : Rgb565) → IsShowable scene → painted_scene scene x y under ≡ painted (panel_of scene) (Some (panel_of scene)) (panel_of scene) (shown_trees scene) x y under
 unfolding painted painted_scene
@@ -42,10 +42,10 @@ three_trees : (scene : Scene) (clip : Option Rect) (x y : ℤ) (under : Rgb565) 
 three_trees scene clip x y under valid =
     let panel = panel_of scene in
     let f = scene.trees in
-    let d = distinct_once f valid.once in
+    let d = distinct_once f valid.trees.once in
     painted-and_then panel x y clip panel (root_tree f scene.active) (and_then (root_tree f 1) (root_tree f 2)) under
     ∙ (painted-and_then panel x y clip panel (root_tree f 1) (root_tree f 2) _
-    ∙ rw (root_tree-tree_by f scene.active d valid.active, root_tree-tree_by f 1 d valid.top_layer, root_tree-tree_by f 2 d valid.system_layer) refl)
+    ∙ rw (root_tree-tree_by f scene.active d valid.trees.active, root_tree-tree_by f 1 d valid.trees.top_layer, root_tree-tree_by f 2 d valid.trees.system_layer) refl)
 
 pub paints_scene : (scene : Scene) (old a b new : Buffer) (clip : Rect) → IsValid scene → clip ≡ common (panel_of scene) old.area →
     Paints old a (painted (panel_of scene) (Some clip) (panel_of scene) (tree_by (is_at scene.active) scene.trees)) →

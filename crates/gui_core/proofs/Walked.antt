@@ -3,10 +3,11 @@ use Rattle.std.proofs.Common.{◌≡◌, ◌∙◌, refl, sym, ap, ℤ, Bool, �
 use Rattle.std.proofs.lemmas.List.Sums.{fold-append}
 use Rattle.std.proofs.lemmas.Bool.{cases_Bool}
 use Rattle.gui_base.specs.declared.color.Rgb565.{Rgb565}
+use Rattle.gui_base.specs.declared.words.Flag.TheVariants.{Hidden}
 use Rattle.gui_base.specs.Area.{Rect, has, is_empty, common}
 use Rattle.gui_base.specs.Forest.{Forest, Empty, Tree, and_then}
 use Rattle.gui_base.proofs.Areas.{has-common}
-use Rattle.scene_defs.specs.Scene.{Row}
+use Rattle.scene_defs.specs.Scene.{Row, is_on}
 use Rattle.scene_defs.specs.Picture.{Seen, placed, some_area, met, holds, items_of, paint_seen, paint_item}
 use Rattle.scene_defs.specs.Walk.{clipped, seen_row, walked}
 use Rattle.scene_defs.proofs.Walks.{walked-none}
@@ -31,12 +32,12 @@ module _ (x y : ℤ) where
     | inr some ↦ rw some refl
   ]
 
-  holds-met : (clip : Option Rect) (place : Rect) → holds (met clip place) x y ≡ (holds clip x y && has place x y)
+  holds-met : (clip : Option Rect) (place : Rect) → holds (met clip (Some place)) x y ≡ (holds clip x y && has place x y)
   holds-met None place = refl
   holds-met (Some area) place = holds-some_area (common area place) ∙ has-common area place x y
 
   holds-clipped : (a b : Option Rect) (place : Rect) (row : Row) → holds a x y ≡ holds b x y → holds (clipped a place row) x y ≡ holds (clipped b place row) x y
-  holds-clipped a b place row same = elim (cases_Bool row.flags.hidden) [
+  holds-clipped a b place row same = elim (cases_Bool (is_on row.flags Hidden)) [
     | inl hidden ↦ rw hidden refl
     | inr shown ↦ rw shown (holds-met a place ∙ (ap (λ (t : Bool). t && has place x y) same ∙ sym (holds-met b place)))
   ]

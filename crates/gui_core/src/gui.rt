@@ -3,6 +3,7 @@ ghost use Rattle.std.specs.Prelude.{◌≡◌, ◌*◌, ◌<◌, ◌≤◌, ◌+
 ghost use Rattle.gui_base.specs.Corners.{rect_of};
 ghost use Rattle.gui_edge.specs.Panel.{HasSizes, Flushes, FlushFailed};
 ghost use Rattle.gui_edge.specs.Panel.Areas.{box_of};
+ghost use Rattle.gui_store.specs.Views.{scene_of};
 ghost use Rattle.gui_core.specs.Panels.{Refreshes, IsSlice, ShowsSlice, slice_box, slice_rect};
 
 use crate::Refreshed;
@@ -22,7 +23,7 @@ use std::sync::ledger::Ledger;
 pub struct Gui {
     store: Store,
     buffer: DrawBuf,
-    ghost room: { buffer.limit ≡ store.limits.width * store.limits.lines },
+    ghost room: { buffer.limit ≡ (scene_of store).limits.width * (scene_of store).limits.lines },
 }
 
 impl Gui {
@@ -78,7 +79,7 @@ impl Gui {
 
     /// The scene.
     pub fn store(&self) -> &Store
-        ensures { result.now ≡ (machine_of self.now).scene }
+        ensures { scene_of result.now ≡ (machine_of self.now).scene }
     {
         &self.store
     }

@@ -8,6 +8,7 @@ ghost use Rattle.scene_defs.specs.Picture.{panel_of, placed, pixels_of, rgb_of};
 ghost use Rattle.scene_defs.specs.Valid.{IsValid, IsOffset, IsSize, IsValue};
 ghost use Rattle.scene_defs.specs.Walk.{clipped};
 ghost use Rattle.gui_store.specs.Rows.{row_of};
+ghost use Rattle.gui_store.specs.Views.{scene_of};
 ghost use Rattle.gui_core.specs.Painting.{Paints, painted, painted_row, painted_scene, HasRoom, IsNear};
 ghost use Rattle.gui_core.specs.Spots.{visible_of};
 
@@ -33,7 +34,7 @@ struct Spot {
 
 /// Paints what is shown of a scene over the pixels of the buffer: the active screen, and then the two layers.
 pub(crate) fn paint(store: &Store, buf: &mut DrawBuf)
-    ensures { Paints buf.old buf.new (painted_scene store.now) }
+    ensures { Paints buf.old buf.new (painted_scene (scene_of store.now)) }
 {
     let limits = store.limits();
     let panel = area_from(0, 0, limits.width, limits.height);
@@ -50,12 +51,12 @@ pub(crate) fn paint(store: &Store, buf: &mut DrawBuf)
 /// Paints an object and then all below it in the tree. `parent` is the spot of its parent. Where there is no
 /// such object, nothing is painted.
 fn paint_tree(store: &Store, tree: &Tree, buf: &mut DrawBuf, panel: Area, parent: Spot, h: Handle)
-    requires tree { tree.now.forest ≡ handles_of store.now.trees }
-    requires valid { IsValid store.now }
-    requires panel { rect_of panel ≡ panel_of store.now }
-    requires room { HasRoom (rect_of parent.place) (tree_by (is_at h.0) store.now.trees) }
+    requires tree { tree.now.forest ≡ handles_of (scene_of store.now).trees }
+    requires valid { IsValid (scene_of store.now) }
+    requires panel { rect_of panel ≡ panel_of (scene_of store.now) }
+    requires room { HasRoom (rect_of parent.place) (tree_by (is_at h.0) (scene_of store.now).trees) }
     ensures { Paints buf.old buf.new (painted (rect_of panel) (Some (rect_of parent.visible))
-        (rect_of parent.place) (tree_by (is_at h.0) store.now.trees)) }
+        (rect_of parent.place) (tree_by (is_at h.0) (scene_of store.now).trees)) }
 {
     let Some(row) = store.row(h) else {
         return;

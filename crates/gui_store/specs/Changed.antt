@@ -11,4 +11,5 @@ use Rattle.gui_store.specs.Removed.{removed_by}
 pub record IsChanged (old new : Parts) (change : Change) (answer : Result (Unit {0}) Refusal) : Type 0 where
   pub answer_is : answer ≡ result_of (answer_in_range (scene_in old) change)
   pub scene : scene_in new ≡ scene_by (answer_in_range (scene_in old) change) (scene_in old) change
-  pub removed : new.tree.removed ≡ removed_by (answer_in_range (scene_in old) change) old.tree.removed (scene_in old) change
+  pub removed : new.tree.removed
+      ≡ removed_by (answer_in_range (scene_in old) change) old.tree.removed (scene_in old) change

@@ -1,7 +1,8 @@
 //! The row of an object.
 ghost use Rattle.std.specs.Prelude.{◌≡◌, ◌≤◌, ◌<◌, ℕ, ℤ};
 ghost use Rattle.gui_base.specs.Bits.{flag_bit, with_bit};
-ghost use Rattle.scene_defs.specs.Scene.{new_row, flags_of, is_on, local_of, value_of, default_of, entry_count};
+ghost use Rattle.scene_defs.specs.Scene.{new_row, flags_of, is_on};
+ghost use Rattle.scene_defs.specs.Scene.{local_of, value_of, default_of, entry_count};
 ghost use Rattle.scene_defs.specs.Change.{row_after};
 ghost use Rattle.gui_store.specs.Rows.{row_of};
 
@@ -11,7 +12,7 @@ use scene_defs::Change;
 /// The flags of a new screen or object.
 const CLICKABLE: u8 = 2;
 
-/// What an object is and what is wanted of it. Only screens and layers are roots, and all else is a plain object.
+/// What an object is and what is wanted of it. Only screens and layers are roots; all else is a plain object.
 #[derive(Clone, Copy, Debug, PartialEq, Eq)]
 pub struct Row {
     pub kind: Kind,
@@ -40,7 +41,8 @@ fn flags_of(kind: Kind) -> u8
 }
 
 impl Row {
-    /// The row of a new object: 100 by 50 pixels at its parent's corner, clickable unless it is a layer, with no local property.
+    /// The row of a new object: 100 by 50 pixels at its parent's corner, clickable unless it is a layer, with no
+    /// local property.
     pub(crate) fn new(kind: Kind) -> Row
         ensures { (h : ℕ) → row_of h result ≡ new_row h kind }
     {
@@ -73,7 +75,8 @@ impl Row {
         }
     }
 
-    /// The value of a property: what is set here, or the default. A screen is filled with white, and all else is not filled.
+    /// The value of a property: what is set here, or the default. A screen is filled with white, and all else is
+    /// not filled.
     pub fn value(&self, part: Part, prop: Prop) -> i32
         ensures { (h : ℕ) → result ≡ value_of (row_of h self.now) prop }
     {

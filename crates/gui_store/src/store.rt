@@ -36,11 +36,11 @@ pub struct Store {
     // How many properties are set.
     entries: u32,
     ghost kept: { AreKept (record {
-        tree = tree;
-        rows = rows.items;
-        active = active.0;
-        limits = bounds_of limits;
-        entries = entries;
+      tree = tree;
+      rows = rows.items;
+      active = active.0;
+      limits = bounds_of limits;
+      entries = entries;
     }) },
 }
 
@@ -69,7 +69,8 @@ fn entries_of(rows: &[Row], handles: &[Handle]) -> u32
 impl Store {
     ghost use Rattle.gui_store.specs.Views.{scene_of, removed_of, Changes};
 
-    /// The top layer, the system layer and a screen, which is active. It takes all the memory that the store will need.
+    /// The top layer, the system layer and a screen, which is active. It takes all the memory that the store will
+    /// need; NoMemory where there is too little.
     pub fn open(alloc: Global, limits: &Limits) -> Result<Store, NoMemory>
         ensures { IfOk result (λ store. scene_of store ≡ first_scene (bounds_of limits.now)) }
     {
@@ -89,14 +90,14 @@ impl Store {
         })
     }
 
-    /// Changes the scene, or answers the first refusal of this change, which leaves all as it was: Range where a number of it lies
-    /// outside its interval, and then those of each change. A new object is a plain one.
+    /// Changes the scene, or answers the first refusal of this change, which leaves all as it was: Range where a
+    /// number of it lies outside its interval, and then those of each change. A new object is a plain one.
     pub fn apply(&mut self, change: &Change) -> Result<(), Refusal>
         requires { IsChange change.now }
         ensures answer { result ≡ result_of (answer_of (scene_of self.old) change.now) }
         ensures after { scene_of self.new ≡ changed (scene_of self.old) change.now }
-        ensures removed { removed_of self.new
-            ≡ removed_by (answer_of (scene_of self.old) change.now) (removed_of self.old) (scene_of self.old) change.now }
+        ensures removed { removed_of self.new ≡ removed_by (answer_of (scene_of self.old) change.now)
+            (removed_of self.old) (scene_of self.old) change.now }
     {
         if !is_in_range(change) {
             return Err(Refusal::Range);
@@ -104,8 +105,8 @@ impl Store {
         self.carry_out(change)
     }
 
-    /// The tree of the objects. Its `last_removed` lists what the last delete with Ok has removed, each object before those
-    /// below it.
+    /// The tree of the objects. Its `last_removed` lists what the last delete with Ok has removed, each object before
+    /// those below it.
     pub fn tree(&self) -> &Tree
         ensures forest { result.now.forest ≡ handles_of (scene_of self.now).trees }
         ensures removed { result.now.removed ≡ removed_of self.now }

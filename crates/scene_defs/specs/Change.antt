@@ -1,9 +1,12 @@
 -- A change of a scene: whether it is done or why it is refused, and the scene after it.
-use Rattle.std.specs.Prelude.{ℕ, Bool, true, false, not, ◌==◌, nat_lt, if◌then◌else◌, Some, None, is_some, option_map, List, [], ◌∷◌, ◌++◌, ℤ}
+use Rattle.std.specs.Prelude.{ℕ, Bool, true, false, not, ◌==◌, nat_lt, if◌then◌else◌, Some, None, is_some}
+use Rattle.std.specs.Prelude.{option_map, List, [], ◌∷◌, ◌++◌, ℤ}
 use Rattle.std.specs.declared.option.Option.{Option}
 use Rattle.gui_base.specs.declared.Handle.{Handle}
 use Rattle.gui_base.specs.declared.limits.Pool.{Pool}
-use Rattle.gui_base.specs.declared.limits.Pool.TheVariants.{Objects, Styles, Entries, Uses, Texts, Fonts, Glyphs, Ink, Images, Pixels as PixelBytes, Handlers, Groups, Anims}
+use Rattle.gui_base.specs.declared.limits.Pool.TheVariants.{Objects, Styles, Entries, Uses, Texts, Fonts}
+use Rattle.gui_base.specs.declared.limits.Pool.TheVariants.{Glyphs, Ink, Images, Pixels as PixelBytes}
+use Rattle.gui_base.specs.declared.limits.Pool.TheVariants.{Handlers, Groups, Anims}
 use Rattle.gui_base.specs.declared.refusal.Refusal.{Refusal}
 use Rattle.gui_base.specs.declared.refusal.Refusal.TheVariants.{Range, Full}
 use Rattle.gui_base.specs.declared.words.Kind.{Kind}
@@ -11,12 +14,15 @@ use Rattle.gui_base.specs.declared.words.Kind.TheVariants.{Screen, Layer, Obj}
 use Rattle.gui_base.specs.declared.words.Prop.{Prop}
 use Rattle.gui_base.specs.declared.words.Prop.TheVariants.{BgColor, BgOpa}
 use Rattle.gui_base.specs.Bits.{flag_bit, with_bit}
-use Rattle.gui_base.specs.Forest.{Forest, and_then, leaf, added_by, cut_by, moved_by, moved_last_by, size, tree_by, parent_by, with_row_by}
-use Rattle.gui_base.specs.Refusing.{Test, first_of, absent, root_tests, child_tests, removal_tests, move_tests, parent_tests, Kind as WrongKind, Place}
+use Rattle.gui_base.specs.Forest.{Forest, and_then, leaf, added_by, cut_by, moved_by, moved_last_by, size}
+use Rattle.gui_base.specs.Forest.{tree_by, parent_by, with_row_by}
+use Rattle.gui_base.specs.Refusing.{Test, first_of, absent, root_tests, child_tests, removal_tests}
+use Rattle.gui_base.specs.Refusing.{move_tests, parent_tests, Kind as WrongKind, Place}
 use Rattle.scene_defs.specs.declared.Change.{Change}
 use Rattle.scene_defs.specs.declared.Change.TheVariants as change
 use Rattle.scene_defs.specs.Ranges.{is_in_range}
-use Rattle.scene_defs.specs.Scene.{Locals, Row, Scene, is_at, handles_of, row_at, local_of, entries_of, spare, new_row}
+use Rattle.scene_defs.specs.Scene.{Locals, Row, Scene, is_at, handles_of, row_at, local_of, entries_of}
+use Rattle.scene_defs.specs.Scene.{spare, new_row}
 
 -- the tree at h alone
 abbrev pub tree_below : Scene → ℕ → Forest Row
@@ -80,21 +86,24 @@ first_short scene change (pool ∷ others) =
 abbrev pub tests : Scene → Change → List Test
 tests scene (change.Screen n) = root_tests (handles_of scene.trees) n.0
 tests scene (change.New n p kind) = child_tests (handles_of scene.trees) n.0 p.0
-tests scene (change.Delete h) = removal_tests (handles_of scene.trees) h.0 ++ (h.0 == scene.active, Place) ∷ []
+tests scene (change.Delete h) =
+    removal_tests (handles_of scene.trees) h.0 ++ (h.0 == scene.active, Place) ∷ []
 tests scene (change.Parent h p) = parent_tests (handles_of scene.trees) h.0 p.0
 tests scene (change.Index h n) = move_tests (handles_of scene.trees) h.0
 tests scene (change.Front h) = move_tests (handles_of scene.trees) h.0
 tests scene (change.Back h) = move_tests (handles_of scene.trees) h.0
-tests scene (change.Load h) = absent (handles_of scene.trees) h.0 ∷ (not (is_screen scene h.0), WrongKind) ∷ []
+tests scene (change.Load h) =
+    absent (handles_of scene.trees) h.0 ∷ (not (is_screen scene h.0), WrongKind) ∷ []
 tests scene (change.Flag h flag on) = absent (handles_of scene.trees) h.0 ∷ []
 tests scene (change.Pos h x y) = move_tests (handles_of scene.trees) h.0
 tests scene (change.Size h width height) = move_tests (handles_of scene.trees) h.0
 tests scene (change.Local h part prop value) = absent (handles_of scene.trees) h.0 ∷ []
 
--- the first refusal of a change whose numbers lie in their intervals: the first test that holds, or the first pool
--- without room; none where it is done
+-- the first refusal of a change whose numbers lie in their intervals: the first test that holds, or the first
+-- pool without room; none where it is done
 abbrev pub answer_in_range : Scene → Change → Option Refusal
-answer_in_range scene change = first_of (tests scene change) (option_map Full (first_short scene change pools))
+answer_in_range scene change =
+    first_of (tests scene change) (option_map Full (first_short scene change pools))
 
 -- the first refusal of a change, or none where it is done
 abbrev pub answer_of : Scene → Change → Option Refusal
@@ -167,8 +176,10 @@ scene_after scene (change.Delete h) = record scene { trees = without scene.trees
 scene_after scene (change.Parent h p) = record scene { trees = moved_last scene.trees h.0 p.0 }
 scene_after scene (change.Index h n) =
     record scene { trees = at_index_below (parent_row scene h.0) scene.trees h.0 n }
-scene_after scene (change.Front h) = record scene { trees = last_below (parent_row scene h.0) scene.trees h.0 }
-scene_after scene (change.Back h) = record scene { trees = at_index_below (parent_row scene h.0) scene.trees h.0 0 }
+scene_after scene (change.Front h) =
+    record scene { trees = last_below (parent_row scene h.0) scene.trees h.0 }
+scene_after scene (change.Back h) =
+    record scene { trees = at_index_below (parent_row scene h.0) scene.trees h.0 0 }
 scene_after scene (change.Load h) = record scene { active = h.0 }
 scene_after scene change = with_row_set scene (row_set change) (row_after change)
 

@@ -8,7 +8,8 @@ use Rattle.gui_base.specs.declared.refusal.Refusal.TheVariants.{Range, Full}
 use Rattle.scene_defs.specs.declared.Change.{Change}
 use Rattle.scene_defs.specs.Ranges.{is_in_range}
 use Rattle.scene_defs.specs.Scene.{Scene, spare}
-use Rattle.scene_defs.specs.Change.{answer_of, need_of, freed_by, changed, scene_after, row_set, row_after, with_row}
+use Rattle.scene_defs.specs.Change.{answer_of, need_of, freed_by, changed, scene_after, row_set, row_after}
+use Rattle.scene_defs.specs.Change.{with_row}
 use Rattle.scene_defs.specs.Valid.{IsValid, IsChange}
 
 abbrev pub ChangeKeepsLimits : Type 0
@@ -40,8 +41,10 @@ DoneWithRoom =
 -- a change that is done takes from each pool the slots that it needs, and gives back those that it frees
 abbrev pub SlotsAddUp : Type 0
 SlotsAddUp =
-    (scene : Scene) (change : Change) (pool : Pool) → IsValid scene → IsChange change → answer_of scene change ≡ None →
-    spare (changed scene change) pool + need_of scene change pool ≡ spare scene pool + freed_by scene change pool
+    (scene : Scene) (change : Change) (pool : Pool) → IsValid scene → IsChange change →
+    answer_of scene change ≡ None →
+    spare (changed scene change) pool + need_of scene change pool
+    ≡ spare scene pool + freed_by scene change pool
 
 abbrev pub with_limits : Scene → Bounds → Scene
 with_limits scene limits = record scene { limits = limits }
@@ -49,7 +52,8 @@ with_limits scene limits = record scene { limits = limits }
 -- every other refusal comes whatever the limits are
 abbrev pub RefusedWhateverLimits : Type 0
 RefusedWhateverLimits =
-    (scene : Scene) (limits : Bounds) (change : Change) (refusal : Refusal) → ((pool : Pool) → refusal ≢ Full pool) →
+    (scene : Scene) (limits : Bounds) (change : Change) (refusal : Refusal) →
+    ((pool : Pool) → refusal ≢ Full pool) →
     answer_of scene change ≡ Some refusal → answer_of (with_limits scene limits) change ≡ Some refusal
 
 -- a change that sets a row does nothing else

@@ -1,5 +1,6 @@
 -- How a scene is painted: back to front, each pixel by itself.
-use Rattle.std.specs.Prelude.{ℕ, zero, suc, ◌*◌, ◌/◌, ◌%◌, Bool, false, if◌then◌else◌, Some, None, is_some, List, [], ◌∷◌, ◌++◌, fold, map, ℤ, pos, ◌+ℤ◌, ◌-ℤ◌}
+use Rattle.std.specs.Prelude.{ℕ, zero, suc, ◌*◌, ◌/◌, ◌%◌, Bool, false, if◌then◌else◌, Some, None, is_some}
+use Rattle.std.specs.Prelude.{List, [], ◌∷◌, ◌++◌, fold, map, ℤ, pos, ◌+ℤ◌, ◌-ℤ◌}
 use Rattle.std.specs.declared.option.Option.{Option}
 use Rattle.std.specs.List.{filter}
 use Rattle.std.specs.Int.RustNames.{unsigned_abs}
@@ -16,7 +17,8 @@ use Rattle.scene_defs.specs.Scene.{Row, Scene, is_at, is_on, is_root, handles_of
 
 -- the area from a corner with these sizes in pixels
 abbrev pub area_at : ℤ → ℤ → ℕ → ℕ → Rect
-area_at x y width height = record { x1 = x; y1 = y; x2 = (x +ℤ pos width) -ℤ pos 1; y2 = (y +ℤ pos height) -ℤ pos 1 }
+area_at x y width height =
+    record { x1 = x; y1 = y; x2 = (x +ℤ pos width) -ℤ pos 1; y2 = (y +ℤ pos height) -ℤ pos 1 }
 
 abbrev pub panel_of : Scene → Rect
 panel_of scene = area_at (pos 0) (pos 0) scene.limits.width scene.limits.height
@@ -24,7 +26,7 @@ panel_of scene = area_at (pos 0) (pos 0) scene.limits.width scene.limits.height
 abbrev pub pixels_of : Length → ℕ
 pixels_of (Pixels n) = n
 
--- an object's area, from its parent's: a root fills the panel, and any other stands at its wanted place in its parent
+-- an object's area, from its parent's: a root fills the panel, and any other has its wanted place in its parent
 abbrev pub placed : Rect → Rect → Row → Rect
 placed panel parent row =
     if is_root row.kind then panel
@@ -77,10 +79,11 @@ root_tree (Tree row cs rest) h = if is_at h row then Tree row cs Empty else root
 -- the active screen, and the layers above it
 abbrev pub shown_trees : Scene → Forest Row
 shown_trees scene =
-    and_then (root_tree scene.trees scene.active) (and_then (root_tree scene.trees 1) (root_tree scene.trees 2))
+    and_then (root_tree scene.trees scene.active)
+    (and_then (root_tree scene.trees 1) (root_tree scene.trees 2))
 
--- what is seen of h: its area met with those of all ancestors and with the panel; nothing where it, or one above it,
--- is hidden or not shown
+-- what is seen of h: its area met with those of all ancestors and with the panel; nothing where it, or one above
+-- it, is hidden or not shown
 abbrev pub visible : Scene → ℕ → Option Rect
 visible scene h = visible_in (place scene) (Some (panel_of scene)) (shown_trees scene) h
 

@@ -1,5 +1,6 @@
 -- A scene is trees of rows, the screen that is active, and the limits.
-use Rattle.std.specs.Prelude.{ℕ, ◌+◌, ◌-◌, ◌^◌, Bool, true, false, ◌==◌, if◌then◌else◌, Some, None, is_some, unwrap_or, pos, ℤ}
+use Rattle.std.specs.Prelude.{ℕ, ◌+◌, ◌-◌, ◌^◌, Bool, true, false, ◌==◌, if◌then◌else◌, Some, None, is_some}
+use Rattle.std.specs.Prelude.{unwrap_or, pos, ℤ}
 use Rattle.std.specs.declared.option.Option.{Option}
 use Rattle.gui_base.specs.Bits.{has_bit, flag_bit}
 use Rattle.gui_base.specs.Forest.{Forest, Empty, Tree, map_forest, size, has, has_by}
@@ -13,7 +14,9 @@ use Rattle.gui_base.specs.declared.words.Length.TheVariants.{Pixels}
 use Rattle.gui_base.specs.declared.words.Prop.{Prop}
 use Rattle.gui_base.specs.declared.words.Prop.TheVariants.{BgColor, BgOpa}
 use Rattle.gui_base.specs.declared.limits.Pool.{Pool}
-use Rattle.gui_base.specs.declared.limits.Pool.TheVariants.{Objects, Styles, Entries, Uses, Texts, Fonts, Glyphs, Ink, Images, Pixels as PixelBytes, Handlers, Groups, Anims}
+use Rattle.gui_base.specs.declared.limits.Pool.TheVariants.{Objects, Styles, Entries, Uses, Texts, Fonts}
+use Rattle.gui_base.specs.declared.limits.Pool.TheVariants.{Glyphs, Ink, Images, Pixels as PixelBytes}
+use Rattle.gui_base.specs.declared.limits.Pool.TheVariants.{Handlers, Groups, Anims}
 
 -- the properties that are set locally
 pub record Locals : Type 0 where
@@ -137,7 +140,8 @@ new_row handle kind = record {
 
 -- two layers and a screen, which is active
 abbrev pub first_trees : Forest Row
-first_trees = Tree (new_row 1 Layer) Empty (Tree (new_row 2 Layer) Empty (Tree (new_row 3 Screen) Empty Empty))
+first_trees =
+    Tree (new_row 1 Layer) Empty (Tree (new_row 2 Layer) Empty (Tree (new_row 3 Screen) Empty Empty))
 
 abbrev pub first_scene : Bounds → Scene
 first_scene limits = record { trees = first_trees; active = 3; limits = limits }

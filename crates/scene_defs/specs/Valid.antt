@@ -1,5 +1,6 @@
 -- Scenes and changes that are in order. Each fact about numbers and kinds is that a test is true.
-use Rattle.std.specs.Prelude.{◌≡◌, ◌≢◌, ◌≤◌, ℕ, Bool, true, false, not, ◌&&◌, ◌||◌, ◌==◌, if◌then◌else◌, Some, None, ℤ}
+use Rattle.std.specs.Prelude.{◌≡◌, ◌≢◌, ◌≤◌, ℕ, Bool, true, false, not, ◌&&◌, ◌||◌, ◌==◌, if◌then◌else◌}
+use Rattle.std.specs.Prelude.{Some, None, ℤ}
 use Rattle.std.specs.declared.option.Option.{Option}
 use Rattle.std.specs.List.{list_any}
 use Rattle.gui_base.specs.declared.intervals.TheConstants.{HANDLE, COORDINATE, MAX_DEPTH}
@@ -51,7 +52,8 @@ is_layer_kind Obj = false
 
 -- whether a row is that of a layer at 1 and 2, and that of a screen elsewhere
 abbrev pub is_root_row : Row → Bool
-is_root_row row = if row.handle == 1 || row.handle == 2 then is_layer_kind row.kind else is_screen_kind row.kind
+is_root_row row =
+    if row.handle == 1 || row.handle == 2 then is_layer_kind row.kind else is_screen_kind row.kind
 
 abbrev pub is_object : Row → Bool
 is_object row = not (is_root row.kind)
@@ -106,4 +108,5 @@ abbrev pub FirstIsValid : Type 0
 FirstIsValid = (limits : Bounds) → 3 ≤ limits.objects → IsValid (first_scene limits)
 
 abbrev pub ChangeKeepsValid : Type 0
-ChangeKeepsValid = (scene : Scene) (change : Change) → IsValid scene → IsChange change → IsValid (changed scene change)
+ChangeKeepsValid =
+    (scene : Scene) (change : Change) → IsValid scene → IsChange change → IsValid (changed scene change)

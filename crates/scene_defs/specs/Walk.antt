@@ -16,10 +16,11 @@ clipped clip place row = if is_on row.flags Hidden then None else met clip (Some
 -- an object by itself, where something is seen of it
 abbrev pub seen_row : Option Rect → Rect → Row → List Seen
 seen_row None place row = []
-seen_row (Some area) place row = record { handle = row.handle; visible = Some area; items = items_of place row } ∷ []
+seen_row (Some area) place row =
+    record { handle = row.handle; visible = Some area; items = items_of place row } ∷ []
 
--- the objects of these trees that are seen, each before those below it; `parent` is the area of the trees' parent, and
--- the clip is what is seen of it
+-- the objects of these trees that are seen, each before those below it; `parent` is the area of the trees'
+-- parent, and the clip is what is seen of it
 abbrev pub walked : Rect → Option Rect → Rect → Forest Row → List Seen
 walked panel clip parent Empty = []
 walked panel clip parent (Tree row cs rest) =
@@ -50,7 +51,8 @@ IsSeenInside area s = IsSomeAnd s.visible (λ v. (is_empty v ≡ false) × Cover
 -- a walk goes nowhere outside its clip
 abbrev pub WalkedInside : Type 0
 WalkedInside =
-    (panel clip parent : Rect) (trees : Forest Row) → All (IsSeenInside clip) (walked panel (Some clip) parent trees)
+    (panel clip parent : Rect) (trees : Forest Row) →
+    All (IsSeenInside clip) (walked panel (Some clip) parent trees)
 
 -- all that is shown is seen inside the panel
 abbrev pub ShownInside : Type 0

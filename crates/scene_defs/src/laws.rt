@@ -1,5 +1,7 @@
 //! What follows from the definitions. Each function does nothing: its contract is a law, which is proved.
-ghost use Rattle.scene_defs.specs.Laws.{ChangeKeepsLimits, RefusedChangesNothing, RangeComesFirst, FullWithoutRoom, DoneWithRoom, RefusedWhateverLimits, SetsRowAlone, SlotsAddUp};
+ghost use Rattle.scene_defs.specs.Laws.{ChangeKeepsLimits, RefusedChangesNothing, RangeComesFirst};
+ghost use Rattle.scene_defs.specs.Laws.{FullWithoutRoom, DoneWithRoom, RefusedWhateverLimits};
+ghost use Rattle.scene_defs.specs.Laws.{SetsRowAlone, SlotsAddUp};
 ghost use Rattle.scene_defs.specs.Valid.{FirstIsValid, ChangeKeepsValid, ValidIsShowable};
 ghost use Rattle.scene_defs.specs.Walk.{ShownByWalk, NothingBelowNothing, WalkedInside, ShownInside};
 
@@ -14,8 +16,8 @@ pub fn refusals_change_nothing()
     ensures range { RangeComesFirst }
 {}
 
-/// A change is refused for a full pool where it needs more slots than are free. All other refusals come before, and do not
-/// look at the limits.
+/// A change is refused for a full pool where it needs more slots than are free. All other refusals come before,
+/// and do not look at the limits.
 pub fn full_by_count()
     ensures without_room { FullWithoutRoom }
     ensures with_room { DoneWithRoom }

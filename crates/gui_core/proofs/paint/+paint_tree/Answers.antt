@@ -8,6 +8,7 @@ use Rattle.scene_defs.specs.Scene.{Row, handles_of, is_at, row_by}
 use Rattle.scene_defs.specs.Picture.{placed}
 use Rattle.scene_defs.proofs.Distinct.{IsDistinct, distinct_once}
 use Rattle.gui_store.specs.Rows.{row_of}
+use Rattle.gui_store.specs.Views.{scene_of}
 use Rattle.gui_core.specs.Painting.{Paints, painted, HasRoom}
 use Rattle.gui_core.proofs.Fills.{Paints-self}
 use Rattle.gui_core.proofs.Parts.{trees_from, first_of, tree_by-out, tree_by-row, first_child_is}
@@ -17,25 +18,25 @@ use Rattle.gui_core.proofs.Walked.{painted-none}
 use Rattle.gui_core.proofs.paint.+paint_tree.Goals as goal
 use Rattle.gui_core.proofs.paint.+paint_tree.Goals.{In-Some, In-Some-next, After-first_child-next, After-next-next}
 
-line : (t : ℕ) (c : In-Some t) → row_by (is_at c.args.h.0) c.args.store.now.trees ≡ Some (row_of c.args.h.0 c.in-Some.row.now)
+line : (t : ℕ) (c : In-Some t) → row_by (is_at c.args.h.0) (scene_of c.args.store.now).trees ≡ Some (row_of c.args.h.0 c.in-Some.row.now)
 line t c = sym c.in-Some.ensures.value
 
-distinct : (t : ℕ) (c : After-first_child-next t) → IsDistinct c.args.store.now.trees
-distinct t c = distinct_once c.args.store.now.trees c.requires.valid.once
+distinct : (t : ℕ) (c : After-first_child-next t) → IsDistinct (scene_of c.args.store.now).trees
+distinct t c = distinct_once (scene_of c.args.store.now).trees c.requires.valid.trees.once
 
-first_is : (t : ℕ) (c : After-first_child-next t) → c.first_child-next.result ≡ first_of (children_by (is_at c.args.h.0) c.args.store.now.trees)
+first_is : (t : ℕ) (c : After-first_child-next t) → c.first_child-next.result ≡ first_of (children_by (is_at c.args.h.0) (scene_of c.args.store.now).trees)
 first_is t c =
     c.first_child-next.ensures
-    ∙ (ap (λ (f : Forest ℕ). option_map as_handle (first_root (children_of f c.args.h.0))) c.requires.tree ∙ first_child_is c.args.store.now.trees c.args.h.0)
+    ∙ (ap (λ (f : Forest ℕ). option_map as_handle (first_root (children_of f c.args.h.0))) c.requires.tree ∙ first_child_is (scene_of c.args.store.now).trees c.args.h.0)
 
 pub returns-in_default : goal.returns-in_default
 returns-in_default t c =
-    let tree = tree_by-out c.args.store.now.trees c.args.h.0 (sym c.in_default.ensures.value) in
+    let tree = tree_by-out (scene_of c.args.store.now).trees c.args.h.0 (sym c.in_default.ensures.value) in
     Paints-self c.args.buf.now _ (λ x y under. rw tree (painted-none (rect_of c.args.panel) x y (Some (rect_of c.args.parent.visible)) (rect_of c.args.parent.place) under))
 
 pub returns-in_default-spot_of : goal.returns-in_default-spot_of
 returns-in_default-spot_of t c =
-    let f = c.args.store.now.trees in
+    let f = (scene_of c.args.store.now).trees in
     let h = c.args.h.0 in
     let row = row_of h c.in-Some.row.now in
     let tree = tree_by-row f h row (line t (goal.at.returns-in_default-spot_of t c).In-Some) in
@@ -45,7 +46,7 @@ returns-in_default-spot_of t c =
 pub loop-next-init : goal.loop-next-init
 loop-next-init t c =
     let d = (goal.at.loop-next-init t c).After-first_child-next in
-    let f = c.args.store.now.trees in
+    let f = (scene_of c.args.store.now).trees in
     let h = c.args.h.0 in
     let row = row_of h c.in-Some.row.now in
     let cs = children_by (is_at h) f in
@@ -58,19 +59,19 @@ loop-next-init t c =
     (subst (λ (place : Rect). HasRoom place cs) (sym (c.in-Some-spot_of.ensures.place h)) room)
 
 painting : (t : ℕ) (c : In-Some-next t) →
-    IsPainting c.args.store.now.trees c.args.h.0 (rect_of c.args.panel) (Some (rect_of c.in-Some-spot_of.spot.visible)) (rect_of c.in-Some-spot_of.spot.place) c.fill_spot.new.buf c.loop-next.buf c.first_child-next.result (Some c.in-Some-next.child)
+    IsPainting (scene_of c.args.store.now).trees c.args.h.0 (rect_of c.args.panel) (Some (rect_of c.in-Some-spot_of.spot.visible)) (rect_of c.in-Some-spot_of.spot.place) c.fill_spot.new.buf c.loop-next.buf c.first_child-next.result (Some c.in-Some-next.child)
 painting t c =
-    subst (IsPainting c.args.store.now.trees c.args.h.0 (rect_of c.args.panel) (Some (rect_of c.in-Some-spot_of.spot.visible)) (rect_of c.in-Some-spot_of.spot.place) c.fill_spot.new.buf c.loop-next.buf c.first_child-next.result)
+    subst (IsPainting (scene_of c.args.store.now).trees c.args.h.0 (rect_of c.args.panel) (Some (rect_of c.in-Some-spot_of.spot.visible)) (rect_of c.in-Some-spot_of.spot.place) c.fill_spot.new.buf c.loop-next.buf c.first_child-next.result)
     c.in-Some-next.is c.loop-next.invariant
 
 pub paint_tree-requires : goal.paint_tree-requires
 paint_tree-requires t c =
     let d = (goal.at.paint_tree-requires t c).After-first_child-next in
     let e = painting t (goal.at.paint_tree-requires t c).In-Some-next in
-    let smaller = child_smaller c.args.store.now.trees c.args.h.0 _ _ _ _ _ _ c.in-Some-next.child (distinct t d) e in
-    (search rules, (c.requires.tree, (c.requires.valid, (c.requires.panel, child_room c.args.store.now.trees c.args.h.0 _ _ _ _ _ _ c.in-Some-next.child (distinct t d) e))))
+    let smaller = child_smaller (scene_of c.args.store.now).trees c.args.h.0 _ _ _ _ _ _ c.in-Some-next.child (distinct t d) e in
+    (search rules, (c.requires.tree, (c.requires.valid, (c.requires.panel, child_room (scene_of c.args.store.now).trees c.args.h.0 _ _ _ _ _ _ c.in-Some-next.child (distinct t d) e))))
 
-next_is : (t : ℕ) (c : After-next-next t) → c.next-next.result ≡ option_map as_handle (next_to (handles_of c.args.store.now.trees) c.in-Some-next.child.0)
+next_is : (t : ℕ) (c : After-next-next t) → c.next-next.result ≡ option_map as_handle (next_to (handles_of (scene_of c.args.store.now).trees) c.in-Some-next.child.0)
 next_is t c = c.next-next.ensures ∙ ap (λ (f : Forest ℕ). option_map as_handle (next_to f c.in-Some-next.child.0)) c.requires.tree
 
 pub loop-next-smaller : goal.loop-next-smaller
@@ -78,7 +79,7 @@ loop-next-smaller t c =
     let d = (goal.at.loop-next-smaller t c).After-first_child-next in
     let n = (goal.at.loop-next-smaller t c).After-next-next in
     let e = painting t (goal.at.loop-next-smaller t c).In-Some-next in
-    let f = c.args.store.now.trees in
+    let f = (scene_of c.args.store.now).trees in
     subst (λ (next : Option Handle). size (trees_from c.next-next.result f) < size (trees_from next f)) (sym c.in-Some-next.is)
     (fewer_left f c.args.h.0 _ _ _ _ _ _ c.in-Some-next.child (distinct t d) e c.paint_tree.new.buf c.next-next.result c.paint_tree.ensures (next_is t n))
 
@@ -87,12 +88,12 @@ loop-next-preserved t c =
     let d = (goal.at.loop-next-preserved t c).After-first_child-next in
     let n = (goal.at.loop-next-preserved t c).After-next-next in
     let e = painting t (goal.at.loop-next-preserved t c).In-Some-next in
-    painting_goes_on c.args.store.now.trees c.args.h.0 _ _ _ _ _ _ c.in-Some-next.child (distinct t d) e c.paint_tree.new.buf c.next-next.result c.paint_tree.ensures (next_is t n)
+    painting_goes_on (scene_of c.args.store.now).trees c.args.h.0 _ _ _ _ _ _ c.in-Some-next.child (distinct t d) e c.paint_tree.new.buf c.next-next.result c.paint_tree.ensures (next_is t n)
 
 pub returns : goal.returns
 returns t c =
     let d = (goal.at.returns t c).After-first_child-next in
-    let f = c.args.store.now.trees in
+    let f = (scene_of c.args.store.now).trees in
     let h = c.args.h.0 in
     let row = row_of h c.in-Some.row.now in
     let cs = children_by (is_at h) f in

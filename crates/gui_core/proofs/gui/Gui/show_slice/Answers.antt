@@ -5,13 +5,14 @@ use Rattle.gui_base.specs.Color.{black}
 use Rattle.gui_base.specs.Corners.{rect_of}
 use Rattle.gui_base.specs.Limits.{Bounds}
 use Rattle.gui_edge.specs.Panel.Areas.{box_of}
+use Rattle.gui_store.specs.Views.{scene_of}
 use Rattle.gui_core.specs.Panels.{slice_box, slice_rect}
 use Rattle.gui_core.proofs.Slices.{scene_slice}
 use Rattle.gui_core.proofs.gui.Gui.show_slice.Goals as goal
 
 pub returns-clause-ok : goal.returns-clause-ok
 returns-clause-ok g c =
-    let scene = c.args.self.now.store in
+    let scene = scene_of c.args.self.now.store in
     let from = c.args.from in
     let height = c.args.height in
     let width : c.limits.result.now.width ≡ scene.limits.width = ap (λ (b : Bounds). b.width) c.limits.ensures in

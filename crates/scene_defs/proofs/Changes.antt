@@ -1,6 +1,6 @@
 -- The laws of changes: refusals, limits, and changes of one row.
-use Rattle.std.proofs.Common.{◌≡◌, ◌≢◌, ◌<◌, ◌≤◌, ◌⊎◌, ◌∙◌, ap, subst, ℕ, Bool, true, false, Option, Some, None, is_some, option_map, List, [], ◌∷◌, refl, arith, inl, inr}
-use Rattle.std.specs.Prelude.{if◌then◌else◌, nat_lt}
+use Rattle.std.proofs.Common.{◌≡◌, ◌≢◌, ◌<◌, ◌≤◌, ◌⊎◌, ap, subst, Bool, true, false, Option, Some, None, is_some, option_map, List, [], ◌∷◌, refl, arith, inl, inr}
+use Rattle.std.specs.Prelude.{if◌then◌else◌}
 use Rattle.std.proofs.lemmas.Bool.{cases_Bool, ltb-true, ltb-false}
 use Rattle.std.proofs.lemmas.Bool.Decides.{nat_tests}
 use Rattle.gui_base.specs.declared.Handle.{Handle}
@@ -9,7 +9,7 @@ use Rattle.gui_base.specs.declared.limits.Pool.TheVariants.{Objects, Styles, Ent
 use Rattle.gui_base.specs.declared.refusal.Refusal.{Refusal}
 use Rattle.gui_base.specs.declared.refusal.Refusal.TheVariants.{Range, Full}
 use Rattle.gui_base.specs.Limits.{Bounds}
-use Rattle.gui_base.specs.Refusing.{Reason, Unknown, Taken, Kind, Place, Test, refusal_of, first_of}
+use Rattle.gui_base.specs.Refusing.{Reason, Unknown, Test, refusal_of, first_of}
 use Rattle.scene_defs.specs.declared.Change.{Change}
 use Rattle.scene_defs.specs.declared.Change.TheVariants as change
 use Rattle.scene_defs.specs.Scene.{Scene, spare}

@@ -1,6 +1,6 @@
 -- Rows whose handles stand once each.
-use Rattle.std.proofs.Common.{◌≡◌, ◌≢◌, ◌⊎◌, ◌≤◌, ◌∙◌, ap, ℕ, ◌+◌, Bool, true, false, cond, eqb, ◌||◌, refl, inl, inr, arith, eq-eqb}
-use Rattle.std.proofs.lemmas.Bool.{cases_Bool, or_cases, or_from, or_left, or_right, both_ways, false_from_ne_true, eqb-true, false≢true}
+use Rattle.std.proofs.Common.{◌≡◌, ◌≢◌, ◌≤◌, ◌∙◌, ℕ, ◌+◌, Bool, true, false, cond, eqb, ◌||◌, refl, inl, inr, arith, eq-eqb}
+use Rattle.std.proofs.lemmas.Bool.{cases_Bool, or_from, or_left, or_right, false≢true}
 use Rattle.std.proofs.lemmas.Bool.Decides.{nat_tests}
 use Rattle.gui_base.specs.Forest.{Forest, Empty, Tree, and_then, has_by, count, StandsOnce}
 use Rattle.scene_defs.specs.Scene.{Row, is_at, handles_of}

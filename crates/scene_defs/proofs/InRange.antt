@@ -9,7 +9,7 @@ use Rattle.scene_defs.specs.declared.Change.TheVariants as change
 use Rattle.scene_defs.specs.Change.{row_after}
 use Rattle.scene_defs.specs.Ranges.{is_size, is_value, is_in_range}
 use Rattle.scene_defs.specs.Scene.{Row}
-use Rattle.scene_defs.specs.Valid.{IsOffset, IsSize, IsRow, is_row, is_local}
+use Rattle.scene_defs.specs.Valid.{IsOffset, IsSize, IsRow, is_local}
 
 -- the numbers of a row in range, one by one
 pub record Numbers (row : Row) : Type 0 where

@@ -1,9 +1,9 @@
 -- What holds of each row, and of the roots, as trees change.
-use Rattle.std.proofs.Common.{◌≡◌, ◌≢◌, ◌⊎◌, ℕ, zero, suc, Bool, true, false, ◌&&◌, None, is_some, refl, arith}
+use Rattle.std.proofs.Common.{◌≡◌, ◌≢◌, ℕ, zero, suc, Bool, true, false, ◌&&◌, None, is_some, refl, arith}
 use Rattle.std.proofs.lemmas.Bool.Decides.{nat_tests}
 use Rattle.gui_base.specs.Forest.{Forest, Empty, Tree, all_by, and_then, put_at, cut_by, tree_by, parent_by, with_children_by, with_row_by}
-use Rattle.scene_defs.specs.Scene.{Row, is_at, row_by, is_root}
-use Rattle.scene_defs.specs.Change.{has_screen, is_screen_kind}
+use Rattle.scene_defs.specs.Scene.{Row, is_at, row_by}
+use Rattle.scene_defs.specs.Change.{has_screen}
 use Rattle.scene_defs.specs.Valid.{is_object, have_kinds, is_root_at}
 use Rattle.scene_defs.proofs.Distinct.{there, IsDistinct}
 

@@ -1,30 +1,28 @@
 -- A change keeps a scene in order, and its slots add up.
-use Rattle.std.proofs.Common.{◌≡◌, ◌≢◌, ◌≤◌, ◌⊎◌, ◌∙◌, sym, ap, ℕ, ◌+◌, ◌-◌, max, Bool, true, false, not, ◌&&◌, cond, eqb, Option, Some, None, is_some, refl, arith, inl, inr}
-use Rattle.std.specs.Prelude.{if◌then◌else◌, ◌||◌, ◌==◌, nat_le}
+use Rattle.std.proofs.Common.{◌≡◌, ◌≢◌, ◌≤◌, ◌⊎◌, ◌∙◌, sym, ap, ℕ, ◌+◌, max, Bool, true, false, cond, eqb, Option, Some, None, is_some, refl, arith, inl, inr}
+use Rattle.std.specs.Prelude.{if◌then◌else◌}
 use Rattle.std.proofs.lemmas.Bool.{cases_Bool, not-false, ltb-false, both_ways, and_parts}
-use Rattle.std.proofs.lemmas.Bool.Decides.{nat_tests, eqb_tells}
+use Rattle.std.proofs.lemmas.Bool.Decides.{nat_tests}
 use Rattle.gui_base.specs.declared.Handle.{Handle}
 use Rattle.gui_base.specs.declared.intervals.TheConstants.{NEW_HANDLE, MAX_DEPTH}
 use Rattle.gui_base.specs.declared.limits.Pool.{Pool}
 use Rattle.gui_base.specs.declared.limits.Pool.TheVariants.{Objects, Entries}
 use Rattle.gui_base.specs.declared.refusal.Refusal.{Refusal}
-use Rattle.gui_base.specs.declared.refusal.Refusal.TheVariants.{Unknown, Taken, Place, Kind as WrongKind}
 use Rattle.gui_base.specs.declared.words.Kind.{Kind}
-use Rattle.gui_base.specs.declared.words.Kind.TheVariants.{Screen, Layer, Obj}
-use Rattle.gui_base.specs.declared.words.Prop.{Prop}
+use Rattle.gui_base.specs.declared.words.Kind.TheVariants.{Screen}
 use Rattle.gui_base.specs.declared.words.Prop.TheVariants.{BgColor, BgOpa}
-use Rattle.gui_base.specs.Forest.{Forest, Empty, Tree, all_by, and_then, put_at, leaf, has, size, depth_by, depth_of, height, parent_by, with_children_by, with_row_by, count, StandsOnce}
+use Rattle.gui_base.specs.Forest.{Forest, Empty, Tree, all_by, and_then, put_at, leaf, size, depth_by, height, with_children_by, with_row_by, StandsOnce}
 use Rattle.gui_base.specs.Intervals.{is_counted}
 use Rattle.gui_base.specs.Limits.{Bounds}
 use Rattle.scene_defs.specs.declared.Change.{Change}
 use Rattle.scene_defs.specs.declared.Change.TheVariants as change
-use Rattle.scene_defs.specs.Scene.{Row, Scene, handle_of, is_at, is_root, is_there, handles_of, row_at, row_by, local_of, entry_count, entries_of, spare, new_row}
-use Rattle.scene_defs.specs.Change.{pools, first_short, tests, answer_of, answer_in_range, need_of, freed_by, changed, scene_after, tree_below, parent_row, sets, is_screen, with_screen, with_object, without, last_below, at_index_below, row_after, row_set, with_row}
+use Rattle.scene_defs.specs.Scene.{Row, Scene, is_at, is_root, handles_of, row_at, row_by, entry_count, entries_of, spare, new_row}
+use Rattle.scene_defs.specs.Change.{pools, first_short, tests, answer_of, answer_in_range, need_of, freed_by, scene_after, tree_below, parent_row, is_screen, with_screen, with_object, without, last_below, at_index_below, row_after, row_set, with_row}
 use Rattle.scene_defs.specs.Laws.{SlotsAddUp, with_limits}
 use Rattle.scene_defs.specs.Ranges.{is_in_range}
 use Rattle.scene_defs.specs.Valid.{is_row, is_object, have_kinds, is_root_at, AreTrees, AreRows, FitPools, IsValid, IsChange, FirstIsValid, ChangeKeepsValid, ValidIsShowable}
 use Rattle.scene_defs.proofs.Changes.{Fail, tests-fail, range_done, room_in_range, after_keeps}
-use Rattle.scene_defs.proofs.Distinct.{there, IsDistinct, distinct_once, count-off}
+use Rattle.scene_defs.proofs.Distinct.{there, distinct_once, count-off}
 use Rattle.scene_defs.proofs.Handles.{has-handles, depth-handles, parent-handles, below-handles, height-handles}
 use Rattle.scene_defs.proofs.Heights.{height-and_then, height-put_at, height-cut, height-with_row, depth-height, depth-cut, height-with_children, parent-depth, there-cut, parent-left}
 use Rattle.scene_defs.proofs.InRange.{row_in_range}

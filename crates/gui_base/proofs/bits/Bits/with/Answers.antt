@@ -1,4 +1,4 @@
-use Rattle.std.proofs.Common.{◌≡◌, ◌∙◌, ◌<◌, ap, ℕ, ◌^◌, ◌-◌, Bool, true, false, refl, inl, inr, arith, nat_eq, bit_and, bit_or, w16}
+use Rattle.std.proofs.Common.{◌≡◌, ◌∙◌, ◌<◌, ap, ℕ, ◌^◌, Bool, true, false, refl, inl, inr, nat_eq, w16}
 use Rattle.std.specs.Prelude.{if◌then◌else◌}
 use Rattle.std.specs.Int.{bit_at}
 use Rattle.std.proofs.Math.Pow.{pow-lt}

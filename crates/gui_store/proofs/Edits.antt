@@ -13,10 +13,10 @@ use Rattle.gui_base.specs.declared.refusal.Refusal.TheVariants.{Full}
 use Rattle.gui_base.specs.declared.refusal.Refusal.TheVariants as refusal
 use Rattle.gui_base.specs.declared.words.Kind.{Kind}
 use Rattle.gui_base.specs.declared.words.Kind.TheVariants.{Screen, Layer}
-use Rattle.gui_base.specs.Forest.{Forest, Empty, Tree, and_then, leaf, put_at, has, size, preorder, moved_last, cut, cut_by, tree_at, tree_by, parent_of, with_children_by}
+use Rattle.gui_base.specs.Forest.{Forest, Empty, Tree, and_then, leaf, put_at, has, size, preorder, moved_last, cut_by, tree_at, parent_of, with_children_by}
 use Rattle.gui_base.specs.Limits.{Bounds}
 use Rattle.gui_base.specs.Refusing.{first_of, result_of, root_tests, child_tests, removal_tests, move_tests, parent_tests, Place}
-use Rattle.gui_base.proofs.Forests.{map-and_then, map-preorder, map-size, map-cut_by, map-tree_by, map-parent_by, map-added_by, map-moved_by, map-moved_last_by}
+use Rattle.gui_base.proofs.Forests.{map-and_then, map-size, map-cut_by, map-tree_by, map-parent_by, map-added_by, map-moved_by, map-moved_last_by}
 use Rattle.gui_tree.specs.Handles.{numbers}
 use Rattle.gui_tree.specs.Trees.{Trees, opened, add_root_answer, add_answer, remove_answer, move_answer, set_parent_answer, with_root, with_child, at_index, below, moved_below, without as without_tree}
 use Rattle.scene_defs.specs.declared.Change.{Change}

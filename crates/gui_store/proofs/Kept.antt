@@ -1,7 +1,6 @@
 -- What the parts of a store answer, and that a change keeps them in order.
-use Rattle.std.proofs.Common.{◌≡◌, ◌≢◌, ◌<◌, ◌≤◌, ◌⊎◌, ◌∙◌, sym, ap, subst, ℕ, ◌+◌, Bool, true, false, length, slice_index_or, Option, Some, None, is_some, option_map, Ok, Err, List, refl, arith, inl, inr, nat_eq}
+use Rattle.std.proofs.Common.{◌≡◌, ◌<◌, ◌⊎◌, ◌∙◌, sym, ap, subst, ℕ, ◌+◌, Bool, true, false, length, slice_index_or, Option, Some, None, option_map, Ok, Err, List, refl, arith, nat_eq}
 use Rattle.std.specs.Prelude.{if◌then◌else◌, OnOk, OnErr}
-use Rattle.std.proofs.lemmas.Bool.{or_left, or_right}
 use Rattle.std.proofs.lemmas.Bool.Decides.{nat_tests}
 use Rattle.std.proofs.lemmas.List.{get_or_default}
 use Rattle.gui_base.specs.declared.intervals.TheConstants.{HANDLE}
@@ -10,25 +9,24 @@ use Rattle.gui_base.specs.declared.limits.Pool.TheVariants.{Objects, Entries}
 use Rattle.gui_base.specs.declared.refusal.Refusal.{Refusal}
 use Rattle.gui_base.specs.declared.refusal.Refusal.TheVariants.{Full}
 use Rattle.gui_base.specs.Forest.{Forest, has, size}
-use Rattle.gui_base.specs.Intervals.{is_counted}
 use Rattle.gui_base.specs.Limits.{Bounds}
 use Rattle.gui_base.specs.Refusing.{Test, first_of, result_of}
 use Rattle.gui_base.proofs.Forests.{map-size}
 use Rattle.gui_tree.specs.Trees.{Trees, Answer, full_answer}
 use Rattle.scene_defs.specs.declared.Change.{Change}
 use Rattle.scene_defs.specs.Ranges.{is_in_range}
-use Rattle.scene_defs.specs.Scene.{Scene, is_there, handles_of, row_at, entries_of, spare}
-use Rattle.scene_defs.specs.Change.{answer_in_range, scene_after, scene_by, tests, pools, first_short, need_of, freed_by, lacks}
+use Rattle.scene_defs.specs.Scene.{Scene, is_there, handles_of, row_at, entries_of}
+use Rattle.scene_defs.specs.Change.{answer_in_range, scene_after, tests, pools, first_short, need_of, freed_by, lacks}
 use Rattle.scene_defs.specs.Valid.{IsValid, IsChange, IsRow, is_row}
-use Rattle.scene_defs.proofs.Changes.{after_keeps, none_short, one_short, room_in_range}
+use Rattle.scene_defs.proofs.Changes.{after_keeps, none_short, one_short}
 use Rattle.scene_defs.proofs.InRange.{numbers_of}
 use Rattle.scene_defs.proofs.Validity.{after_leaves, after_valid}
 use Rattle.gui_store.specs.declared.row.Row.{Row}
 use Rattle.gui_store.specs.Changed.{IsChanged}
 use Rattle.gui_store.specs.Parts.{Parts, scene_in, AreKept}
-use Rattle.gui_store.specs.Removed.{removed_after, removed_by}
+use Rattle.gui_store.specs.Removed.{removed_after}
 use Rattle.gui_store.specs.Rows.{blank, row_of, row_in}
-use Rattle.gui_store.proofs.Shown.{shown, shown-handles, shown-row, shown-all}
+use Rattle.gui_store.proofs.Shown.{shown-handles, shown-row, shown-all}
 
 -- What is found of h.
 module _ (p : Parts) where

@@ -1,5 +1,5 @@
 -- What a forest of handles shows with the rows of a list.
-use Rattle.std.proofs.Common.{◌≡◌, ◌<◌, ◌∙◌, sym, ap, ℕ, Bool, true, false, cond, if◌then◌else◌, List, ◌++◌, length, slice_set, Option, Some, None, refl, arith, inl, inr, eqb}
+use Rattle.std.proofs.Common.{◌≡◌, ◌<◌, ◌∙◌, sym, ap, ℕ, Bool, true, false, cond, if◌then◌else◌, List, ◌++◌, length, slice_set, Some, None, refl, arith, inl, inr, eqb}
 use Rattle.std.specs.List.{sum_by}
 use Rattle.std.proofs.lemmas.Bool.{both_ways}
 use Rattle.std.proofs.lemmas.Bool.Decides.{nat_tests, eqb_tells}

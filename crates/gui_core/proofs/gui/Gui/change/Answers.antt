@@ -1,10 +1,9 @@
-use Rattle.std.proofs.Common.{◌≡◌, ◌∙◌, sym, ap, ◌*◌, Option, Some, None, Err, refl}
+use Rattle.std.proofs.Common.{◌≡◌, ◌∙◌, sym, ap, ◌*◌, Option, Some, None, Err}
 use Rattle.gui_base.specs.declared.refusal.Refusal.{Refusal}
 use Rattle.gui_base.specs.Limits.{Bounds}
 use Rattle.gui_base.specs.Refusing.{result_of}
 use Rattle.scene_defs.specs.Scene.{Scene}
 use Rattle.scene_defs.proofs.Changes.{change_keeps_limits}
-use Rattle.run_defs.specs.declared.Reply.{Reply}
 use Rattle.run_defs.specs.declared.Reply.TheVariants.{Refused}
 use Rattle.run_defs.specs.Step.{reply_by}
 use Rattle.gui_store.specs.Views.{scene_of}

@@ -7,8 +7,7 @@ use Rattle.gui_base.specs.Refusing.{first_of}
 use Rattle.scene_defs.specs.Change.{tests}
 use Rattle.gui_store.specs.Views.{parts_of, scene_of}
 use Rattle.gui_store.proofs.Edits.{RowSet, row-set, set_there, row-entries, row-refused, row-answer, fine-row}
-use Rattle.gui_store.proofs.Kept.{Left, there-is, within, refused, done, err-some, ok-none}
-use Rattle.gui_store.proofs.RowTests.{passed_there}
+use Rattle.gui_store.proofs.Kept.{Left, refused, done, err-some, ok-none}
 use Rattle.gui_store.proofs.store.Store.change_row.Goals as goal
 use Rattle.gui_store.proofs.store.Store.change_row.Goals.{In_ok-check_row, After-entry_count-2}
 

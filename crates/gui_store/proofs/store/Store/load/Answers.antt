@@ -1,4 +1,4 @@
-use Rattle.std.proofs.Common.{◌≡◌, ◌∙◌, sym, ap, Ok, Err, true, false, inl, inr, arith}
+use Rattle.std.proofs.Common.{◌≡◌, ◌∙◌, sym, ap, Ok, true, false, inl, inr, arith}
 use Rattle.gui_base.specs.declared.refusal.Refusal.TheVariants.{Unknown, Kind as WrongKind}
 use Rattle.scene_defs.specs.declared.Change.TheVariants as change
 use Rattle.scene_defs.specs.Scene.{Row as SceneRow}

@@ -4,6 +4,8 @@
 #[cfg(test)]
 mod color;
 #[cfg(test)]
+mod containers;
+#[cfg(test)]
 mod edge;
 #[cfg(test)]
 mod machine;

@@ -58,21 +58,12 @@ first-full (t ∷ ts) short pool e = elim (cases_Bool t.0) [
 first-none : (ts : List Test) (short : Option Pool) → first_of ts (option_map Full short) ≡ None → short ≡ None
 first-none [] (Some pool) e = cc
 first-none [] None e = refl
-first-none (t ∷ ts) short e = elim (cases_Bool t.0) [
-  | inl holds ↦ let why : Some (refusal_of t.1) ≡ None = rw holds at e in cc
-  | inr fails ↦ first-none ts short (rw fails at e)
-]
+first-none (t ∷ ts) short e = grind (arith, e, first-none ts short)
 
 -- Then the pools.
 short-is : (scene : Scene) (change : Change) (ps : List Pool) (pool : Pool) → first_short scene change ps ≡ Some pool → spare scene pool < need_of scene change pool
 short-is scene change [] pool e = cc
-short-is scene change (p ∷ ps) pool e = elim (cases_Bool (lacks scene p (need_of scene change p))) [
-  | inl lacking ↦
-      let same : Some p ≡ Some pool = rw lacking at e in
-      let is : p ≡ pool = cc in
-      subst (λ (q : Pool). spare scene q < need_of scene change q) is (ltb-true _ _ lacking)
-  | inr enough ↦ short-is scene change ps pool (rw enough at e)
-]
+short-is scene change (p ∷ ps) pool e = grind (arith, nat_tests, e, short-is scene change ps pool)
 
 pub full_without_room : FullWithoutRoom
 full_without_room scene change pool e =
@@ -132,17 +123,11 @@ one_short scene change pool only = by (first_short scene change pools) refl wher
 -- the tests, and then whether there is room
 pub first-then : (ts : List Test) (later : Option Refusal) → first_of ts None ≡ None → first_of ts later ≡ later
 first-then [] later e = refl
-first-then (t ∷ ts) later e = elim (cases_Bool t.0) [
-  | inl holds ↦ let why : Some (refusal_of t.1) ≡ None = rw holds at e in cc
-  | inr fails ↦ rw fails (first-then ts later (rw fails at e))
-]
+first-then (t ∷ ts) later e = grind (arith, e, first-then ts later)
 
 pub first-some : (ts : List Test) (later : Option Refusal) (why : Refusal) → first_of ts None ≡ Some why → first_of ts later ≡ Some why
 first-some [] later why e = cc
-first-some (t ∷ ts) later why e = elim (cases_Bool t.0) [
-  | inl holds ↦ rw holds (rw holds at e)
-  | inr fails ↦ rw fails (first-some ts later why (rw fails at e))
-]
+first-some (t ∷ ts) later why e = grind (arith, e, first-some ts later why)
 
 -- The tests do not look at the limits.
 same_tests : (scene : Scene) (limits : Bounds) (change : Change) → tests (with_limits scene limits) change ≡ tests scene change
@@ -152,10 +137,7 @@ same_tests scene limits change = refl
 first-same : (ts : List Test) (short other : Option Pool) (why : Refusal) → ((pool : Pool) → why ≢ Full pool) → first_of ts (option_map Full short) ≡ Some why → first_of ts (option_map Full other) ≡ Some why
 first-same [] (Some pool) other why n e = absurd (n pool (cc))
 first-same [] None other why n e = cc
-first-same (t ∷ ts) short other why n e = elim (cases_Bool t.0) [
-  | inl holds ↦ rw holds (rw holds at e)
-  | inr fails ↦ rw fails (first-same ts short other why n (rw fails at e))
-]
+first-same (t ∷ ts) short other why n e = grind (arith, e, first-same ts short other why n)
 
 pub refused_whatever_limits : RefusedWhateverLimits
 refused_whatever_limits scene limits change why n e = by (is_in_range change) e where

@@ -65,35 +65,13 @@ above-cases h above p (Tree row cs rest) e i = elim (cases_Bool (is_at h row)) [
 
 parent_there : (h : ℕ) (p : Row) (f : Forest Row) → parent_by (is_at h) None f ≡ Some p → there f p.handle ≡ true
 parent_there h p Empty e = cc
-parent_there h p (Tree row cs rest) e = elim (cases_Bool (is_at h row)) [
-  | inl is ↦ let none : None ≡ Some p = rw is at e in cc
-  | inr isnt ↦ elim (cases_Bool (there cs h)) [
-    | inl inner ↦ elim (above-cases h row p cs (rw (isnt, inner) at e) inner) [
-      | inl top ↦ rw top (or_left _ _ (eq-eqb row.handle row.handle refl))
-      | inr below ↦ or_right _ _ (or_left _ _ (parent_there h p cs below))
-    ]
-    | inr out ↦ or_right _ _ (or_right _ _ (parent_there h p rest (rw (isnt, out) at e)))
-  ]
-]
+parent_there h p (Tree row cs rest) e = grind (arith, nat_tests, e, above-cases h row p cs, parent_there h p cs, parent_there h p rest)
 
 -- a tree lies below its parent
 pub parent-depth : (h : ℕ) (p : Row) (f : Forest Row) → IsDistinct f → parent_by (is_at h) None f ≡ Some p → depth_by (is_at p.handle) f + height (tree_by (is_at h) f) ≤ height f
 parent-depth h p Empty d e = cc
-parent-depth h p (Tree row cs rest) d e = elim (cases_Bool (is_at h row)) [
-  | inl is ↦ let none : None ≡ Some p = rw is at e in cc
-  | inr isnt ↦ elim (cases_Bool (there cs h)) [
-    | inl inner ↦ elim (above-cases h row p cs (rw (isnt, inner) at e) inner) [
-      | inl top ↦ rw (isnt, inner, top, eq-eqb row.handle row.handle refl) (let a = height-tree (is_at h) cs in omega arith)
-      | inr below ↦
-          let i = parent_there h p cs below in
-          rw (isnt, inner, other_than row cs p.handle d.1 i, i) (let a = parent-depth h p cs d.3 below in omega arith)
-    ]
-    | inr out ↦
-        let up : parent_by (is_at h) None rest ≡ Some p = rw (isnt, out) at e in
-        let i = parent_there h p rest up in
-        grind (arith, nat_tests, isnt, out, i, d.0 p.handle, d.2, parent-depth h p rest d.4 up)
-  ]
-]
+parent-depth h p (Tree row cs rest) d e =
+    grind (arith, nat_tests, e, d.0 p.handle, d.1, d.2, above-cases h row p cs, height-tree (is_at h) cs, parent_there h p cs, parent_there h p rest, parent-depth h p cs d.3, parent-depth h p rest d.4)
 
 -- what was there and is not cut out is left
 pub there-cut : (f : Forest Row) (h k : ℕ) → IsDistinct f → there f k ≡ true → there (tree_by (is_at h) f) k ≡ false → there (cut_by (is_at h) f) k ≡ true
@@ -104,13 +82,4 @@ there-cut (Tree row cs rest) h k d i out =
 -- the row above h is left where h is cut out
 pub parent-left : (f : Forest Row) (h : ℕ) (p : Row) → parent_by (is_at h) None f ≡ Some p → there (cut_by (is_at h) f) p.handle ≡ true
 parent-left Empty h p e = cc
-parent-left (Tree row cs rest) h p e = elim (cases_Bool (is_at h row)) [
-  | inl is ↦ let none : None ≡ Some p = rw is at e in cc
-  | inr isnt ↦ rw isnt (elim (cases_Bool (there cs h)) [
-    | inl inner ↦ elim (above-cases h row p cs (rw (isnt, inner) at e) inner) [
-      | inl top ↦ rw top (or_left _ _ (eq-eqb row.handle row.handle refl))
-      | inr below ↦ or_right _ _ (or_left _ _ (parent-left cs h p below))
-    ]
-    | inr out ↦ or_right _ _ (or_right _ _ (parent-left rest h p (rw (isnt, out) at e)))
-  ])
-]
+parent-left (Tree row cs rest) h p e = grind (arith, nat_tests, e, above-cases h row p cs, parent-left cs h p, parent-left rest h p)

@@ -79,39 +79,24 @@ found_by_walk panel parent clip area at look (Tree row cs rest) d agrees =
     let shape : area row.handle ≡ seen_of at clip row = agrees.areas row.handle here ∙ rw self refl in
     let line : look row.handle ≡ Some row = agrees.rows row.handle here ∙ rw self refl in
     let v = clipped clip (placed panel parent row) row in
-    let inner : filter is_seen (map (found area at look) (preorder (handles_of cs))) ≡ walked panel v (placed panel parent row) cs =
-    found_by_walk panel (placed panel parent row) v area at look cs d.3 (record {
-      areas = λ k i. agrees.areas k (in_cs k i) ∙ rw (off_cs k i, i) (rw spot refl);
-      places = λ k i. agrees.places k (in_cs k i) ∙ rw (off_cs k i, i) refl;
-      rows = λ k i. agrees.rows k (in_cs k i) ∙ rw (off_cs k i, i) refl;
-    }) in
-    let later : filter is_seen (map (found area at look) (preorder (handles_of rest))) ≡ walked panel clip parent rest =
-    found_by_walk panel parent clip area at look rest d.4 (record {
-      areas = λ k i. agrees.areas k (in_rest k i) ∙ rw (off_rest k i, out_rest k i) refl;
-      places = λ k i. agrees.places k (in_rest k i) ∙ rw (off_rest k i, out_rest k i) refl;
-      rows = λ k i. agrees.rows k (in_rest k i) ∙ rw (off_rest k i, out_rest k i) refl;
-    }) in
+    let below : Agrees panel (placed panel parent row) v area at look cs = record {
+      areas = λ k i. agrees.areas k (rw i (grind arith)) ∙ rw (other_than row cs k d.1 i, i) (rw spot refl);
+      places = λ k i. grind (arith, nat_tests, i, agrees.places k, d.1);
+      rows = λ k i. grind (arith, nat_tests, i, agrees.rows k, d.1);
+    } in
+    let beside : Agrees panel parent clip area at look rest = record {
+      areas = λ k i. grind (arith, nat_tests, i, agrees.areas k, d.0 k, d.2);
+      places = λ k i. grind (arith, nat_tests, i, agrees.places k, d.0 k, d.2);
+      rows = λ k i. grind (arith, nat_tests, i, agrees.rows k, d.0 k, d.2);
+    } in
+    let inner = found_by_walk panel (placed panel parent row) v area at look cs d.3 below in
+    let later = found_by_walk panel parent clip area at look rest d.4 beside in
     rw (shape, line, spot)
     (seen_alone v (placed panel parent row) row (map (found area at look) (preorder (handles_of cs) ++ preorder (handles_of rest)))
     ∙ ap (λ l. seen_row v (placed panel parent row) row ++ l)
     (ap (filter is_seen) (map-append (found area at look) (preorder (handles_of cs)) (preorder (handles_of rest)))
     ∙ filter-append is_seen (map (found area at look) (preorder (handles_of cs))) (map (found area at look) (preorder (handles_of rest)))
     ∙ rw (inner, later) refl))
-  where
-    in_cs : (k : ℕ) → there cs k ≡ true → there (Tree row cs rest) k ≡ true
-    in_cs k i = or_right _ _ (or_left _ _ i)
-
-    in_rest : (k : ℕ) → there rest k ≡ true → there (Tree row cs rest) k ≡ true
-    in_rest k i = or_right _ _ (or_right _ _ i)
-
-    off_cs : (k : ℕ) → there cs k ≡ true → is_at k row ≡ false
-    off_cs k i = other_than row cs k d.1 i
-
-    off_rest : (k : ℕ) → there rest k ≡ true → is_at k row ≡ false
-    off_rest k i = other_than row rest k d.2 i
-
-    out_rest : (k : ℕ) → there rest k ≡ true → there cs k ≡ false
-    out_rest k i = false_from_ne_true _ (λ e. both_ways _ (d.0 k e) i)
 
 pub shown_by_walk : ShownByWalk
 shown_by_walk scene showable =

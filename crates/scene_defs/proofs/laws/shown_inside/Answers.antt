@@ -1,8 +1,5 @@
 use Rattle.scene_defs.proofs.Walks.{shown_inside, walked_inside}
 use Rattle.scene_defs.proofs.laws.shown_inside.Goals as goal
 
-pub returns-clause-shown : goal.returns-clause-shown
-returns-clause-shown c = shown_inside
-
-pub returns-clause-walked : goal.returns-clause-walked
-returns-clause-walked c = walked_inside
+pub returns : goal.returns
+returns c = record { shown = shown_inside; walked = walked_inside }

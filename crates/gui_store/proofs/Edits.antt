@@ -5,6 +5,7 @@ use Rattle.std.specs.Prelude.{if◌then◌else◌}
 use Rattle.std.proofs.lemmas.Bool.Decides.{nat_tests}
 use Rattle.std.proofs.lemmas.List.{get_or-set_same, get_or-set_other}
 use Rattle.std.proofs.lemmas.List.Sums.{sum_by-cons}
+use Rattle.gui_base.specs.declared.pools.TheConstants.{POOLS}
 use Rattle.gui_base.specs.declared.Handle.{Handle}
 use Rattle.gui_base.specs.declared.limits.Pool.{Pool}
 use Rattle.gui_base.specs.declared.limits.Pool.TheVariants.{Objects, Entries}
@@ -22,7 +23,7 @@ use Rattle.gui_tree.specs.Trees.{Trees, opened, add_root_answer, add_answer, rem
 use Rattle.scene_defs.specs.declared.Change.{Change}
 use Rattle.scene_defs.specs.declared.Change.TheVariants as change
 use Rattle.scene_defs.specs.Scene.{Row as SceneRow, Scene, is_at, handles_of, entry_count, entries_of, new_row, first_scene}
-use Rattle.scene_defs.specs.Change.{is_screen_kind, answer_in_range, tests, pools, first_short, scene_after, tree_below, parent_row, at_index_below, last_below, row_after, row_set, lacks, need_of, freed_by}
+use Rattle.scene_defs.specs.Change.{is_screen_kind, answer_in_range, tests, first_short, scene_after, tree_below, parent_row, at_index_below, last_below, row_after, row_set, lacks, need_of, freed_by}
 use Rattle.scene_defs.specs.Valid.{IsValid, is_root_at}
 use Rattle.scene_defs.proofs.Changes.{tests-fail, room_in_range, none_short, one_short, first-then, first-some, sets_row_alone}
 use Rattle.scene_defs.proofs.Totals.{total-cut, total-parts, total-row, one, size-total, entries-total}
@@ -104,10 +105,10 @@ module _ (p : Parts) (k : AreKept p) where
 
   pub load-answer : (h : Handle) (b : Bool) → has p.tree.forest h.0 ≡ true → is_screen_kind (row_in p.rows h.0).kind ≡ b → answer_in_range (scene_in p) (change.Load h) ≡ (if b then None else Some refusal.Kind)
   load-answer h b on is =
-      let none = none_short (scene_in p) (change.Load h) pools (λ q. refl) in
+      let none = none_short (scene_in p) (change.Load h) POOLS (λ q. refl) in
       rw (there-is p h.0 ∙ on, row-is p h.0 on, is) (by b none)
     where
-      by : (b : Bool) → first_short (scene_in p) (change.Load h) pools ≡ None → (if not b then Some refusal.Kind else option_map Full (first_short (scene_in p) (change.Load h) pools)) ≡ (if b then None else Some refusal.Kind)
+      by : (b : Bool) → first_short (scene_in p) (change.Load h) POOLS ≡ None → (if not b then Some refusal.Kind else option_map Full (first_short (scene_in p) (change.Load h) POOLS)) ≡ (if b then None else Some refusal.Kind)
       by true none = rw none refl
       by false none = refl
 
@@ -115,7 +116,7 @@ module _ (p : Parts) (k : AreKept p) where
   fine-screen n row fits is e =
       let f = p.tree.forest in
       let rows = slice_set p.rows n.0 row in
-      let t = tests-fail (tests (scene_in p) (change.Screen n)) (first_short (scene_in p) (change.Screen n) pools) e in
+      let t = tests-fail (tests (scene_in p) (change.Screen n)) (first_short (scene_in p) (change.Screen n) POOLS) e in
       let off : has f n.0 ≡ false = sym (there-is p n.0) ∙ t.0 in
       let left = one_left (change.Screen n) refl e in
       record {
@@ -130,7 +131,7 @@ module _ (p : Parts) (k : AreKept p) where
   fine-object n q kind row fits is e =
       let f = p.tree.forest in
       let rows = slice_set p.rows n.0 row in
-      let t = tests-fail (tests (scene_in p) (change.New n q kind)) (first_short (scene_in p) (change.New n q kind) pools) e in
+      let t = tests-fail (tests (scene_in p) (change.New n q kind)) (first_short (scene_in p) (change.New n q kind) POOLS) e in
       let off : has f n.0 ≡ false = sym (there-is p n.0) ∙ t.1.0 in
       let left = one_left (change.New n q kind) refl e in
       record {
@@ -260,7 +261,7 @@ module _ (p : Parts) (k : AreKept p) where
         let e = k.entries in
         let f = k.valid.pools.entries in
         let short : lacks (scene_in p) Entries (need_of (scene_in p) change Entries) ≡ b = grind (arith, nat_tests) in
-        first-then (tests (scene_in p) change) (option_map Full (first_short (scene_in p) change pools)) r.passed
+        first-then (tests (scene_in p) change) (option_map Full (first_short (scene_in p) change POOLS)) r.passed
         ∙ ap (option_map Full) (one_short (scene_in p) change Entries (set_only (scene_in p) change h r.set) ∙ ap (λ (t : Bool). if t then Some Entries else None) short)
         ∙ full b
       where
@@ -269,7 +270,7 @@ module _ (p : Parts) (k : AreKept p) where
         full false = refl
 
   pub row-refused : (change : Change) (x : Refusal) → first_of (tests (scene_in p) change) None ≡ Some x → answer_in_range (scene_in p) change ≡ Some x
-  row-refused change x e = first-some (tests (scene_in p) change) (option_map Full (first_short (scene_in p) change pools)) x e
+  row-refused change x e = first-some (tests (scene_in p) change) (option_map Full (first_short (scene_in p) change POOLS)) x e
 
 -- The first rows.
 module _ (tree : Trees) (limits : Bounds) (room : 3 ≤ limits.objects) (new : tree ≡ opened limits.objects) (xs : List Row) (long : length xs ≡ 10000) (a b c : Row) (top : (h : ℕ) → row_of h a ≡ new_row h Layer) (system : (h : ℕ) → row_of h b ≡ new_row h Layer) (screen : (h : ℕ) → row_of h c ≡ new_row h Screen) where

@@ -3,6 +3,7 @@ use Rattle.std.proofs.Common.{◌≡◌, ◌<◌, ◌⊎◌, ◌∙◌, sym, ap,
 use Rattle.std.specs.Prelude.{if◌then◌else◌, OnOk, OnErr}
 use Rattle.std.proofs.lemmas.Bool.Decides.{nat_tests}
 use Rattle.std.proofs.lemmas.List.{get_or_default}
+use Rattle.gui_base.specs.declared.pools.TheConstants.{POOLS}
 use Rattle.gui_base.specs.declared.intervals.TheConstants.{HANDLE}
 use Rattle.gui_base.specs.declared.limits.Pool.{Pool}
 use Rattle.gui_base.specs.declared.limits.Pool.TheVariants.{Objects, Entries}
@@ -16,7 +17,7 @@ use Rattle.gui_tree.specs.Trees.{Trees, Answer, full_answer}
 use Rattle.scene_defs.specs.declared.Change.{Change}
 use Rattle.scene_defs.specs.Ranges.{is_in_range}
 use Rattle.scene_defs.specs.Scene.{Scene, is_there, handles_of, row_at, entries_of}
-use Rattle.scene_defs.specs.Change.{answer_in_range, scene_after, tests, pools, first_short, need_of, freed_by, lacks}
+use Rattle.scene_defs.specs.Change.{answer_in_range, scene_after, tests, first_short, need_of, freed_by, lacks}
 use Rattle.scene_defs.specs.Valid.{IsValid, IsChange, IsRow, is_row}
 use Rattle.scene_defs.proofs.Changes.{after_keeps, none_short, one_short}
 use Rattle.scene_defs.proofs.InRange.{numbers_of}
@@ -62,12 +63,12 @@ module _ (p : Parts) (k : AreKept p) where
   -- An edit of the tree answers what the tree does: where it takes no slot, and where it takes one of an object.
   pub edit-answer : (change : Change) (ts : Forest ℕ → List Test) → tests (scene_in p) change ≡ ts (handles_of (scene_in p).trees) → ((q : Pool) → need_of (scene_in p) change q ≡ 0) → result_of (answer_in_range (scene_in p) change) ≡ result_of (first_of (ts p.tree.forest) None)
   edit-answer change ts e none =
-      ap (λ (l : List Test). result_of (first_of l (option_map Full (first_short (scene_in p) change pools)))) (e ∙ ap ts (forest-is p))
-      ∙ ap (λ (o : Option Pool). result_of (first_of (ts p.tree.forest) (option_map Full o))) (none_short (scene_in p) change pools none)
+      ap (λ (l : List Test). result_of (first_of l (option_map Full (first_short (scene_in p) change POOLS)))) (e ∙ ap ts (forest-is p))
+      ∙ ap (λ (o : Option Pool). result_of (first_of (ts p.tree.forest) (option_map Full o))) (none_short (scene_in p) change POOLS none)
 
   pub growth-answer : (change : Change) (ts : Forest ℕ → List Test) → tests (scene_in p) change ≡ ts (handles_of (scene_in p).trees) → need_of (scene_in p) change Objects ≡ 1 → ((q : Pool) → (q ≡ Objects) ⊎ (need_of (scene_in p) change q ≡ 0)) → result_of (answer_in_range (scene_in p) change) ≡ result_of (first_of (ts p.tree.forest) (full_answer p.tree))
   growth-answer change ts e one only =
-      ap (λ (l : List Test). result_of (first_of l (option_map Full (first_short (scene_in p) change pools)))) (e ∙ ap ts (forest-is p))
+      ap (λ (l : List Test). result_of (first_of l (option_map Full (first_short (scene_in p) change POOLS)))) (e ∙ ap ts (forest-is p))
       ∙ ap (λ (o : Option Refusal). result_of (first_of (ts p.tree.forest) o))
       (ap (option_map Full) (one_short (scene_in p) change Objects only ∙ rw (one, no-room) refl) ∙ full (nat_eq p.tree.spare 0))
     where

@@ -1,8 +1,9 @@
 -- The laws of changes: refusals, limits, and changes of one row.
 use Rattle.std.proofs.Common.{◌≡◌, ◌≢◌, ◌<◌, ◌≤◌, ◌⊎◌, ap, subst, Bool, true, false, Option, Some, None, is_some, option_map, List, [], ◌∷◌, refl, arith, inl, inr}
 use Rattle.std.specs.Prelude.{if◌then◌else◌}
-use Rattle.std.proofs.lemmas.Bool.{cases_Bool, ltb-true, ltb-false}
+use Rattle.std.proofs.lemmas.Bool.{cases_Bool, ltb-false}
 use Rattle.std.proofs.lemmas.Bool.Decides.{nat_tests}
+use Rattle.gui_base.specs.declared.pools.TheConstants.{POOLS}
 use Rattle.gui_base.specs.declared.Handle.{Handle}
 use Rattle.gui_base.specs.declared.limits.Pool.{Pool}
 use Rattle.gui_base.specs.declared.limits.Pool.TheVariants.{Objects, Styles, Entries, Uses, Texts, Fonts, Glyphs, Ink, Images, Pixels, Handlers, Groups, Anims}
@@ -14,7 +15,7 @@ use Rattle.scene_defs.specs.declared.Change.{Change}
 use Rattle.scene_defs.specs.declared.Change.TheVariants as change
 use Rattle.scene_defs.specs.Scene.{Scene, spare}
 use Rattle.scene_defs.specs.Ranges.{is_in_range}
-use Rattle.scene_defs.specs.Change.{lacks, need_of, pools, first_short, tests, answer_of, answer_in_range, scene_by, scene_after, with_row, row_after}
+use Rattle.scene_defs.specs.Change.{lacks, need_of, first_short, tests, answer_of, answer_in_range, scene_by, scene_after, with_row, row_after}
 use Rattle.scene_defs.specs.Laws.{ChangeKeepsLimits, RefusedChangesNothing, RangeComesFirst, FullWithoutRoom, DoneWithRoom, RefusedWhateverLimits, SetsRowAlone, with_limits}
 
 pub after_keeps : (scene : Scene) (change : Change) → (scene_after scene change).limits ≡ scene.limits
@@ -67,7 +68,7 @@ short-is scene change (p ∷ ps) pool e = grind (arith, nat_tests, e, short-is s
 
 pub full_without_room : FullWithoutRoom
 full_without_room scene change pool e =
-    short-is scene change pools pool (first-full (tests scene change) (first_short scene change pools) pool (range_full (is_in_range change) _ pool e))
+    short-is scene change POOLS pool (first-full (tests scene change) (first_short scene change POOLS) pool (range_full (is_in_range change) _ pool e))
 
 -- room in each of these pools
 abbrev HaveRoom : Scene → Change → List Pool → Type 0
@@ -81,7 +82,7 @@ have_room scene change (p ∷ ps) e = elim (cases_Bool (lacks scene p (need_of s
   | inr enough ↦ (ltb-false _ _ enough, have_room scene change ps (rw enough at e))
 ]
 
-pool-room : (scene : Scene) (change : Change) (pool : Pool) → HaveRoom scene change pools → need_of scene change pool ≤ spare scene pool
+pool-room : (scene : Scene) (change : Change) (pool : Pool) → HaveRoom scene change POOLS → need_of scene change pool ≤ spare scene pool
 pool-room scene change Objects r = r.0
 pool-room scene change Styles r = r.1.0
 pool-room scene change Entries r = r.1.1.0
@@ -97,7 +98,7 @@ pool-room scene change Groups r = r.1.1.1.1.1.1.1.1.1.1.1.0
 pool-room scene change Anims r = r.1.1.1.1.1.1.1.1.1.1.1.1.0
 
 pub room_in_range : (scene : Scene) (change : Change) (pool : Pool) → answer_in_range scene change ≡ None → need_of scene change pool ≤ spare scene pool
-room_in_range scene change pool e = pool-room scene change pool (have_room scene change pools (first-none (tests scene change) (first_short scene change pools) e))
+room_in_range scene change pool e = pool-room scene change pool (have_room scene change POOLS (first-none (tests scene change) (first_short scene change POOLS) e))
 
 pub done_with_room : DoneWithRoom
 done_with_room scene change pool e = room_in_range scene change pool (range_done (is_in_range change) _ e).1
@@ -109,12 +110,12 @@ none_short scene change (p ∷ ps) none = grind (arith, nat_tests, none p, none_
 
 -- the only pool that a change takes from, where it is short
 pub one_short : (scene : Scene) (change : Change) (pool : Pool) → ((p : Pool) → (p ≡ pool) ⊎ (need_of scene change p ≡ 0)) →
-    first_short scene change pools ≡ (if lacks scene pool (need_of scene change pool) then Some pool else None)
-one_short scene change pool only = by (first_short scene change pools) refl where
-  by : (short : Option Pool) → first_short scene change pools ≡ short → short ≡ (if lacks scene pool (need_of scene change pool) then Some pool else None)
-  by None e = let room = pool-room scene change pool (have_room scene change pools e) in grind (arith, nat_tests, room)
+    first_short scene change POOLS ≡ (if lacks scene pool (need_of scene change pool) then Some pool else None)
+one_short scene change pool only = by (first_short scene change POOLS) refl where
+  by : (short : Option Pool) → first_short scene change POOLS ≡ short → short ≡ (if lacks scene pool (need_of scene change pool) then Some pool else None)
+  by None e = let room = pool-room scene change pool (have_room scene change POOLS e) in grind (arith, nat_tests, room)
   by (Some p) e =
-      let less = short-is scene change pools p e in
+      let less = short-is scene change POOLS p e in
       elim (only p) [
         | inl is ↦ rw is (let lacking : spare scene pool < need_of scene change pool = subst (λ (q : Pool). spare scene q < need_of scene change q) is less in grind (arith, nat_tests, lacking))
         | inr none ↦ absurd (omega (arith, less, none))
@@ -142,7 +143,7 @@ first-same (t ∷ ts) short other why n e = grind (arith, e, first-same ts short
 pub refused_whatever_limits : RefusedWhateverLimits
 refused_whatever_limits scene limits change why n e = by (is_in_range change) e where
   by : (ok : Bool) → (if ok then answer_in_range scene change else Some Range) ≡ Some why → (if ok then answer_in_range (with_limits scene limits) change else Some Range) ≡ Some why
-  by true f = rw (same_tests scene limits change) (first-same (tests scene change) (first_short scene change pools) _ why n f)
+  by true f = rw (same_tests scene limits change) (first-same (tests scene change) (first_short scene change POOLS) _ why n f)
   by false f = f
 
 -- none of these tests holds

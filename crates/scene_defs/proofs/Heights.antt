@@ -1,10 +1,10 @@
 -- How deep the rows of changed trees lie, and which rows are left where a tree is cut out.
-use Rattle.std.proofs.Common.{◌≡◌, ◌≤◌, ◌⊎◌, ℕ, zero, suc, ◌+◌, max, Bool, true, false, Some, None, refl, arith, inl, inr, eq-eqb}
-use Rattle.std.proofs.lemmas.Bool.{cases_Bool, or_left, or_right}
+use Rattle.std.proofs.Common.{◌≡◌, ◌≤◌, ◌⊎◌, ℕ, zero, suc, ◌+◌, max, Bool, true, false, Some, None, refl, arith, inl, inr}
+use Rattle.std.proofs.lemmas.Bool.{cases_Bool}
 use Rattle.std.proofs.lemmas.Bool.Decides.{nat_tests}
 use Rattle.gui_base.specs.Forest.{Forest, Empty, Tree, and_then, put_at, cut_by, tree_by, depth_by, parent_by, with_children_by, with_row_by, height}
 use Rattle.scene_defs.specs.Scene.{Row, is_at}
-use Rattle.scene_defs.proofs.Distinct.{there, IsDistinct, other_than}
+use Rattle.scene_defs.proofs.Distinct.{there, IsDistinct}
 use Rattle.scene_defs.proofs.Totals.{cut-off, with_children-off}
 
 pub height-and_then : (f g : Forest Row) → height (and_then f g) ≡ max (height f) (height g)

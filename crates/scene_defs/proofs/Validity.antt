@@ -3,6 +3,7 @@ use Rattle.std.proofs.Common.{◌≡◌, ◌≢◌, ◌≤◌, ◌⊎◌, ◌∙
 use Rattle.std.specs.Prelude.{if◌then◌else◌}
 use Rattle.std.proofs.lemmas.Bool.{cases_Bool, not-false, ltb-false, both_ways, and_parts}
 use Rattle.std.proofs.lemmas.Bool.Decides.{nat_tests}
+use Rattle.gui_base.specs.declared.pools.TheConstants.{POOLS}
 use Rattle.gui_base.specs.declared.Handle.{Handle}
 use Rattle.gui_base.specs.declared.intervals.TheConstants.{NEW_HANDLE, MAX_DEPTH}
 use Rattle.gui_base.specs.declared.limits.Pool.{Pool}
@@ -17,7 +18,7 @@ use Rattle.gui_base.specs.Limits.{Bounds}
 use Rattle.scene_defs.specs.declared.Change.{Change}
 use Rattle.scene_defs.specs.declared.Change.TheVariants as change
 use Rattle.scene_defs.specs.Scene.{Row, Scene, is_at, is_root, handles_of, row_at, row_by, entry_count, entries_of, spare, new_row}
-use Rattle.scene_defs.specs.Change.{pools, first_short, tests, answer_of, answer_in_range, need_of, freed_by, scene_after, tree_below, parent_row, is_screen, with_screen, with_object, without, last_below, at_index_below, row_after, row_set, with_row}
+use Rattle.scene_defs.specs.Change.{first_short, tests, answer_of, answer_in_range, need_of, freed_by, scene_after, tree_below, parent_row, is_screen, with_screen, with_object, without, last_below, at_index_below, row_after, row_set, with_row}
 use Rattle.scene_defs.specs.Laws.{SlotsAddUp, with_limits}
 use Rattle.scene_defs.specs.Ranges.{is_in_range}
 use Rattle.scene_defs.specs.Valid.{is_row, is_object, have_kinds, is_root_at, AreTrees, AreRows, FitPools, IsValid, IsChange, FirstIsValid, ChangeKeepsValid, ValidIsShowable}
@@ -312,7 +313,7 @@ leaves scene change fits c t v =
     row_left scene change h refl (sym (has-handles scene.trees h.0) ∙ not-false _ t.0) fits v
 
 pub after_leaves : (scene : Scene) (change : Change) → is_in_range change ≡ true → IsChange change → answer_in_range scene change ≡ None → IsValid scene → Leaves scene change (scene_after scene change)
-after_leaves scene change fits c e v = leaves scene change fits c (tests-fail (tests scene change) (first_short scene change pools) e) v
+after_leaves scene change fits c e v = leaves scene change fits c (tests-fail (tests scene change) (first_short scene change POOLS) e) v
 
 -- Pools that are not over their counts before are not over them after.
 pub after_valid : (scene : Scene) (change : Change) → is_in_range change ≡ true → IsChange change → answer_in_range scene change ≡ None → IsValid scene → IsValid (scene_after scene change)

@@ -2,11 +2,10 @@
 use Rattle.std.specs.Prelude.{ℕ, Bool, true, false, not, ◌==◌, nat_lt, if◌then◌else◌, Some, None, is_some}
 use Rattle.std.specs.Prelude.{option_map, List, [], ◌∷◌, ◌++◌, ℤ}
 use Rattle.std.specs.declared.option.Option.{Option}
+use Rattle.gui_base.specs.declared.pools.TheConstants.{POOLS}
 use Rattle.gui_base.specs.declared.Handle.{Handle}
 use Rattle.gui_base.specs.declared.limits.Pool.{Pool}
-use Rattle.gui_base.specs.declared.limits.Pool.TheVariants.{Objects, Styles, Entries, Uses, Texts, Fonts}
-use Rattle.gui_base.specs.declared.limits.Pool.TheVariants.{Glyphs, Ink, Images, Pixels as PixelBytes}
-use Rattle.gui_base.specs.declared.limits.Pool.TheVariants.{Handlers, Groups, Anims}
+use Rattle.gui_base.specs.declared.limits.Pool.TheVariants.{Objects, Entries}
 use Rattle.gui_base.specs.declared.refusal.Refusal.{Refusal}
 use Rattle.gui_base.specs.declared.refusal.Refusal.TheVariants.{Range, Full}
 use Rattle.gui_base.specs.declared.words.Kind.{Kind}
@@ -70,12 +69,6 @@ freed_by scene (change.Delete h) Objects = size (tree_below scene h.0)
 freed_by scene (change.Delete h) Entries = entries_of (tree_below scene h.0)
 freed_by scene change pool = 0
 
--- the pools, in the order in which they are looked at
-abbrev pub pools : List Pool
-pools =
-    Objects ∷ Styles ∷ Entries ∷ Uses ∷ Texts ∷ Fonts ∷ Glyphs ∷ Ink ∷ Images ∷ PixelBytes ∷ Handlers ∷ Groups
-    ∷ Anims ∷ []
-
 -- the first of these pools that has fewer free slots than a change takes
 abbrev pub first_short : Scene → Change → List Pool → Option Pool
 first_short scene change [] = None
@@ -103,7 +96,7 @@ tests scene (change.Local h part prop value) = absent (handles_of scene.trees) h
 -- pool without room; none where it is done
 abbrev pub answer_in_range : Scene → Change → Option Refusal
 answer_in_range scene change =
-    first_of (tests scene change) (option_map Full (first_short scene change pools))
+    first_of (tests scene change) (option_map Full (first_short scene change POOLS))
 
 -- the first refusal of a change, or none where it is done
 abbrev pub answer_of : Scene → Change → Option Refusal

@@ -4,7 +4,7 @@ use Rattle.std.specs.Prelude.{unwrap_or, pos, ℤ}
 use Rattle.std.specs.declared.option.Option.{Option}
 use Rattle.gui_base.specs.Bits.{has_bit, flag_bit}
 use Rattle.gui_base.specs.Forest.{Forest, Empty, Tree, map_forest, size, has, has_by}
-use Rattle.gui_base.specs.Limits.{Bounds}
+use Rattle.gui_base.specs.Limits.{Bounds, slots}
 use Rattle.gui_base.specs.declared.words.Flag.{Flag}
 use Rattle.gui_base.specs.declared.words.Flag.TheVariants.{Clickable}
 use Rattle.gui_base.specs.declared.words.Kind.{Kind}
@@ -14,9 +14,7 @@ use Rattle.gui_base.specs.declared.words.Length.TheVariants.{Pixels}
 use Rattle.gui_base.specs.declared.words.Prop.{Prop}
 use Rattle.gui_base.specs.declared.words.Prop.TheVariants.{BgColor, BgOpa}
 use Rattle.gui_base.specs.declared.limits.Pool.{Pool}
-use Rattle.gui_base.specs.declared.limits.Pool.TheVariants.{Objects, Styles, Entries, Uses, Texts, Fonts}
-use Rattle.gui_base.specs.declared.limits.Pool.TheVariants.{Glyphs, Ink, Images, Pixels as PixelBytes}
-use Rattle.gui_base.specs.declared.limits.Pool.TheVariants.{Handlers, Groups, Anims}
+use Rattle.gui_base.specs.declared.limits.Pool.TheVariants.{Objects, Entries}
 
 -- the properties that are set locally
 pub record Locals : Type 0 where
@@ -95,21 +93,15 @@ abbrev pub entries_of : Forest Row → ℕ
 entries_of Empty = 0
 entries_of (Tree row cs rest) = entry_count row + (entries_of cs + entries_of rest)
 
--- how many slots of a pool are free
+-- how many slots of a pool are in use
+abbrev pub used : Scene → Pool → ℕ
+used scene Objects = size scene.trees
+used scene Entries = entries_of scene.trees
+used scene pool = 0
+
+-- how many are free
 abbrev pub spare : Scene → Pool → ℕ
-spare scene Objects = scene.limits.objects - size scene.trees
-spare scene Entries = scene.limits.entries - entries_of scene.trees
-spare scene Styles = scene.limits.styles
-spare scene Uses = scene.limits.uses
-spare scene Texts = scene.limits.texts
-spare scene Fonts = scene.limits.fonts
-spare scene Glyphs = scene.limits.glyphs
-spare scene Ink = scene.limits.ink
-spare scene Images = scene.limits.images
-spare scene PixelBytes = scene.limits.pixels
-spare scene Handlers = scene.limits.handlers
-spare scene Groups = scene.limits.groups
-spare scene Anims = scene.limits.anims
+spare scene pool = slots scene.limits pool - used scene pool
 
 -- nothing is set
 abbrev pub no_locals : Locals

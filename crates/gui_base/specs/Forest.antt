@@ -1,5 +1,6 @@
 -- Forests: rose trees in a list, with a row of any type at each node.
-use Rattle.std.specs.Prelude.{◌≡◌, ◌≤◌, ℕ, zero, suc, ◌+◌, max, Bool, true, false, cond, eqb, ◌&&◌, ◌||◌, List, [], ◌∷◌, ◌++◌, Option, None, Some, refl}
+use Rattle.std.specs.Prelude.{◌≡◌, ◌≤◌, ℕ, zero, suc, ◌+◌, max, Bool, true, false, cond, eqb, ◌&&◌, ◌||◌}
+use Rattle.std.specs.Prelude.{List, [], ◌∷◌, ◌++◌, Option, None, Some, refl}
 use Rattle.std.specs.Coded.{Coded, code_by, coded_list, coded_option}
 use Rattle.std.proofs.Common.{ap, sym, ◌∙◌, append_assoc}
 use Rattle.std.proofs.lemmas.List.{append-nil}
@@ -72,32 +73,38 @@ all_by test (Tree row cs rest) = test row && (all_by test cs && all_by test rest
 -- without the trees whose root passes the test
 abbrev pub cut_by : {A : Type 0} → (A → Bool) → Forest A → Forest A
 cut_by test Empty = Empty
-cut_by test (Tree row cs rest) = cond (test row) (cut_by test rest) (Tree row (cut_by test cs) (cut_by test rest))
+cut_by test (Tree row cs rest) =
+    cond (test row) (cut_by test rest) (Tree row (cut_by test cs) (cut_by test rest))
 
 -- the first tree whose root passes the test, alone
 abbrev pub tree_by : {A : Type 0} → (A → Bool) → Forest A → Forest A
 tree_by test Empty = Empty
-tree_by test (Tree row cs rest) = cond (test row) (Tree row cs Empty) (cond (has_by test cs) (tree_by test cs) (tree_by test rest))
+tree_by test (Tree row cs rest) =
+    cond (test row) (Tree row cs Empty) (cond (has_by test cs) (tree_by test cs) (tree_by test rest))
 
 -- the children of the first that passes the test
 abbrev pub children_by : {A : Type 0} → (A → Bool) → Forest A → Forest A
 children_by test Empty = Empty
-children_by test (Tree row cs rest) = cond (test row) cs (cond (has_by test cs) (children_by test cs) (children_by test rest))
+children_by test (Tree row cs rest) =
+    cond (test row) cs (cond (has_by test cs) (children_by test cs) (children_by test rest))
 
 -- the tree of the first that passes the test, with the trees that stand beside it after it
 abbrev pub from_by : {A : Type 0} → (A → Bool) → Forest A → Forest A
 from_by test Empty = Empty
-from_by test (Tree row cs rest) = cond (test row) (Tree row cs rest) (cond (has_by test cs) (from_by test cs) (from_by test rest))
+from_by test (Tree row cs rest) =
+    cond (test row) (Tree row cs rest) (cond (has_by test cs) (from_by test cs) (from_by test rest))
 
 -- those trees alone
 abbrev pub after_by : {A : Type 0} → (A → Bool) → Forest A → Forest A
 after_by test Empty = Empty
-after_by test (Tree row cs rest) = cond (test row) rest (cond (has_by test cs) (after_by test cs) (after_by test rest))
+after_by test (Tree row cs rest) =
+    cond (test row) rest (cond (has_by test cs) (after_by test cs) (after_by test rest))
 
 -- how many rows lead down to the first that passes the test, itself included; 0 where none does
 abbrev pub depth_by : {A : Type 0} → (A → Bool) → Forest A → ℕ
 depth_by test Empty = 0
-depth_by test (Tree row cs rest) = cond (test row) 1 (cond (has_by test cs) (depth_by test cs + 1) (depth_by test rest))
+depth_by test (Tree row cs rest) =
+    cond (test row) 1 (cond (has_by test cs) (depth_by test cs + 1) (depth_by test rest))
 
 -- the row above the first that passes the test, which is `above` for a root
 abbrev pub parent_by : {A : Type 0} → (A → Bool) → Option A → Forest A → Option A
@@ -108,25 +115,29 @@ parent_by test above (Tree row cs rest) =
 -- the row that stands beside the first that passes the test, after it
 abbrev pub next_by : {A : Type 0} → (A → Bool) → Forest A → Option A
 next_by test Empty = None
-next_by test (Tree row cs rest) = cond (test row) (first_root rest) (cond (has_by test cs) (next_by test cs) (next_by test rest))
+next_by test (Tree row cs rest) =
+    cond (test row) (first_root rest) (cond (has_by test cs) (next_by test cs) (next_by test rest))
 
 -- the row that stands beside it, before it, which is `before` for the first root
 abbrev pub previous_by : {A : Type 0} → (A → Bool) → Option A → Forest A → Option A
 previous_by test before Empty = None
 previous_by test before (Tree row cs rest) =
-    cond (test row) before (cond (has_by test cs) (previous_by test None cs) (previous_by test (Some row) rest))
+    cond (test row) before
+    (cond (has_by test cs) (previous_by test None cs) (previous_by test (Some row) rest))
 
 -- g of the children of the first rows that pass the test
 abbrev pub with_children_by : {A : Type 0} → (A → Bool) → (Forest A → Forest A) → Forest A → Forest A
 with_children_by test g Empty = Empty
 with_children_by test g (Tree row cs rest) =
-    cond (test row) (Tree row (g cs) rest) (Tree row (with_children_by test g cs) (with_children_by test g rest))
+    cond (test row) (Tree row (g cs) rest)
+    (Tree row (with_children_by test g cs) (with_children_by test g rest))
 
 -- with a leaf more, the last child of the first that passes the test
 abbrev pub added_by : {A : Type 0} → (A → Bool) → A → Forest A → Forest A
 added_by above row f = with_children_by above (λ cs. and_then cs (leaf row)) f
 
--- the first tree whose root passes the test goes below the first that passes the other, at an index among its children
+-- the first tree whose root passes the test goes below the first that passes the other, at an index among its
+-- children
 abbrev pub moved_by : {A : Type 0} → (A → Bool) → (A → Bool) → ℕ → Forest A → Forest A
 moved_by test above n f = with_children_by above (put_at n (tree_by test f)) (cut_by test f)
 
@@ -137,7 +148,8 @@ moved_last_by test above f = with_children_by above (λ cs. and_then cs (tree_by
 -- f of each row that passes the test
 abbrev pub with_row_by : {A : Type 0} → (A → Bool) → (A → A) → Forest A → Forest A
 with_row_by test f Empty = Empty
-with_row_by test f (Tree row cs rest) = Tree (cond (test row) (f row) row) (with_row_by test f cs) (with_row_by test f rest)
+with_row_by test f (Tree row cs rest) =
+    Tree (cond (test row) (f row) row) (with_row_by test f cs) (with_row_by test f rest)
 
 -- Forests of handles.
 abbrev pub has : Forest ℕ → ℕ → Bool
@@ -222,11 +234,13 @@ read-tokens : {A : Type 0} (f : Forest A) (ts : List (Option A)) → read (token
 read-tokens Empty ts = refl
 read-tokens {A} (Tree row cs rest) ts =
     ap (λ (us : List (Option A)). opened row (read us)) (append_assoc (tokens cs) (tokens rest) ts)
-    ∙ ap (opened row) (read-tokens cs (tokens rest ++ ts) ∙ ap (λ (fs : List (Forest A)). cs ∷ fs) (read-tokens rest ts))
+    ∙ ap (opened row)
+    (read-tokens cs (tokens rest ++ ts) ∙ ap (λ (fs : List (Forest A)). cs ∷ fs) (read-tokens rest ts))
 
 pub read_back : {A : Type 0} (f : Forest A) → first (read (tokens f)) ≡ f
 read_back {A} f =
     ap (λ (ts : List (Option A)). first (read ts)) (sym (append-nil (tokens f))) ∙ ap first (read-tokens f [])
 
 abbrev pub forest_code : {A : Type 0} → Coded A → Coded (Forest A)
-forest_code {A} code = code_by (List (Option A)) (coded_list (coded_option code)) tokens (λ ts. first (read ts)) read_back
+forest_code {A} code =
+    code_by (List (Option A)) (coded_list (coded_option code)) tokens (λ ts. first (read ts)) read_back

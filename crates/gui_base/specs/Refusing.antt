@@ -55,8 +55,8 @@ too_deep f h p = (nat_lt MAX_DEPTH (depth_of f p + height (tree_at f h)), Place)
 abbrev pub inside : Forest ℕ → ℕ → ℕ → Test
 inside f h p = (has (tree_at f h) p, Place)
 
--- The tests of each edit, in order: of a new root, a new child of p, a removal, a move among siblings, and a new
--- parent p.
+-- The tests of each edit, in order: of a new root, a new child of p, a removal, a move among siblings, and a
+-- new parent p.
 abbrev pub root_tests : Forest ℕ → ℕ → List Test
 root_tests f h = taken f h ∷ []
 

@@ -1,4 +1,5 @@
-//! Tests over the public calls of the library's crates. They stand in a crate of their own, so that each crate is proved once.
+//! Tests over the public calls of the library's crates. They have a crate of their own, so that each crate is
+//! proved once.
 #![tactic(auto)]
 
 #[cfg(test)]

@@ -26,7 +26,7 @@ panel_of scene = area_at (pos 0) (pos 0) scene.limits.width scene.limits.height
 abbrev pub pixels_of : Length → ℕ
 pixels_of (Pixels n) = n
 
--- an object's area, from its parent's: a root fills the panel, and any other has its wanted place in its parent
+-- an object's area, from its parent's: a root fills the panel, any other has its wanted place in its parent
 abbrev pub placed : Rect → Rect → Row → Rect
 placed panel parent row =
     if is_root row.kind then panel
@@ -82,8 +82,8 @@ shown_trees scene =
     and_then (root_tree scene.trees scene.active)
     (and_then (root_tree scene.trees 1) (root_tree scene.trees 2))
 
--- what is seen of h: its area met with those of all ancestors and with the panel; nothing where it, or one above
--- it, is hidden or not shown
+-- what is seen of h: its area met with those of all ancestors and with the panel; nothing where it, or one
+-- above it, is hidden or not shown
 abbrev pub visible : Scene → ℕ → Option Rect
 visible scene h = visible_in (place scene) (Some (panel_of scene)) (shown_trees scene) h
 

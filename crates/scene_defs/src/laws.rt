@@ -16,8 +16,8 @@ pub fn refusals_change_nothing()
     ensures range { RangeComesFirst }
 {}
 
-/// A change is refused for a full pool where it needs more slots than are free. All other refusals come before,
-/// and do not look at the limits.
+/// A change is refused for a full pool where it needs more slots than are free. All other refusals come
+/// before, and do not look at the limits.
 pub fn full_by_count()
     ensures without_room { FullWithoutRoom }
     ensures with_room { DoneWithRoom }

@@ -8,8 +8,8 @@ use Rattle.scene_defs.specs.declared.Change.TheVariants.{Delete}
 use Rattle.scene_defs.specs.Scene.{Scene, handles_of}
 use Rattle.scene_defs.specs.Change.{tree_below}
 
--- after a change that is done: those that a delete removes, each before those below it; no other change removes
--- any
+-- after a change that is done: those that a delete removes, each before those below it; no other change
+-- removes any
 abbrev pub removed_after : List ℕ → Scene → Change → List ℕ
 removed_after before scene (Delete h) = preorder (handles_of (tree_below scene h.0))
 removed_after before scene change = before

@@ -1,6 +1,7 @@
 //! The objects of a scene: their tree, a row for each, and the changes that a script may ask for.
 //!
-//! All memory is taken at [`Store::open`]. A change is done as a whole or refused; a refusal leaves all as it was.
+//! All memory is taken at [`Store::open`]. A change is done as a whole or refused; a refusal leaves all as
+//! it was.
 #![tactic(auto)]
 
 mod range;

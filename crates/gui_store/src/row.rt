@@ -41,8 +41,8 @@ fn flags_of(kind: Kind) -> u8
 }
 
 impl Row {
-    /// The row of a new object: 100 by 50 pixels at its parent's corner, clickable unless it is a layer, with no
-    /// local property.
+    /// The row of a new object: 100 by 50 pixels at its parent's corner, clickable unless it is a layer,
+    /// with no local property.
     pub(crate) fn new(kind: Kind) -> Row
         ensures { (h : ℕ) → row_of h result ≡ new_row h kind }
     {
@@ -75,8 +75,8 @@ impl Row {
         }
     }
 
-    /// The value of a property: what is set here, or the default. A screen is filled with white, and all else is
-    /// not filled.
+    /// The value of a property: what is set here, or the default. A screen is filled with white, and all
+    /// else is not filled.
     pub fn value(&self, part: Part, prop: Prop) -> i32
         ensures { (h : ℕ) → result ≡ value_of (row_of h self.now) prop }
     {

@@ -69,8 +69,8 @@ fn entries_of(rows: &[Row], handles: &[Handle]) -> u32
 impl Store {
     ghost use Rattle.gui_store.specs.Views.{scene_of, removed_of, Changes};
 
-    /// The top layer, the system layer and a screen, which is active. It takes all the memory that the store will
-    /// need; NoMemory where there is too little.
+    /// The top layer, the system layer and a screen, which is active. It takes all the memory that the
+    /// store will need; NoMemory where there is too little.
     pub fn open(alloc: Global, limits: &Limits) -> Result<Store, NoMemory>
         ensures { IfOk result (λ store. scene_of store ≡ first_scene (bounds_of limits.now)) }
     {
@@ -90,8 +90,9 @@ impl Store {
         })
     }
 
-    /// Changes the scene, or answers the first refusal of this change, which leaves all as it was: Range where a
-    /// number of it lies outside its interval, and then those of each change. A new object is a plain one.
+    /// Changes the scene, or answers the first refusal of this change, which leaves all as it was: Range
+    /// where a number of it lies outside its interval, and then those of each change. A new object is a
+    /// plain one.
     pub fn apply(&mut self, change: &Change) -> Result<(), Refusal>
         requires { IsChange change.now }
         ensures answer { result ≡ result_of (answer_of (scene_of self.old) change.now) }
@@ -105,8 +106,8 @@ impl Store {
         self.carry_out(change)
     }
 
-    /// The tree of the objects. Its `last_removed` lists what the last delete with Ok has removed, each object before
-    /// those below it.
+    /// The tree of the objects. Its `last_removed` lists what the last delete with Ok has removed, each
+    /// object before those below it.
     pub fn tree(&self) -> &Tree
         ensures forest { result.now.forest ≡ handles_of (scene_of self.now).trees }
         ensures removed { result.now.removed ≡ removed_of self.now }

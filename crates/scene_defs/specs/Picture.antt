@@ -26,7 +26,8 @@ panel_of scene = area_at (pos 0) (pos 0) scene.limits.width scene.limits.height
 abbrev pub pixels_of : Length → ℕ
 pixels_of (Pixels n) = n
 
--- an object's area, from its parent's: a root fills the panel, any other has its wanted place in its parent
+-- an object's area, from its parent's: a root fills the panel, and any other has its wanted place in its
+-- parent
 abbrev pub placed : Rect → Rect → Row → Rect
 placed panel parent row =
     if is_root row.kind then panel

@@ -1,5 +1,5 @@
-//! The definitions of a scene: what it is, how it changes, and how it is painted. The only code is the words
-//! that code and definitions share, and laws.
+//! The definitions of a scene: what it is, how it changes, and how it is painted. The only code is the
+//! words that code and definitions share, and laws.
 #![tactic(auto)]
 
 pub mod laws;

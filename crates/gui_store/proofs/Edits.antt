@@ -1,9 +1,9 @@
 -- The parts of a store after each change that is done.
-use Rattle.std.proofs.Common.{◌≡◌, ◌<◌, ◌≤◌, ◌⊎◌, ◌∙◌, sym, ap, subst, ℕ, zero, suc, ◌+◌, ◌-◌, Bool, true, false, length, slice_set, List, Option, Some, None, option_map, refl, arith, length-set, nat_lt, nat_le, nat_eq, ◌&&◌, eqb-true, slice_index_or, not, ◌++◌, inl, inr, [], ◌∷◌}
+use Rattle.std.proofs.Common.{◌≡◌, ◌<◌, ◌≤◌, ◌⊎◌, ◌∙◌, sym, ap, subst, ℕ, zero, suc, ◌+◌, ◌-◌, Bool, true, false, length, slice_set, List, Option, Some, None, option_map, is_some, ◌||◌, refl, arith, length-set, nat_lt, nat_le, nat_eq, ◌&&◌, eqb-true, unwrap_or, not, ◌++◌, inl, inr, [], ◌∷◌, cond, eqb}
 use Rattle.std.specs.List.{sum_by}
 use Rattle.std.specs.Prelude.{if◌then◌else◌}
 use Rattle.std.proofs.lemmas.Bool.Decides.{nat_tests}
-use Rattle.std.proofs.lemmas.List.{get_or-set_same, get_or-set_other}
+use Rattle.std.proofs.lemmas.List.{get_or-set_same}
 use Rattle.std.proofs.lemmas.List.Sums.{sum_by-cons}
 use Rattle.gui_base.specs.declared.pools.TheConstants.{POOLS}
 use Rattle.gui_base.specs.declared.Handle.{Handle}
@@ -14,10 +14,12 @@ use Rattle.gui_base.specs.declared.refusal.Refusal.TheVariants.{Full}
 use Rattle.gui_base.specs.declared.refusal.Refusal.TheVariants as refusal
 use Rattle.gui_base.specs.declared.words.Kind.{Kind}
 use Rattle.gui_base.specs.declared.words.Kind.TheVariants.{Screen, Layer}
-use Rattle.gui_base.specs.Forest.{Forest, Empty, Tree, and_then, leaf, put_at, has, size, preorder, moved_last, cut_by, tree_at, parent_of, with_children_by}
+use Rattle.gui_base.specs.Forest.{Forest, Empty, Tree, and_then, leaf, put_at, has, size, count, preorder, moved_last, cut, cut_by, tree_at, parent_of, with_children_by}
 use Rattle.gui_base.specs.Limits.{Bounds}
 use Rattle.gui_base.specs.Refusing.{first_of, result_of, root_tests, child_tests, removal_tests, move_tests, parent_tests, Place}
 use Rattle.gui_base.proofs.Forests.{map-and_then, map-size, map-cut_by, map-tree_by, map-parent_by, map-added_by, map-moved_by, map-moved_last_by}
+use Rattle.gui_base.proofs.Visits.{count-has}
+use Rattle.gui_pool.specs.Table.{Table, value_at, value_inserted, value_replaced}
 use Rattle.gui_tree.specs.Handles.{numbers}
 use Rattle.gui_tree.specs.Trees.{Trees, opened, add_root_answer, add_answer, remove_answer, move_answer, set_parent_answer, with_root, with_child, at_index, below, moved_below, without as without_tree}
 use Rattle.scene_defs.specs.declared.Change.{Change}
@@ -26,18 +28,19 @@ use Rattle.scene_defs.specs.Scene.{Row as SceneRow, Scene, is_at, handles_of, en
 use Rattle.scene_defs.specs.Change.{is_screen_kind, answer_in_range, tests, first_short, scene_after, tree_below, parent_row, at_index_below, last_below, row_after, row_set, lacks, need_of, freed_by}
 use Rattle.scene_defs.specs.Valid.{IsValid, is_root_at}
 use Rattle.scene_defs.proofs.Changes.{tests-fail, room_in_range, none_short, one_short, first-then, first-some, sets_row_alone}
-use Rattle.scene_defs.proofs.Totals.{total-cut, total-parts, total-row, one, size-total, entries-total}
+use Rattle.scene_defs.proofs.Totals.{total, total-cut, total-parts, total-row, one, one_at, size-total, entries-total, count-total}
 use Rattle.scene_defs.proofs.Handles.{has-handles}
 use Rattle.scene_defs.proofs.RowKinds.{root_there}
 use Rattle.scene_defs.proofs.Distinct.{distinct_once}
-use Rattle.scene_defs.proofs.Validity.{first_is_valid, needs, set_slots, set_only}
+use Rattle.scene_defs.proofs.Validity.{added_sum, removed_sum, first_is_valid, needs, set_slots, set_sums, set_only}
 use Rattle.gui_store.specs.declared.row.Row.{Row}
-use Rattle.gui_store.specs.Rows.{blank, row_of, row_in, entries_in}
+use Rattle.gui_store.specs.Rows.{blank, row_of, row_in, entries_in, HaveRows, rows_without}
 use Rattle.gui_store.specs.Removed.{removed_after}
 use Rattle.gui_store.specs.Parts.{Parts, scene_in, AreKept}
-use Rattle.gui_store.proofs.Shown.{shown, shown-handles, shown-aside, shown-set, sum-preorder}
+use Rattle.gui_store.proofs.Rows.{row_count, times, times-preorder, length-preorder, value-set, inserted-count, replaced-count, have-rows, without-count, without-spare, without-handles}
+use Rattle.gui_store.proofs.Shown.{shown, shown-handles, shown-aside, shown-set, shown-without, sum-preorder}
 use Rattle.gui_store.proofs.RowTests.{passed_there}
-use Rattle.gui_store.proofs.Kept.{there-is, size-is, row-is, read-at, within, growth-answer, edit-answer, Fine}
+use Rattle.gui_store.proofs.Kept.{there-is, size-is, row-is, read-at, within, vacant, counted, growth-answer, edit-answer, Fine}
 
 -- With an index past the last tree, it is put last.
 put_at-last : {A : Type 0} (n : ℕ) (t f : Forest A) → size f ≤ n → put_at n t f ≡ and_then f t
@@ -61,8 +64,8 @@ sum-numbers f (h ∷ hs) = let a = sum_by-cons (λ (x : Handle). f x.0) h hs in 
 
 module _ (p : Parts) (k : AreKept p) where
   -- the row of a new object
-  written : (n : ℕ) (row : Row) (kind : Kind) → n < 10000 → row_of n row ≡ new_row n kind → row_in (slice_set p.rows n row) n ≡ new_row n kind
-  written n row kind fits is = ap (row_of n) (get_or-set_same p.rows n row blank (omega (arith, k.long))) ∙ is
+  written : (n : ℕ) (row : Row) (kind : Kind) → n < length p.rows.values → row_of n row ≡ new_row n kind → row_in (value_inserted p.rows n row) n ≡ new_row n kind
+  written n row kind within is = ap (λ (o : Option Row). row_of n (unwrap_or o blank)) (get_or-set_same p.rows.values n (Some row) None within) ∙ is
 
   -- a slot is left where one is taken
   one_left : (change : Change) → need_of (scene_in p) change Objects ≡ 1 → answer_in_range (scene_in p) change ≡ None → 1 ≤ p.tree.spare
@@ -112,31 +115,52 @@ module _ (p : Parts) (k : AreKept p) where
       by true none = rw none refl
       by false none = refl
 
-  pub fine-screen : (n : Handle) (row : Row) → n.0 < 10000 → row_of n.0 row ≡ new_row n.0 Screen → answer_in_range (scene_in p) (change.Screen n) ≡ None → Fine p (change.Screen n) (record p { tree = with_root p.tree n.0; rows = slice_set p.rows n.0 row })
+  -- a handle that may be given a row
+  record IsVacant (n : ℕ) : Type 0 where
+    pub off : has p.tree.forest n ≡ false
+    pub within : n < length p.rows.values
+    pub vacant : value_at p.rows n ≡ None
+
+  is_vacant : (n : ℕ) → n < 10000 → has p.tree.forest n ≡ false → IsVacant n
+  is_vacant n fits off = record { off = off; within = omega (arith, fits, k.handles); vacant = vacant p k n off }
+
+  screen-vacant : (n : Handle) → n.0 < 10000 → answer_in_range (scene_in p) (change.Screen n) ≡ None → IsVacant n.0
+  screen-vacant n fits e =
+      let t = tests-fail (tests (scene_in p) (change.Screen n)) (first_short (scene_in p) (change.Screen n) POOLS) e in
+      is_vacant n.0 fits (sym (there-is p n.0) ∙ t.0)
+
+  object-vacant : (n q : Handle) (kind : Kind) → n.0 < 10000 → answer_in_range (scene_in p) (change.New n q kind) ≡ None → IsVacant n.0
+  object-vacant n q kind fits e =
+      let t = tests-fail (tests (scene_in p) (change.New n q kind)) (first_short (scene_in p) (change.New n q kind) POOLS) e in
+      is_vacant n.0 fits (sym (there-is p n.0) ∙ t.1.0)
+
+  pub fine-screen : (n : Handle) (row : Row) → n.0 < 10000 → row_of n.0 row ≡ new_row n.0 Screen → answer_in_range (scene_in p) (change.Screen n) ≡ None → Fine p (change.Screen n) (record p { tree = with_root p.tree n.0; rows = value_inserted p.rows n.0 row })
   fine-screen n row fits is e =
       let f = p.tree.forest in
-      let rows = slice_set p.rows n.0 row in
-      let t = tests-fail (tests (scene_in p) (change.Screen n)) (first_short (scene_in p) (change.Screen n) POOLS) e in
-      let off : has f n.0 ≡ false = sym (there-is p n.0) ∙ t.0 in
+      let rows = value_inserted p.rows n.0 row in
+      let v = screen-vacant n fits e in
       let left = one_left (change.Screen n) refl e in
       record {
-        shows = ap (λ (t : Forest SceneRow). record (scene_in p) { trees = t }) (map-and_then (row_in rows) f (leaf n.0) ∙ rw (shown-aside p.rows f n.0 row off, written n.0 row Screen fits is) refl);
-        long = length-set p.rows n.0 row ∙ k.long;
+        shows = ap (λ (t : Forest SceneRow). record (scene_in p) { trees = t }) (map-and_then (row_in rows) f (leaf n.0) ∙ rw (shown-aside p.rows f n.0 row v.off, written n.0 row Screen v.within is) refl);
+        handles = length-set p.rows.values n.0 (Some row) ∙ k.handles;
+        rows = λ h. omega (arith, inserted-count p.rows n.0 h row v.within v.vacant);
+        room = omega (arith, k.room);
         slots = omega (arith, left);
         entries = omega arith;
         removed = refl;
       }
 
-  pub fine-object : (n q : Handle) (kind : Kind) (row : Row) → n.0 < 10000 → row_of n.0 row ≡ new_row n.0 kind → answer_in_range (scene_in p) (change.New n q kind) ≡ None → Fine p (change.New n q kind) (record p { tree = with_child p.tree q.0 n.0; rows = slice_set p.rows n.0 row })
+  pub fine-object : (n q : Handle) (kind : Kind) (row : Row) → n.0 < 10000 → row_of n.0 row ≡ new_row n.0 kind → answer_in_range (scene_in p) (change.New n q kind) ≡ None → Fine p (change.New n q kind) (record p { tree = with_child p.tree q.0 n.0; rows = value_inserted p.rows n.0 row })
   fine-object n q kind row fits is e =
       let f = p.tree.forest in
-      let rows = slice_set p.rows n.0 row in
-      let t = tests-fail (tests (scene_in p) (change.New n q kind)) (first_short (scene_in p) (change.New n q kind) POOLS) e in
-      let off : has f n.0 ≡ false = sym (there-is p n.0) ∙ t.1.0 in
+      let rows = value_inserted p.rows n.0 row in
+      let v = object-vacant n q kind fits e in
       let left = one_left (change.New n q kind) refl e in
       record {
-        shows = ap (λ (t : Forest SceneRow). record (scene_in p) { trees = t }) (map-added_by (row_in rows) (is_at q.0) (is_at q.0) n.0 f ∙ rw (shown-aside p.rows f n.0 row off, written n.0 row kind fits is) refl);
-        long = length-set p.rows n.0 row ∙ k.long;
+        shows = ap (λ (t : Forest SceneRow). record (scene_in p) { trees = t }) (map-added_by (row_in rows) (is_at q.0) (is_at q.0) n.0 f ∙ rw (shown-aside p.rows f n.0 row v.off, written n.0 row kind v.within is) refl);
+        handles = length-set p.rows.values n.0 (Some row) ∙ k.handles;
+        rows = λ h. omega (arith, inserted-count p.rows n.0 h row v.within v.vacant);
+        room = omega (arith, k.room);
         slots = omega (arith, left);
         entries = omega arith;
         removed = refl;
@@ -154,28 +178,64 @@ module _ (p : Parts) (k : AreKept p) where
       let a = total-parts entry_count (scene_in p).trees h (distinct_once (scene_in p).trees k.valid.trees.once) in
       omega (arith, a, k.entries, entries-total (scene_in p).trees, entries-total (tree_below (scene_in p) h))
 
-  -- the entries of the handles that a removal lists
-  pub listed-sum : (rows : List Row) → rows ≡ p.rows → (hs : List Handle) (h : ℕ) (t : Trees) → t ≡ without_tree p.tree h → numbers hs ≡ t.removed → sum_by (λ (x : Handle). entries_in rows x.0) hs ≡ entries_of (tree_below (scene_in p) h)
-  listed-sum rows same hs h t gone listed =
-      ap (λ (rs : List Row). sum_by (λ (x : Handle). entries_in rs x.0) hs) same ∙ sum-numbers (entries_in p.rows) hs ∙ ap (sum_by (entries_in p.rows)) (listed ∙ ap (λ (x : Trees). x.removed) gone) ∙ freed-is h
+  -- The handles that a removal lists.
+  module _ (hs : List Handle) (h : Handle) (listed : numbers hs ≡ preorder (tree_at p.tree.forest h.0)) where
+    pub listed-sum : sum_by (λ (x : Handle). entries_in p.rows x.0) hs ≡ entries_of (tree_below (scene_in p) h.0)
+    listed-sum = sum-numbers (entries_in p.rows) hs ∙ ap (sum_by (entries_in p.rows)) listed ∙ freed-is h.0
 
-  pub fine-delete : (h : Handle) (n : ℕ) → n ≡ entries_of (tree_below (scene_in p) h.0) → Fine p (change.Delete h) (record p { tree = without_tree p.tree h.0; entries = p.entries - n })
-  fine-delete h n is = record {
-    shows = ap (λ (t : Forest SceneRow). record (scene_in p) { trees = t }) (map-cut_by (row_in p.rows) (is_at h.0) p.tree.forest);
-    long = k.long;
-    slots = let a = map-size (row_in p.rows) (tree_at p.tree.forest h.0) in let b = ap size (tree-is h.0) in omega arith;
-    entries = let a = freed-few h.0 in omega (arith, is);
-    removed = ap preorder (sym (ap handles_of (sym (tree-is h.0)) ∙ shown-handles p.rows (tree_at p.tree.forest h.0)));
-  }
+    listed-times : (j : ℕ) → times (numbers hs) j ≡ total (one_at j) (tree_below (scene_in p) h.0)
+    listed-times j =
+        ap (λ (xs : List ℕ). times xs j) listed ∙ times-preorder (tree_at p.tree.forest h.0) j
+        ∙ ap (λ (f : Forest ℕ). count f j) (sym (shown-handles p.rows (tree_at p.tree.forest h.0)))
+        ∙ count-total (shown p.rows (tree_at p.tree.forest h.0)) j ∙ ap (total (one_at j)) (tree-is h.0)
+
+    -- those that are left and those that are listed
+    parts : (j : ℕ) → count (cut p.tree.forest h.0) j + times (numbers hs) j ≡ row_count p.rows j
+    parts j =
+        let left = ap (λ (f : Forest ℕ). count f j) (shown-handles p.rows (cut p.tree.forest h.0)) in
+        let cut-is = ap (total (one_at j)) (map-cut_by (row_in p.rows) (is_at h.0) p.tree.forest) in
+        let all = ap (λ (f : Forest ℕ). count f j) (shown-handles p.rows p.tree.forest) in
+        omega (
+          arith,
+          left,
+          cut-is,
+          all,
+          count-total (shown p.rows (cut p.tree.forest h.0)) j,
+          count-total (scene_in p).trees j,
+          total-parts (one_at j) (scene_in p).trees h.0 (distinct_once (scene_in p).trees k.valid.trees.once),
+          listed-times j,
+          counted p k j,
+        )
+
+    pub listed-rows : HaveRows p.rows hs
+    listed-rows = have-rows p.rows hs (λ j. let a = parts j in omega arith)
+
+    -- what is left has its rows
+    aside : (j : ℕ) → has (cut p.tree.forest h.0) j ≡ true → times (numbers hs) j ≡ 0
+    aside j on = let a = told (value_at p.rows j) in omega (arith, parts j, count-has (cut p.tree.forest h.0) j on, a) where
+      told : (o : Option Row) → cond (is_some o) 1 0 ≤ 1
+      told None = omega arith
+      told (Some row) = omega arith
+
+    pub fine-delete : (n : ℕ) → n ≡ entries_of (tree_below (scene_in p) h.0) → Fine p (change.Delete h) (record p { tree = without_tree p.tree h.0; rows = rows_without p.rows hs; entries = p.entries - n })
+    fine-delete n is = record {
+      shows = ap (λ (t : Forest SceneRow). record (scene_in p) { trees = t }) (shown-without p.rows (cut p.tree.forest h.0) hs aside ∙ map-cut_by (row_in p.rows) (is_at h.0) p.tree.forest);
+      handles = without-handles p.rows hs ∙ k.handles;
+      rows = λ j. omega (arith, without-count p.rows hs j listed-rows, listed-times j);
+      room = let a = ap (λ (xs : List ℕ). length xs) listed in omega (arith, without-spare p.rows hs, a, length-preorder (tree_at p.tree.forest h.0), k.room);
+      slots = let a = map-size (row_in p.rows) (tree_at p.tree.forest h.0) in let b = ap size (tree-is h.0) in omega arith;
+      entries = let a = freed-few h.0 in omega (arith, is);
+      removed = ap preorder (sym (ap handles_of (sym (tree-is h.0)) ∙ shown-handles p.rows (tree_at p.tree.forest h.0)));
+    }
 
   -- a tree that is moved
-  moved : (change : Change) (g : Forest ℕ) → record (scene_in p) { trees = shown p.rows g } ≡ scene_after (scene_in p) change → need_of (scene_in p) change Objects ≡ freed_by (scene_in p) change Objects → need_of (scene_in p) change Entries ≡ freed_by (scene_in p) change Entries → p.tree.removed ≡ removed_after p.tree.removed (scene_in p) change → Fine p change (record p { tree = record p.tree { forest = g } })
-  moved change g shows objects entries removed = record { shows = shows; long = k.long; slots = omega (arith, objects); entries = omega (arith, entries); removed = removed }
+  moved : (change : Change) (g : Forest ℕ) → record (scene_in p) { trees = shown p.rows g } ≡ scene_after (scene_in p) change → ((w : SceneRow → ℕ) → removed_sum (scene_in p) change w ≡ added_sum (scene_in p) change w) → need_of (scene_in p) change Objects ≡ freed_by (scene_in p) change Objects → need_of (scene_in p) change Entries ≡ freed_by (scene_in p) change Entries → p.tree.removed ≡ removed_after p.tree.removed (scene_in p) change → Fine p change (record p { tree = record p.tree { forest = g } })
+  moved change g shows sums objects entries removed = record { shows = shows; handles = k.handles; rows = λ h. omega (arith, sums (one_at h)); room = k.room; slots = omega (arith, objects); entries = omega (arith, entries); removed = removed }
 
   pub fine-parent : (h q : Handle) → Fine p (change.Parent h q) (record p { tree = below p.tree h.0 q.0 })
   fine-parent h q =
       moved (change.Parent h q) (moved_last p.tree.forest h.0 q.0)
-      (ap (λ (t : Forest SceneRow). record (scene_in p) { trees = t }) (map-moved_last_by (row_in p.rows) (is_at h.0) (is_at q.0) p.tree.forest)) refl refl refl
+      (ap (λ (t : Forest SceneRow). record (scene_in p) { trees = t }) (map-moved_last_by (row_in p.rows) (is_at h.0) (is_at q.0) p.tree.forest)) (λ w. refl) refl refl refl
 
   -- a tree that goes to an index below the same parent
   index-shows : (h n : ℕ) → shown p.rows (moved_below (parent_of p.tree.forest h) p.tree.forest h n) ≡ at_index_below (parent_row (scene_in p) h) (scene_in p).trees h n
@@ -186,11 +246,11 @@ module _ (p : Parts) (k : AreKept p) where
 
   pub fine-index : (h : Handle) (n : ℕ) → Fine p (change.Index h n) (record p { tree = at_index p.tree h.0 n })
   fine-index h n =
-      moved (change.Index h n) (moved_below (parent_of p.tree.forest h.0) p.tree.forest h.0 n) (ap (λ (t : Forest SceneRow). record (scene_in p) { trees = t }) (index-shows h.0 n)) refl refl refl
+      moved (change.Index h n) (moved_below (parent_of p.tree.forest h.0) p.tree.forest h.0 n) (ap (λ (t : Forest SceneRow). record (scene_in p) { trees = t }) (index-shows h.0 n)) (λ w. refl) refl refl refl
 
   pub fine-back : (h : Handle) → Fine p (change.Back h) (record p { tree = at_index p.tree h.0 0 })
   fine-back h =
-      moved (change.Back h) (moved_below (parent_of p.tree.forest h.0) p.tree.forest h.0 0) (ap (λ (t : Forest SceneRow). record (scene_in p) { trees = t }) (index-shows h.0 0)) refl refl refl
+      moved (change.Back h) (moved_below (parent_of p.tree.forest h.0) p.tree.forest h.0 0) (ap (λ (t : Forest SceneRow). record (scene_in p) { trees = t }) (index-shows h.0 0)) (λ w. refl) refl refl refl
 
   -- an index past so many is the last
   last-shows : (h n : ℕ) → p.limits.objects ≤ n → (o : Option SceneRow) → at_index_below o (scene_in p).trees h n ≡ last_below o (scene_in p).trees h
@@ -203,10 +263,10 @@ module _ (p : Parts) (k : AreKept p) where
   pub fine-front : (h : Handle) (n : ℕ) → p.limits.objects ≤ n → Fine p (change.Front h) (record p { tree = at_index p.tree h.0 n })
   fine-front h n few =
       moved (change.Front h) (moved_below (parent_of p.tree.forest h.0) p.tree.forest h.0 n)
-      (ap (λ (t : Forest SceneRow). record (scene_in p) { trees = t }) (index-shows h.0 n ∙ last-shows h.0 n few (parent_row (scene_in p) h.0))) refl refl refl
+      (ap (λ (t : Forest SceneRow). record (scene_in p) { trees = t }) (index-shows h.0 n ∙ last-shows h.0 n few (parent_row (scene_in p) h.0))) (λ w. refl) refl refl refl
 
   pub fine-load : (h : Handle) → Fine p (change.Load h) (record p { active = h.0 })
-  fine-load h = record { shows = refl; long = k.long; slots = refl; entries = omega arith; removed = refl }
+  fine-load h = record { shows = refl; handles = k.handles; rows = λ j. omega arith; room = k.room; slots = refl; entries = omega arith; removed = refl }
 
   removed-set : (change : Change) (h : Handle) → row_set change ≡ Some h → p.tree.removed ≡ removed_after p.tree.removed (scene_in p) change
   removed-set (change.Delete n) h set = cc
@@ -224,28 +284,30 @@ module _ (p : Parts) (k : AreKept p) where
   set_there change h set passed = sym (there-is p h.0) ∙ passed_there (scene_in p) change h set passed
 
   -- the entries of a row that is read
-  pub row-entries : (h : Handle) (row : Row) (n : ℕ) → has p.tree.forest h.0 ≡ true → row ≡ slice_index_or p.rows h.0 row → ((j : ℕ) → n ≡ entry_count (row_of j row)) → (n ≡ entries_in p.rows h.0) × (n ≤ p.entries)
+  pub row-entries : (h : Handle) (row : Row) (n : ℕ) → has p.tree.forest h.0 ≡ true → Some row ≡ value_at p.rows h.0 → ((j : ℕ) → n ≡ entry_count (row_of j row)) → (n ≡ entries_in p.rows h.0) × (n ≤ p.entries)
   row-entries h row n on read count =
-      let is : n ≡ entries_in p.rows h.0 = count h.0 ∙ ap entry_count (read-at p k h.0 row on read) in
+      let is : n ≡ entries_in p.rows h.0 = count h.0 ∙ ap entry_count (read-at p k h.0 row read) in
       let few = total-row entry_count (scene_in p).trees h.0 (row_in p.rows h.0) (row-is p h.0 on) in
       (is, omega (arith, is, few, entries-total (scene_in p).trees, k.entries))
 
-  pub row-set : (change : Change) (h : Handle) (old new : Row) (a b : ℕ) → row_set change ≡ Some h → first_of (tests (scene_in p) change) None ≡ None → old ≡ slice_index_or p.rows h.0 old → ((j : ℕ) → row_of j new ≡ row_after change (row_of j old)) → ((j : ℕ) → a ≡ entry_count (row_of j old)) → ((j : ℕ) → b ≡ entry_count (row_of j new)) → RowSet change h new (p.entries - a + b)
+  pub row-set : (change : Change) (h : Handle) (old new : Row) (a b : ℕ) → row_set change ≡ Some h → first_of (tests (scene_in p) change) None ≡ None → Some old ≡ value_at p.rows h.0 → ((j : ℕ) → row_of j new ≡ row_after change (row_of j old)) → ((j : ℕ) → a ≡ entry_count (row_of j old)) → ((j : ℕ) → b ≡ entry_count (row_of j new)) → RowSet change h new (p.entries - a + b)
   row-set change h old new a b set passed read is before after =
       let on = set_there change h set passed in
       let was = row-entries h old a on read before in
       let now = after h.0 in
-      record { set = set; passed = passed; on = on; is = is h.0 ∙ ap (row_after change) (read-at p k h.0 old on read); count = omega (arith, was.0, was.1, now) }
+      record { set = set; passed = passed; on = on; is = is h.0 ∙ ap (row_after change) (read-at p k h.0 old read); count = omega (arith, was.0, was.1, now) }
 
   module _ (change : Change) (h : Handle) (row : Row) (n : ℕ) (r : RowSet change h row n) where
-    pub fine-row : Fine p change (record p { rows = slice_set p.rows h.0 row; entries = n })
+    pub fine-row : Fine p change (record p { rows = value_replaced p.rows h.0 row; entries = n })
     fine-row =
         let slots = set_slots (scene_in p) change h r.set in
         record {
           shows =
               ap (λ (t : Forest SceneRow). record (scene_in p) { trees = t }) (shown-set p.rows p.tree.forest h.0 row (row_after change) (within p k h.0 r.on) r.is)
               ∙ sym (sets_row_alone (scene_in p) change h r.set);
-          long = length-set p.rows h.0 row ∙ k.long;
+          handles = length-set p.rows.values h.0 (Some row) ∙ k.handles;
+          rows = λ j. let sums = set_sums (scene_in p) change h (one_at j) r.set in omega (arith, sums.0, sums.1, replaced-count p.rows h.0 j row (k.rows h.0 ∙ r.on));
+          room = k.room;
           slots = omega (arith, slots.0, slots.1);
           entries =
               let a = needs (scene_in p) change h (row_in p.rows h.0) r.set (row-is p h.0 r.on) in
@@ -273,32 +335,38 @@ module _ (p : Parts) (k : AreKept p) where
   row-refused change x e = first-some (tests (scene_in p) change) (option_map Full (first_short (scene_in p) change POOLS)) x e
 
 -- The first rows.
-module _ (tree : Trees) (limits : Bounds) (room : 3 ≤ limits.objects) (new : tree ≡ opened limits.objects) (xs : List Row) (long : length xs ≡ 10000) (a b c : Row) (top : (h : ℕ) → row_of h a ≡ new_row h Layer) (system : (h : ℕ) → row_of h b ≡ new_row h Layer) (screen : (h : ℕ) → row_of h c ≡ new_row h Screen) where
-  abbrev first_rows : List Row
-  first_rows = slice_set (slice_set (slice_set xs 1 a) 2 b) 3 c
+module _ (tree : Trees) (limits : Bounds) (room : 3 ≤ limits.objects) (new : tree ≡ opened limits.objects) (t : Table Row) (keys : length t.values ≡ 10000) (empty : (h : ℕ) → value_at t h ≡ None) (spare : t.spare ≡ limits.objects) (a b c : Row) (top : (h : ℕ) → row_of h a ≡ new_row h Layer) (system : (h : ℕ) → row_of h b ≡ new_row h Layer) (screen : (h : ℕ) → row_of h c ≡ new_row h Screen) where
+  abbrev first_rows : Table Row
+  first_rows = value_inserted (value_inserted (value_inserted t 1 a) 2 b) 3 c
 
   abbrev first_parts : Parts
   first_parts = record { tree = tree; rows = first_rows; active = 3; limits = limits; entries = 0 }
 
-  at_one : row_in first_rows 1 ≡ new_row 1 Layer
-  at_one =
-      ap (row_of 1) (get_or-set_other (slice_set (slice_set xs 1 a) 2 b) 3 1 c blank (omega arith) ∙ get_or-set_other (slice_set xs 1 a) 2 1 b blank (omega arith) ∙ get_or-set_same xs 1 a blank (omega arith)) ∙ top 1
+  first-value : (h : ℕ) → value_at first_rows h ≡ cond (eqb 3 h) (Some c) (cond (eqb 2 h) (Some b) (cond (eqb 1 h) (Some a) None))
+  first-value h =
+      let one = length-set t.values 1 (Some a) in
+      let two = length-set (slice_set t.values 1 (Some a)) 2 (Some b) in
+      value-set (slice_set (slice_set t.values 1 (Some a)) 2 (Some b)) 3 h (Some c) (omega (arith, keys, one, two))
+      ∙ ap (λ (o : Option Row). cond (eqb 3 h) (Some c) o) (value-set (slice_set t.values 1 (Some a)) 2 h (Some b) (omega (arith, keys, one))
+      ∙ ap (λ (o : Option Row). cond (eqb 2 h) (Some b) o) (value-set t.values 1 h (Some a) (omega (arith, keys)) ∙ ap (λ (o : Option Row). cond (eqb 1 h) (Some a) o) (empty h)))
 
-  at_two : row_in first_rows 2 ≡ new_row 2 Layer
-  at_two =
-      ap (row_of 2) (get_or-set_other (slice_set (slice_set xs 1 a) 2 b) 3 2 c blank (omega arith) ∙ get_or-set_same (slice_set xs 1 a) 2 b blank (omega (arith, length-set xs 1 a))) ∙ system 2
-
-  at_three : row_in first_rows 3 ≡ new_row 3 Screen
-  at_three =
-      ap (row_of 3) (get_or-set_same (slice_set (slice_set xs 1 a) 2 b) 3 c blank (omega (arith, length-set xs 1 a, length-set (slice_set xs 1 a) 2 b))) ∙ screen 3
+  row-first : (h : ℕ) (r : Row) → value_at first_rows h ≡ Some r → row_in first_rows h ≡ row_of h r
+  row-first h r e = ap (λ (o : Option Row). row_of h (unwrap_or o blank)) e
 
   pub first-shows : scene_in first_parts ≡ first_scene limits
-  first-shows = rw (new, at_one, at_two, at_three) refl
+  first-shows = rw (new, row-first 1 a (first-value 1) ∙ top 1, row-first 2 b (first-value 2) ∙ system 2, row-first 3 c (first-value 3) ∙ screen 3) refl
 
   pub first-kept : AreKept first_parts
   first-kept = record {
     valid = subst (λ (s : Scene). IsValid s) (sym first-shows) (first_is_valid limits room);
-    long = length-set (slice_set (slice_set xs 1 a) 2 b) 3 c ∙ length-set (slice_set xs 1 a) 2 b ∙ length-set xs 1 a ∙ long;
+    handles = length-set (slice_set (slice_set t.values 1 (Some a)) 2 (Some b)) 3 (Some c) ∙ length-set (slice_set t.values 1 (Some a)) 2 (Some b) ∙ length-set t.values 1 (Some a) ∙ keys;
+    rows = λ h. ap (λ (o : Option Row). is_some o) (first-value h) ∙ told (eqb 1 h) (eqb 2 h) (eqb 3 h) ∙ ap (λ (x : Trees). has x.forest h) (sym new);
+    room = let e = ap (λ (x : Trees). x.spare) new in omega (arith, e, spare);
     objects = let e : size tree.forest + tree.spare ≡ 3 + (limits.objects - 3) = ap (λ (t : Trees). size t.forest + t.spare) new in omega arith;
     entries = sym (ap (λ (s : Scene). entries_of s.trees) first-shows);
-  }
+  } where
+    told : (x y z : Bool) → is_some (cond z (Some c) (cond y (Some b) (cond x (Some a) None))) ≡ (x || (false || (y || (false || (z || (false || false))))))
+    told x y true = grind (arith)
+    told x true false = grind (arith)
+    told true false false = refl
+    told false false false = refl

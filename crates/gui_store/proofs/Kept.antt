@@ -1,32 +1,33 @@
 -- What the parts of a store answer, and that a change keeps them in order.
-use Rattle.std.proofs.Common.{◌≡◌, ◌<◌, ◌⊎◌, ◌∙◌, sym, ap, subst, ℕ, ◌+◌, Bool, true, false, length, slice_index_or, Option, Some, None, option_map, Ok, Err, List, refl, arith, nat_eq}
+use Rattle.std.proofs.Common.{◌≡◌, ◌<◌, ◌⊎◌, ◌∙◌, sym, ap, subst, ℕ, ◌+◌, Bool, true, false, length, Option, unwrap_or, Some, None, is_some, option_map, Ok, Err, List, refl, arith, nat_eq}
 use Rattle.std.specs.Prelude.{if◌then◌else◌, OnOk, OnErr}
 use Rattle.std.proofs.lemmas.Bool.Decides.{nat_tests}
-use Rattle.std.proofs.lemmas.List.{get_or_default}
 use Rattle.gui_base.specs.declared.pools.TheConstants.{POOLS}
 use Rattle.gui_base.specs.declared.intervals.TheConstants.{HANDLE}
 use Rattle.gui_base.specs.declared.limits.Pool.{Pool}
 use Rattle.gui_base.specs.declared.limits.Pool.TheVariants.{Objects, Entries}
 use Rattle.gui_base.specs.declared.refusal.Refusal.{Refusal}
 use Rattle.gui_base.specs.declared.refusal.Refusal.TheVariants.{Full}
-use Rattle.gui_base.specs.Forest.{Forest, has, size}
+use Rattle.gui_base.specs.Forest.{Forest, has, size, count}
 use Rattle.gui_base.specs.Limits.{Bounds}
 use Rattle.gui_base.specs.Refusing.{Test, first_of, result_of}
 use Rattle.gui_base.proofs.Forests.{map-size}
+use Rattle.gui_pool.specs.Table.{Table, value_at}
 use Rattle.gui_tree.specs.Trees.{Trees, Answer, full_answer}
 use Rattle.scene_defs.specs.declared.Change.{Change}
 use Rattle.scene_defs.specs.Ranges.{is_in_range}
-use Rattle.scene_defs.specs.Scene.{Scene, is_there, handles_of, row_at, entries_of}
+use Rattle.scene_defs.specs.Scene.{Row as SceneRow, Scene, is_there, handles_of, row_at, entries_of}
 use Rattle.scene_defs.specs.Change.{answer_in_range, scene_after, tests, first_short, need_of, freed_by, lacks}
 use Rattle.scene_defs.specs.Valid.{IsValid, IsChange, IsRow, is_row}
 use Rattle.scene_defs.proofs.Changes.{after_keeps, none_short, one_short}
-use Rattle.scene_defs.proofs.InRange.{numbers_of}
-use Rattle.scene_defs.proofs.Validity.{after_leaves, after_valid}
+use Rattle.scene_defs.proofs.Totals.{one_at}
+use Rattle.scene_defs.proofs.Validity.{added_sum, removed_sum, after_leaves, after_valid}
 use Rattle.gui_store.specs.declared.row.Row.{Row}
 use Rattle.gui_store.specs.Changed.{IsChanged}
 use Rattle.gui_store.specs.Parts.{Parts, scene_in, AreKept}
 use Rattle.gui_store.specs.Removed.{removed_after}
 use Rattle.gui_store.specs.Rows.{blank, row_of, row_in}
+use Rattle.gui_store.proofs.Rows.{row_count, within_of, told-count, count-told}
 use Rattle.gui_store.proofs.Shown.{shown-handles, shown-row, shown-all}
 
 -- What is found of h.
@@ -50,12 +51,32 @@ module _ (p : Parts) (k : AreKept p) where
   pub in_range : (h : ℕ) → has p.tree.forest h ≡ true → IsRow (row_in p.rows h)
   in_range h on = shown-all p.rows is_row p.tree.forest h k.valid.rows.numbers on
 
-  pub within : (h : ℕ) → has p.tree.forest h ≡ true → h < length p.rows
-  within h on = let a = (numbers_of (row_in p.rows h) (in_range h on)).handle in let b = k.long in grind (arith, nat_tests, a, b)
+  pub within : (h : ℕ) → has p.tree.forest h ≡ true → h < length p.rows.values
+  within h on = within_of p.rows h (k.rows h ∙ on)
 
-  -- the row that a read gives
-  pub read-at : (h : ℕ) (row : Row) → has p.tree.forest h ≡ true → row ≡ slice_index_or p.rows h row → row_of h row ≡ row_in p.rows h
-  read-at h row on e = ap (row_of h) (e ∙ get_or_default p.rows h row blank (within h on))
+  -- what a read gives
+  pub read-on : (h : ℕ) (row : Row) → Some row ≡ value_at p.rows h → has p.tree.forest h ≡ true
+  read-on h row e = sym (k.rows h) ∙ ap is_some (sym e)
+
+  pub read-off : (h : ℕ) → None ≡ value_at p.rows h → has p.tree.forest h ≡ false
+  read-off h e = sym (k.rows h) ∙ ap is_some (sym e)
+
+  pub read-at : (h : ℕ) (row : Row) → Some row ≡ value_at p.rows h → row_of h row ≡ row_in p.rows h
+  read-at h row e = ap (λ (o : Option Row). row_of h (unwrap_or o blank)) e
+
+  pub read-row : (h : ℕ) (o : Option Row) → o ≡ value_at p.rows h → option_map (row_of h) o ≡ row_at (scene_in p) h
+  read-row h None e = sym (row-none p h (read-off h e))
+  read-row h (Some row) e = ap (λ (r : SceneRow). Some r) (read-at h row e) ∙ sym (row-is p h (read-on h row e))
+
+  -- a row where the forest has its handle
+  pub vacant : (h : ℕ) → has p.tree.forest h ≡ false → value_at p.rows h ≡ None
+  vacant h off = none_of (value_at p.rows h) (k.rows h ∙ off) where
+    none_of : (o : Option Row) → is_some o ≡ false → o ≡ None
+    none_of None e = refl
+    none_of (Some row) e = cc
+
+  pub counted : (h : ℕ) → row_count p.rows h ≡ count p.tree.forest h
+  counted h = let once = ap (λ (f : Forest ℕ). count f h) (forest-is p) in told-count p.tree.forest h (value_at p.rows h) (omega (arith, once, k.valid.trees.once h)) (k.rows h)
 
   no-room : lacks (scene_in p) Objects 1 ≡ nat_eq p.tree.spare 0
   no-room = let a = size-is p in let b = k.objects in grind (arith, nat_tests)
@@ -88,7 +109,9 @@ ok-none (Some y) u e = cc
 -- what has to be shown of a change that is done
 pub record Fine (p : Parts) (change : Change) (q : Parts) : Type 0 where
   pub shows : scene_in q ≡ scene_after (scene_in p) change
-  pub long : length q.rows ≡ HANDLE.high + 1
+  pub handles : length q.rows.values ≡ HANDLE.high + 1
+  pub rows : (h : ℕ) → row_count q.rows h + removed_sum (scene_in p) change (one_at h) ≡ added_sum (scene_in p) change (one_at h) + row_count p.rows h
+  pub room : q.rows.spare ≡ q.tree.spare
   pub slots : q.tree.spare + need_of (scene_in p) change Objects ≡ p.tree.spare + freed_by (scene_in p) change Objects
   pub entries : q.entries + freed_by (scene_in p) change Entries ≡ need_of (scene_in p) change Entries + p.entries
   pub removed : q.tree.removed ≡ removed_after p.tree.removed (scene_in p) change
@@ -118,7 +141,13 @@ module _ (p : Parts) (k : AreKept p) (change : Change) where
         record {
           kept = record {
             valid = subst (λ (s : Scene). IsValid s) (sym fine.shows) (after_valid (scene_in p) change fits c e k.valid);
-            long = fine.long;
+            handles = fine.handles;
+            rows = λ h.
+                let a = ap (λ (f : Forest ℕ). count f h) (forest-is p) in
+                let b = ap (λ (f : Forest ℕ). count f h) (forest-is q) in
+                let c = ap (λ (s : Scene). count (handles_of s.trees) h) fine.shows in
+                count-told q.tree.forest h (value_at q.rows h) (omega (arith, a, b, c, l.handles h, fine.rows h, counted p k h));
+            room = fine.room;
             objects = omega (arith, limits, sizes, size-is p, size-is q, l.objects, fine.slots, k.objects);
             entries = omega (arith, entries, l.entries, fine.entries, k.entries);
           };
@@ -138,7 +167,7 @@ module _ (p : Parts) (k : AreKept p) (change : Change) where
     answered t u r a ok err fine = by_answer (answer_in_range (scene_in p) change) refl t u r a ok err fine
 
     -- a call of the tree that is done, and a row that is written then
-    pub grown : (t u : Trees) (r : Answer) (rows : List Row) (n : ℕ) (v : Unit {0}) → result_of (answer_in_range (scene_in p) change) ≡ r → r ≡ Ok v → OnOk r (t ≡ u) → (answer_in_range (scene_in p) change ≡ None → Fine p change (record p { tree = u; rows = rows; entries = n })) → Left p change (record p { tree = t; rows = rows; entries = n }) (Ok tt)
+    pub grown : (t u : Trees) (r : Answer) (rows : Table Row) (n : ℕ) (v : Unit {0}) → result_of (answer_in_range (scene_in p) change) ≡ r → r ≡ Ok v → OnOk r (t ≡ u) → (answer_in_range (scene_in p) change ≡ None → Fine p change (record p { tree = u; rows = rows; entries = n })) → Left p change (record p { tree = t; rows = rows; entries = n }) (Ok tt)
     grown t u r rows n v a e ok fine =
         let is : t ≡ u = subst (λ (x : Answer). OnOk x (t ≡ u)) e ok in
         let none = ok-none (answer_in_range (scene_in p) change) v (a ∙ e) in

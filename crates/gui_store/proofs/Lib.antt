@@ -1,4 +1,5 @@
 pub mod Edits
 pub mod Kept
 pub mod RowTests
+pub mod Rows
 pub mod Shown

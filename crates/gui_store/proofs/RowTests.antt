@@ -1,9 +1,8 @@
 -- The tests of a change of one row.
-use Rattle.std.proofs.Common.{◌≡◌, ◌∙◌, sym, ℤ, true, false, Some, None, refl, arith, inl, inr}
+use Rattle.std.proofs.Common.{◌≡◌, ◌∙◌, sym, true, false, Some, None, arith, inl, inr}
 use Rattle.std.proofs.lemmas.Bool.{cases_Bool}
 use Rattle.gui_base.specs.declared.Handle.{Handle}
 use Rattle.gui_base.specs.declared.refusal.Refusal.TheVariants.{Unknown}
-use Rattle.gui_base.specs.declared.words.Length.{Length}
 use Rattle.gui_base.specs.Refusing.{first_of}
 use Rattle.scene_defs.specs.declared.Change.{Change}
 use Rattle.scene_defs.specs.declared.Change.TheVariants as change
@@ -20,9 +19,3 @@ passed_there scene change h set e = elim (cases_Bool (is_there scene h.0)) [
   | inl on ↦ on
   | inr off ↦ let why : Some Unknown ≡ None = sym (absent_first scene change h set off) ∙ e in cc
 ]
-
--- all but a place and a size may be set of any object
-pub any_object : (scene : Scene) (c : Change) (h : Handle) → row_set c ≡ Some h → is_there scene h.0 ≡ true → ((a : Handle) (x y : ℤ) → c ≡ change.Pos a x y → ⊥) → ((a : Handle) (w t : Length) → c ≡ change.Size a w t → ⊥) → first_of (tests scene c) None ≡ None
-any_object scene (change.Pos a x y) h set on pos size = absurd (pos a x y refl)
-any_object scene (change.Size a w t) h set on pos size = absurd (size a w t refl)
-any_object scene change h set on pos size = grind (arith, set, on)

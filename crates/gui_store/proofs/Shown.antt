@@ -1,5 +1,5 @@
--- What a forest of handles shows with the rows of a list.
-use Rattle.std.proofs.Common.{◌≡◌, ◌<◌, ◌∙◌, sym, ap, ℕ, Bool, true, false, cond, if◌then◌else◌, List, ◌++◌, length, slice_set, Some, None, refl, arith, inl, inr, eqb}
+-- What a forest of handles shows with the rows of a table.
+use Rattle.std.proofs.Common.{◌≡◌, ◌<◌, ◌∙◌, sym, ap, ℕ, Bool, true, false, cond, if◌then◌else◌, List, ◌++◌, length, Option, Some, None, unwrap_or, refl, arith, inl, inr, eqb}
 use Rattle.std.specs.List.{sum_by}
 use Rattle.std.proofs.lemmas.Bool.{both_ways}
 use Rattle.std.proofs.lemmas.Bool.Decides.{nat_tests, eqb_tells}
@@ -7,14 +7,18 @@ use Rattle.std.proofs.lemmas.List.{get_or-set_same, get_or-set_other}
 use Rattle.std.proofs.lemmas.List.Sums.{sum_by-cons, sum_by-append}
 use Rattle.gui_base.specs.Forest.{Forest, Empty, Tree, all_by, map_forest, has, preorder, with_row_by}
 use Rattle.gui_base.proofs.Forests.{map-has_by, map-agree, map-set}
+use Rattle.gui_base.specs.declared.Handle.{Handle}
+use Rattle.gui_pool.specs.Table.{Table, value_inserted, value_replaced}
+use Rattle.gui_tree.specs.Handles.{numbers}
 use Rattle.scene_defs.specs.Scene.{Row as SceneRow, is_at, handles_of, row_by, entries_of}
 use Rattle.gui_store.specs.declared.row.Row.{Row}
-use Rattle.gui_store.specs.Rows.{blank, row_of, row_in, entries_in}
+use Rattle.gui_store.specs.Rows.{blank, row_of, row_in, entries_in, rows_without}
+use Rattle.gui_store.proofs.Rows.{times, without-other}
 
-abbrev pub shown : List Row → Forest ℕ → Forest SceneRow
+abbrev pub shown : Table Row → Forest ℕ → Forest SceneRow
 shown rows f = map_forest (row_in rows) f
 
-module _ (rows : List Row) where
+module _ (rows : Table Row) where
   pub shown-handles : (f : Forest ℕ) → handles_of (shown rows f) ≡ f
   shown-handles Empty = refl
   shown-handles (Tree h cs rest) = rw (shown-handles cs, shown-handles rest) refl
@@ -43,15 +47,19 @@ module _ (rows : List Row) where
       omega (arith, a, b, sum-preorder cs, sum-preorder rest)
 
   -- a row that is written where no handle of the forest reads it
-  pub shown-aside : (f : Forest ℕ) (h : ℕ) (row : Row) → has f h ≡ false → shown (slice_set rows h row) f ≡ shown rows f
+  pub shown-aside : (f : Forest ℕ) (h : ℕ) (row : Row) → has f h ≡ false → shown (value_inserted rows h row) f ≡ shown rows f
   shown-aside f h row off =
-      map-agree (row_in (slice_set rows h row)) (row_in rows) f (λ k on. ap (row_of k) (get_or-set_other rows h k row blank (λ same. both_ways _ off (ap (has f) (sym same) ∙ on))))
+      map-agree (row_in (value_inserted rows h row)) (row_in rows) f (λ k on. ap (λ (o : Option Row). row_of k (unwrap_or o blank)) (get_or-set_other rows.values h k (Some row) None (λ same. both_ways _ off (ap (has f) (sym same) ∙ on))))
+
+  -- rows that are taken out of handles that are not in the forest
+  pub shown-without : (f : Forest ℕ) (hs : List Handle) → ((k : ℕ) → has f k ≡ true → times (numbers hs) k ≡ 0) → shown (rows_without rows hs) f ≡ shown rows f
+  shown-without f hs none = map-agree (row_in (rows_without rows hs)) (row_in rows) f (λ k on. ap (λ (o : Option Row). row_of k (unwrap_or o blank)) (without-other rows hs k (none k on)))
 
   -- another row at h
-  pub shown-set : (f : Forest ℕ) (h : ℕ) (row : Row) (set : SceneRow → SceneRow) → h < length rows → row_of h row ≡ set (row_in rows h) → shown (slice_set rows h row) f ≡ with_row_by (is_at h) set (shown rows f)
+  pub shown-set : (f : Forest ℕ) (h : ℕ) (row : Row) (set : SceneRow → SceneRow) → h < length rows.values → row_of h row ≡ set (row_in rows h) → shown (value_replaced rows h row) f ≡ with_row_by (is_at h) set (shown rows f)
   shown-set f h row set within e =
-      map-agree (row_in (slice_set rows h row)) (λ k. cond (eqb k h) (set (row_in rows k)) (row_in rows k)) f (λ k on. elim (eqb_tells k h) [
-        | inl is ↦ rw is.0 (ap (row_in (slice_set rows h row)) is.1 ∙ ap (row_of h) (get_or-set_same rows h row blank within) ∙ e ∙ ap (λ (j : ℕ). set (row_in rows j)) (sym is.1))
-        | inr isnt ↦ rw isnt.0 (ap (row_of k) (get_or-set_other rows h k row blank isnt.1))
+      map-agree (row_in (value_replaced rows h row)) (λ k. cond (eqb k h) (set (row_in rows k)) (row_in rows k)) f (λ k on. elim (eqb_tells k h) [
+        | inl is ↦ rw is.0 (ap (row_in (value_replaced rows h row)) is.1 ∙ ap (λ (o : Option Row). row_of h (unwrap_or o blank)) (get_or-set_same rows.values h (Some row) None within) ∙ e ∙ ap (λ (j : ℕ). set (row_in rows j)) (sym is.1))
+        | inr isnt ↦ rw isnt.0 (ap (λ (o : Option Row). row_of k (unwrap_or o blank)) (get_or-set_other rows.values h k (Some row) None isnt.1))
       ])
       ∙ sym (map-set (row_in rows) set h (is_at h) (λ k. refl) f)

@@ -11,7 +11,7 @@ use Rattle.gui_store.specs.Parts.{Parts, scene_in}
 abbrev pub parts_of : Store → Parts
 parts_of store = record {
   tree = store.tree;
-  rows = store.rows.items;
+  rows = store.rows;
   active = store.active.0;
   limits = bounds_of store.limits;
   entries = store.entries;

@@ -1,5 +1,5 @@
 //! The store.
-ghost use Rattle.std.specs.Prelude.{◌≡◌, ◌<◌, ◌^◌, IfOk, IfSome, Some, None, true, option_map, sum_by};
+ghost use Rattle.std.specs.Prelude.{◌≡◌, ◌<◌, ◌^◌, IfOk, IfSome, Some, None, true, length, option_map, sum_by};
 ghost use Rattle.std.specs.Option.{option_copied};
 ghost use Rattle.gui_base.specs.Bounded.{bounds_of};
 ghost use Rattle.gui_base.specs.Refusing.{first_of, result_of, move_tests};
@@ -7,20 +7,27 @@ ghost use Rattle.scene_defs.specs.Scene.{handles_of, is_there, row_at, value_of,
 ghost use Rattle.scene_defs.specs.Change.{answer_of, changed, tests, row_set};
 ghost use Rattle.scene_defs.specs.Ranges.{is_in_range};
 ghost use Rattle.scene_defs.specs.Valid.{IsValid, IsChange, IsRow};
+ghost use Rattle.gui_pool.specs.Table.{value_at, value_inserted};
 ghost use Rattle.gui_store.specs.Parts.{AreKept};
 ghost use Rattle.gui_store.specs.Removed.{removed_by};
-ghost use Rattle.gui_store.specs.Rows.{row_of, entries_in};
+ghost use Rattle.gui_store.specs.Rows.{row_of, entries_in, HaveRows, rows_without};
 
 use crate::range::is_in_range;
 use crate::row::Row;
 use gui_base::intervals::HANDLE;
 use gui_base::{Handle, Kind, Limits, NoMemory, Part, Pool, Prop, Refusal};
+use gui_pool::Table;
 use gui_tree::Tree;
 use scene_defs::Change;
 use std::alloc::Global;
 
 /// One more than the greatest handle.
-const HANDLES: usize = HANDLE.high as usize + 1;
+const HANDLES: u32 = HANDLE.high as u32 + 1;
+
+/// The layers that are shown above the active screen.
+const TOP_LAYER: Handle = Handle(1);
+
+const SYSTEM_LAYER: Handle = Handle(2);
 
 /// The screen that is shown at first.
 const FIRST_SCREEN: Handle = Handle(3);
@@ -29,33 +36,55 @@ const FIRST_SCREEN: Handle = Handle(3);
 #[derive(Drop)]
 pub struct Store {
     tree: Tree,
-    // By handle. What stands at a handle that is not there says nothing.
-    rows: Vec<Row>,
+    // Those of the objects of the tree, by handle.
+    rows: Table<Row>,
     active: Handle,
     limits: Limits,
     // How many properties are set.
     entries: u32,
     ghost kept: { AreKept (record {
       tree = tree;
-      rows = rows.items;
+      rows = rows;
       active = active.0;
       limits = bounds_of limits;
       entries = entries;
     }) },
 }
 
+/// Gives a row to a handle that has none.
+fn insert_row(rows: &mut Table<Row>, h: Handle, row: Row)
+    requires within { h.0 < length rows.old.values }
+    requires vacant { value_at rows.old h.0 ≡ None }
+    requires room { 0 < rows.old.spare }
+    ensures { rows.new ≡ value_inserted rows.old h.0 row }
+{
+    let Ok(()) = rows.insert(h.0 as u32, row) else {
+        unreachable!()
+    };
+}
+
+/// Takes out the rows of these handles.
+fn remove_rows(rows: &mut Table<Row>, handles: &[Handle])
+    requires { HaveRows rows.old handles.now }
+    ensures { rows.new ≡ rows_without rows.old handles.now }
+{
+    for h in handles {
+        let _ = rows.remove(h.0 as u32);
+    }
+}
+
 /// How many properties are set in the row of a handle.
-fn entries_at(rows: &[Row], h: Handle) -> u32
+fn entries_at(rows: &Table<Row>, h: Handle) -> u32
     ensures { result ≡ entries_in rows.now h.0 }
 {
-    match rows.get(h.0 as usize) {
+    match rows.get(h.0 as u32) {
         Some(row) => row.entry_count(),
         None => 0,
     }
 }
 
 /// How many are set in the rows of all these handles.
-fn entries_of(rows: &[Row], handles: &[Handle]) -> u32
+fn entries_of(rows: &Table<Row>, handles: &[Handle]) -> u32
     requires { sum_by (λ h. entries_in rows.now h.0) handles.now < 2 ^ 32 }
     ensures { result ≡ sum_by (λ h. entries_in rows.now h.0) handles.now }
 {
@@ -75,12 +104,12 @@ impl Store {
         ensures { IfOk result (λ store. scene_of store ≡ first_scene (bounds_of limits.now)) }
     {
         let tree = Tree::open(alloc, limits.objects)?;
-        let Ok(mut rows) = Vec::from_elem(alloc, Row::new(Kind::Obj), HANDLES) else {
+        let Ok(mut rows) = Table::open(alloc, HANDLES, limits.objects) else {
             return Err(NoMemory);
         };
-        rows[1] = Row::new(Kind::Layer);
-        rows[2] = Row::new(Kind::Layer);
-        rows[3] = Row::new(Kind::Screen);
+        insert_row(&mut rows, TOP_LAYER, Row::new(Kind::Layer));
+        insert_row(&mut rows, SYSTEM_LAYER, Row::new(Kind::Layer));
+        insert_row(&mut rows, FIRST_SCREEN, Row::new(Kind::Screen));
         Ok(Store {
             tree,
             rows,
@@ -135,11 +164,7 @@ impl Store {
         ensures value { option_map (row_of h.0) (option_copied result) ≡ row_at (scene_of self.now) h.0 }
         ensures in_range { IfSome result (λ row. IsRow (row_of h.0 row.now)) }
     {
-        if self.tree.has(h) {
-            Some(&self.rows[h.0 as usize])
-        } else {
-            None
-        }
+        self.rows.get(h.0 as u32)
     }
 
     /// The value of a property of an object that is there: what is set locally, or the default.
@@ -147,7 +172,10 @@ impl Store {
         requires { is_there (scene_of self.now) h.0 ≡ true }
         ensures { option_map (λ row. value_of row prop) (row_at (scene_of self.now) h.0) ≡ Some result }
     {
-        self.rows[h.0 as usize].value(part, prop)
+        let Some(row) = self.rows.get(h.0 as u32) else {
+            unreachable!()
+        };
+        row.value(part, prop)
     }
 
     /// Carries out a change whose numbers lie in their intervals, or answers its first refusal.
@@ -178,7 +206,7 @@ impl Store {
         ensures { Changes self.old self.new (Change.Screen n) result }
     {
         self.tree.add_root(n)?;
-        self.rows[n.0 as usize] = Row::new(Kind::Screen);
+        insert_row(&mut self.rows, n, Row::new(Kind::Screen));
         Ok(())
     }
 
@@ -188,7 +216,7 @@ impl Store {
         ensures { Changes self.old self.new (Change.New n parent kind) result }
     {
         self.tree.add(n, parent)?;
-        self.rows[n.0 as usize] = Row::new(kind);
+        insert_row(&mut self.rows, n, Row::new(kind));
         Ok(())
     }
 
@@ -201,7 +229,8 @@ impl Store {
         }
         self.tree.remove(h)?;
         let removed = self.tree.last_removed();
-        self.entries -= entries_of(self.rows.as_slice(), removed);
+        self.entries -= entries_of(&self.rows, removed);
+        remove_rows(&mut self.rows, removed);
         Ok(())
     }
 
@@ -209,10 +238,10 @@ impl Store {
         requires { is_in_range (Change.Load h) ≡ true }
         ensures { Changes self.old self.new (Change.Load h) result }
     {
-        if !self.tree.has(h) {
+        let Some(row) = self.rows.get(h.0 as u32) else {
             return Err(Refusal::Unknown);
-        }
-        match self.rows[h.0 as usize].kind {
+        };
+        match row.kind {
             Kind::Screen => {
                 self.active = h;
                 Ok(())
@@ -221,14 +250,12 @@ impl Store {
         }
     }
 
-    /// Whether an object is there, and such a change of its row is for one like it.
+    /// Whether such a change of a row is for an object that is there.
     fn check_row(&self, h: Handle, change: &Change) -> Result<(), Refusal>
-        requires { row_set change.now ≡ Some h }
+        requires row { row_set change.now ≡ Some h }
+        requires there { is_there (scene_of self.now) h.0 ≡ true }
         ensures { result ≡ result_of (first_of (tests (scene_of self.now) change.now) None) }
     {
-        if !self.tree.has(h) {
-            return Err(Refusal::Unknown);
-        }
         match *change {
             Change::Pos(_, _, _) | Change::Size(_, _, _) => self.check_parent(h),
             _ => Ok(()),
@@ -253,15 +280,17 @@ impl Store {
         requires plain { IsChange change.now }
         ensures { Changes self.old self.new change.now result }
     {
+        let Some(mut row) = self.rows.get(h.0 as u32).copied() else {
+            return Err(Refusal::Unknown);
+        };
         self.check_row(h, change)?;
-        let mut row = self.rows[h.0 as usize];
         let others = self.entries - row.entry_count();
         row.change(change);
         let entries = others + row.entry_count();
         if entries > self.limits.entries {
             return Err(Refusal::Full(Pool::Entries));
         }
-        self.rows[h.0 as usize] = row;
+        let _ = self.rows.replace(h.0 as u32, row);
         self.entries = entries;
         Ok(())
     }

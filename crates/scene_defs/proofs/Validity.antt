@@ -12,7 +12,7 @@ use Rattle.gui_base.specs.declared.refusal.Refusal.{Refusal}
 use Rattle.gui_base.specs.declared.words.Kind.{Kind}
 use Rattle.gui_base.specs.declared.words.Kind.TheVariants.{Screen}
 use Rattle.gui_base.specs.declared.words.Prop.TheVariants.{BgColor, BgOpa}
-use Rattle.gui_base.specs.Forest.{Forest, Empty, Tree, all_by, and_then, put_at, leaf, size, depth_by, height, with_children_by, with_row_by, StandsOnce}
+use Rattle.gui_base.specs.Forest.{Forest, Empty, Tree, all_by, and_then, put_at, leaf, size, depth_by, height, with_children_by, with_row_by, count, StandsOnce}
 use Rattle.gui_base.specs.Intervals.{is_counted}
 use Rattle.gui_base.specs.Limits.{Bounds}
 use Rattle.scene_defs.specs.declared.Change.{Change}
@@ -176,25 +176,43 @@ at_end : (scene : Scene) (h : ℕ) (above : Option Row) → parent_row scene h �
 at_end scene h None e v = unmoved scene v
 at_end scene h (Some p) e v = beside scene h p (λ cs. and_then cs (tree_below scene h)) (joins_last (tree_below scene h)) e v
 
+-- the sum over the rows that a change adds, and over those that it removes
+abbrev pub added_sum : Scene → Change → (Row → ℕ) → ℕ
+added_sum scene (change.Screen n) = λ w. w (new_row n.0 Screen)
+added_sum scene (change.New n p kind) = λ w. w (new_row n.0 kind)
+added_sum scene change = λ w. 0
+
+abbrev pub removed_sum : Scene → Change → (Row → ℕ) → ℕ
+removed_sum scene (change.Delete h) = λ w. total w (tree_below scene h.0)
+removed_sum scene change = λ w. 0
+
 -- what a change that is done leaves, and how many slots it takes and frees
 pub record Leaves (scene : Scene) (change : Change) (after : Scene) : Type 0 where
   pub trees : AreTrees after.trees after.active
   pub rows : AreRows after.trees
   pub objects : size after.trees + freed_by scene change Objects ≡ need_of scene change Objects + size scene.trees
   pub entries : entries_of after.trees + freed_by scene change Entries ≡ need_of scene change Entries + entries_of scene.trees
+  -- how often a handle stands
+  pub handles : (k : ℕ) → count (handles_of after.trees) k + removed_sum scene change (one_at k) ≡ added_sum scene change (one_at k) + count (handles_of scene.trees) k
 
-edited : (scene : Scene) (change : Change) (g : Forest Row) (more less : (Row → ℕ) → ℕ) → Edited scene g more less →
-    more one ≡ need_of scene change Objects → less one ≡ freed_by scene change Objects →
-    more entry_count ≡ need_of scene change Entries → less entry_count ≡ freed_by scene change Entries →
+edited : (scene : Scene) (change : Change) (g : Forest Row) → Edited scene g (added_sum scene change) (removed_sum scene change) →
+    added_sum scene change one ≡ need_of scene change Objects → removed_sum scene change one ≡ freed_by scene change Objects →
+    added_sum scene change entry_count ≡ need_of scene change Entries → removed_sum scene change entry_count ≡ freed_by scene change Entries →
     Leaves scene change (record scene { trees = g })
-edited scene change g more less e a b c d =
+edited scene change g e a b c d =
     let one-g = size-total g in
     let one-f = size-total scene.trees in
     let entries-g = entries-total g in
     let entries-f = entries-total scene.trees in
     let ones = e.sums one in
     let entries = e.sums entry_count in
-    record { trees = e.trees; rows = e.rows; objects = omega arith; entries = omega arith }
+    record {
+      trees = e.trees;
+      rows = e.rows;
+      objects = omega arith;
+      entries = omega arith;
+      handles = λ k. let s = e.sums (one_at k) in omega (arith, count-total g k, count-total scene.trees k);
+    }
 
 -- One row.
 keeps : (change : Change) → Keeps (row_after change)
@@ -219,6 +237,13 @@ set_slots scene (change.Screen n) h set = cc
 set_slots scene (change.New n p kind) h set = cc
 set_slots scene (change.Delete n) h set = cc
 set_slots scene change h set = (refl, refl, refl)
+
+-- it adds no row and removes none
+pub set_sums : (scene : Scene) (change : Change) (h : Handle) (w : Row → ℕ) → row_set change ≡ Some h → (added_sum scene change w ≡ 0) × (removed_sum scene change w ≡ 0)
+set_sums scene (change.Screen n) h w set = cc
+set_sums scene (change.New n p kind) h w set = cc
+set_sums scene (change.Delete n) h w set = cc
+set_sums scene change h w set = (refl, refl)
 
 pub set_only : (scene : Scene) (change : Change) (h : Handle) → row_set change ≡ Some h → (pool : Pool) → (pool ≡ Entries) ⊎ (need_of scene change pool ≡ 0)
 set_only scene (change.Screen n) h set pool = cc
@@ -247,9 +272,9 @@ row_left scene change h set on fits v =
     let d = distinct_once f v.trees.once in
     let r = found (row_by (is_at h.0) f) (row_there f h.0 on) in
     let kept = keeps change in
-    let once = λ (k : ℕ). let a = total-set (one_at k) f h.0 new r.0 d r.1 in let b = ap (λ (n : ℕ). cond {A = ℕ} (eqb n k) 1 0) (kept.handle r.0) in let c : total (one_at k) g ≤ total (one_at k) f = omega arith in c in
+    let same = λ (k : ℕ). let a = total-set (one_at k) f h.0 new r.0 d r.1 in let b = ap (λ (n : ℕ). cond {A = ℕ} (eqb n k) 1 0) (kept.handle r.0) in let c : total (one_at k) g ≡ total (one_at k) f = omega arith in c in
     record {
-      trees = trees_kept f g scene.active v.trees (fewer_once f g once v.trees.once) (λ k root. root-with_row (is_at h.0) new f k kept root)
+      trees = trees_kept f g scene.active v.trees (fewer_once f g (λ k. let a = same k in omega arith) v.trees.once) (λ k root. root-with_row (is_at h.0) new f k kept root)
           (omega (arith, height-with_row (is_at h.0) new f, v.trees.low));
       rows = record {
         kinds = kinds-with_row (is_at h.0) new f kept v.rows.kinds;
@@ -260,6 +285,7 @@ row_left scene change h set on fits v =
           let a = total-set entry_count f h.0 new r.0 d r.1 in
           let b = entries-total f in
           let c = entries-total g in omega (arith, needs scene change h r.0 set r.1, slots.2);
+      handles = λ k. let s = set_sums scene change h (one_at k) set in omega (arith, same k, s.0, s.1, count-total g k, count-total f k);
     }
 
 loaded : (scene : Scene) (h : Handle) → is_screen scene h.0 ≡ true → IsValid scene → Leaves scene (change.Load h) (record scene { active = h.0 })
@@ -279,20 +305,21 @@ loaded scene h screen v =
       rows = v.rows;
       objects = omega arith;
       entries = omega arith;
+      handles = λ k. omega arith;
     }
 
 leaves : (scene : Scene) (change : Change) → is_in_range change ≡ true → IsChange change → Fail (tests scene change) → IsValid scene → Leaves scene change (scene_after scene change)
 leaves scene (change.Screen n) fits c t v =
-    edited scene (change.Screen n) _ _ _ (screen_added scene n.0 fits (sym (has-handles scene.trees n.0) ∙ t.0) v) refl refl refl refl
+    edited scene (change.Screen n) _ (screen_added scene n.0 fits (sym (has-handles scene.trees n.0) ∙ t.0) v) refl refl refl refl
 leaves scene (change.New n p kind) fits c t v =
     let f = scene.trees in
     let deep = depth-handles f p.0 in
     let under = depth-height (is_at p.0) f in
-    edited scene (change.New n p kind) _ _ _
+    edited scene (change.New n p kind) _
     (object_added scene n.0 p.0 kind (and_parts _ _ fits).0 (rw c refl) (sym (has-handles f n.0) ∙ t.1.0) (sym (has-handles f p.0) ∙ not-false _ t.0)
     (grind (arith, nat_tests, t.1.1.0, deep, under, v.trees.low)) v) refl refl refl refl
 leaves scene (change.Delete h) fits c t v =
-    edited scene (change.Delete h) _ _ _
+    edited scene (change.Delete h) _
     (tree_cut scene h.0 (grind (arith, nat_tests, t.1.0)) (grind (arith, nat_tests, t.1.0)) (grind (arith, nat_tests, t.1.0)) (grind (arith, nat_tests, t.1.1.0)) v)
     refl (sym (size-total (tree_below scene h.0))) refl (sym (entries-total (tree_below scene h.0)))
 leaves scene (change.Parent h p) fits c t v =
@@ -301,12 +328,12 @@ leaves scene (change.Parent h p) fits c t v =
     let up = sym (parent-handles f h.0) ∙ not-false _ t.1.1.0 in
     let out = sym (below-handles f h.0 p.0) ∙ t.1.1.1.0 in
     let low = ltb-false _ _ t.1.1.1.1.0 in
-    edited scene (change.Parent h p) _ _ _
+    edited scene (change.Parent h p) _
     (tree_moved scene h.0 p.0 (λ cs. and_then cs (tree_below scene h.0)) (joins_last (tree_below scene h.0)) up
     (there-cut f h.0 p.0 (distinct_once f v.trees.once) on out) (omega (arith, low, depth-handles f p.0, height-handles f h.0)) v) refl refl refl refl
-leaves scene (change.Index h n) fits c t v = edited scene (change.Index h n) _ _ _ (at_index scene h.0 n (parent_row scene h.0) refl v) refl refl refl refl
-leaves scene (change.Front h) fits c t v = edited scene (change.Front h) _ _ _ (at_end scene h.0 (parent_row scene h.0) refl v) refl refl refl refl
-leaves scene (change.Back h) fits c t v = edited scene (change.Back h) _ _ _ (at_index scene h.0 0 (parent_row scene h.0) refl v) refl refl refl refl
+leaves scene (change.Index h n) fits c t v = edited scene (change.Index h n) _ (at_index scene h.0 n (parent_row scene h.0) refl v) refl refl refl refl
+leaves scene (change.Front h) fits c t v = edited scene (change.Front h) _ (at_end scene h.0 (parent_row scene h.0) refl v) refl refl refl refl
+leaves scene (change.Back h) fits c t v = edited scene (change.Back h) _ (at_index scene h.0 0 (parent_row scene h.0) refl v) refl refl refl refl
 leaves scene (change.Load h) fits c t v = loaded scene h (not-false _ t.1.0) v
 leaves scene change fits c t v =
     let h = handle_in (row_set change) in

@@ -1,32 +1,35 @@
-use Rattle.std.proofs.Common.{◌≡◌, ◌∙◌, ◌-◌, sym, subst, Ok, arith}
+use Rattle.std.proofs.Common.{◌≡◌, ◌∙◌, ◌-◌, sym, ap, subst, Ok, arith}
 use Rattle.std.specs.Prelude.{OnOk}
-use Rattle.std.specs.List.{sum_by}
 use Rattle.std.proofs.lemmas.Result.{err_from_is_err_and}
-use Rattle.gui_base.specs.declared.Handle.{Handle}
 use Rattle.gui_base.specs.declared.refusal.Refusal.TheVariants.{Place}
-use Rattle.gui_tree.specs.Trees.{Answer, without}
+use Rattle.gui_base.specs.Forest.{preorder, tree_at}
+use Rattle.gui_pool.specs.Table.{Table}
+use Rattle.gui_tree.specs.Handles.{numbers}
+use Rattle.gui_tree.specs.Trees.{Trees, Answer, without}
 use Rattle.scene_defs.specs.declared.Change.TheVariants as change
-use Rattle.scene_defs.specs.Scene.{entries_of}
-use Rattle.scene_defs.specs.Change.{tree_below}
-use Rattle.gui_store.specs.Rows.{entries_in}
-use Rattle.gui_store.specs.Views.{parts_of, scene_of}
-use Rattle.gui_store.proofs.Edits.{delete-answer, delete-active, listed-sum, freed-few, fine-delete}
+use Rattle.gui_store.specs.declared.row.Row.{Row}
+use Rattle.gui_store.specs.Rows.{rows_without}
+use Rattle.gui_store.specs.Views.{parts_of}
+use Rattle.gui_store.proofs.Edits.{delete-answer, delete-active, listed-sum, listed-rows, freed-few, fine-delete}
 use Rattle.gui_store.proofs.Kept.{Left, refused, failed, grown}
 use Rattle.gui_store.proofs.store.Store.delete.Goals as goal
-use Rattle.gui_store.proofs.store.Store.delete.Goals.{After-as_slice, After-entries_of}
+use Rattle.gui_store.proofs.store.Store.delete.Goals.{In_ok-remove, After-remove_rows}
 
--- the entries of what was removed
-listed : (c : After-as_slice) → sum_by (λ (h : Handle). entries_in c.as_slice.result.now h.0) c.last_removed-removed.result.now ≡ entries_of (tree_below (scene_of c.args.self.now) c.args.h.0)
+-- what is listed
+listed : (c : In_ok-remove) → c.remove.new.self.removed ≡ preorder (tree_at c.args.self.now.tree.forest c.args.h.0)
 listed c =
     let p = parts_of c.args.self.now in
-    let tree : c.remove.new.self ≡ without p.tree c.args.h.0 = subst (λ (x : Answer). OnOk x (c.remove.new.self ≡ without p.tree c.args.h.0)) c.in_ok-remove.was c.remove.ensures.ok in
-    listed-sum p c.args.self.now.kept c.as_slice.result.now c.as_slice.ensures.value c.last_removed-removed.result.now c.args.h.0 c.remove.new.self tree c.last_removed-removed.ensures
+    ap (λ (t : Trees). t.removed) (subst (λ (x : Answer). OnOk x (c.remove.new.self ≡ without p.tree c.args.h.0)) c.in_ok-remove.was c.remove.ensures.ok)
 
-deleted : (c : After-entries_of) → c.entries_of.result ≡ entries_of (tree_below (scene_of c.args.self.now) c.args.h.0) → Left (parts_of c.args.self.now) (change.Delete c.args.h) (record (parts_of c.args.self.now) { tree = c.remove.new.self; entries = c.args.self.now.entries - c.entries_of.result }) (Ok tt)
-deleted c sum =
+deleted : (c : After-remove_rows) → numbers c.last_removed-removed.result.now ≡ preorder (tree_at c.args.self.now.tree.forest c.args.h.0) → Left (parts_of c.args.self.now) (change.Delete c.args.h) (record (parts_of c.args.self.now) { tree = c.remove.new.self; rows = c.remove_rows.new.rows; entries = c.args.self.now.entries - c.entries_of.result }) (Ok tt)
+deleted c list =
     let p = parts_of c.args.self.now in
-    grown p c.args.self.now.kept (change.Delete c.args.h) c.requires tt c.remove.new.self (without p.tree c.args.h.0) c.remove.result p.rows _ _
-    (delete-answer p c.args.self.now.kept c.args.h (sym c.eq.ensures ∙ c.if-eq.false) ∙ sym c.remove.ensures.answer) c.in_ok-remove.was c.remove.ensures.ok (λ e. fine-delete p c.args.self.now.kept c.args.h c.entries_of.result sum)
+    let k = c.args.self.now.kept in
+    let hs = c.last_removed-removed.result.now in
+    let n = c.args.self.now.entries - c.entries_of.result in
+    subst (λ (rows : Table Row). Left p (change.Delete c.args.h) (record p { tree = c.remove.new.self; rows = rows; entries = n }) (Ok tt)) (sym c.remove_rows.ensures)
+    (grown p k (change.Delete c.args.h) c.requires tt c.remove.new.self (without p.tree c.args.h.0) c.remove.result (rows_without p.rows hs) n _
+    (delete-answer p k c.args.h (sym c.eq.ensures ∙ c.if-eq.false) ∙ sym c.remove.ensures.answer) c.in_ok-remove.was c.remove.ensures.ok (λ e. fine-delete p k hs c.args.h list c.entries_of.result (c.entries_of.ensures ∙ listed-sum p k hs c.args.h list)))
 
 pub returns-then-eq : goal.returns-then-eq
 returns-then-eq c =
@@ -43,15 +46,22 @@ pub entries_of-requires : goal.entries_of-requires
 entries_of-requires c =
     let k = c.args.self.now.kept in
     let few = freed-few (parts_of c.args.self.now) k c.args.h.0 in
-    omega (arith, listed (goal.at.entries_of-requires c).After-as_slice, few, k.entries, k.valid.pools.entries, c.args.self.now.limits.pools.most_entries)
+    let sum = listed-sum (parts_of c.args.self.now) k c.last_removed-removed.result.now c.args.h (c.last_removed-removed.ensures ∙ listed (goal.at.entries_of-requires c).In_ok-remove) in
+    omega (arith, sum, few, k.entries, k.valid.pools.entries, c.args.self.now.limits.pools.most_entries)
 
 pub overflow_sub-self : goal.overflow_sub-self
 overflow_sub-self c =
-    let few = freed-few (parts_of c.args.self.now) c.args.self.now.kept c.args.h.0 in
-    omega (arith, c.entries_of.ensures, listed (goal.at.overflow_sub-self c).After-as_slice, few)
+    let k = c.args.self.now.kept in
+    let few = freed-few (parts_of c.args.self.now) k c.args.h.0 in
+    let sum = listed-sum (parts_of c.args.self.now) k c.last_removed-removed.result.now c.args.h (c.last_removed-removed.ensures ∙ listed (goal.at.overflow_sub-self c).In_ok-remove) in
+    omega (arith, c.entries_of.ensures, sum, few)
+
+pub remove_rows-requires : goal.remove_rows-requires
+remove_rows-requires c =
+    listed-rows (parts_of c.args.self.now) c.args.self.now.kept c.last_removed-removed.result.now c.args.h (c.last_removed-removed.ensures ∙ listed (goal.at.remove_rows-requires c).In_ok-remove)
 
 pub invariant_of-self-2 : goal.invariant_of-self-2
-invariant_of-self-2 c = let at = goal.at.invariant_of-self-2 c in record { kept = (deleted at.After-entries_of (c.entries_of.ensures ∙ listed at.After-as_slice)).kept }
+invariant_of-self-2 c = let at = goal.at.invariant_of-self-2 c in record { kept = (deleted at.After-remove_rows (c.last_removed-removed.ensures ∙ listed at.In_ok-remove)).kept }
 
 pub returns : goal.returns
-returns c = let at = goal.at.returns c in (deleted at.After-entries_of (c.entries_of.ensures ∙ listed at.After-as_slice)).is
+returns c = let at = goal.at.returns c in (deleted at.After-remove_rows (c.last_removed-removed.ensures ∙ listed at.In_ok-remove)).is

@@ -1,21 +1,21 @@
-use Rattle.std.proofs.Common.{◌∙◌, sym, ap, subst, Some, arith}
-use Rattle.scene_defs.specs.Scene.{Row}
+use Rattle.std.proofs.Common.{◌≡◌, sym, subst, ℕ, Option, Some, None, IfSome, Bor}
+use Rattle.std.specs.Option.{option_copied}
+use Rattle.gui_pool.specs.Table.{value_at}
+use Rattle.scene_defs.specs.Scene.{Row as SceneRow}
 use Rattle.scene_defs.specs.Valid.{IsRow}
+use Rattle.gui_store.specs.declared.row.Row.{Row}
+use Rattle.gui_store.specs.Parts.{Parts, AreKept}
+use Rattle.gui_store.specs.Rows.{row_of}
 use Rattle.gui_store.specs.Views.{parts_of}
-use Rattle.gui_store.proofs.Kept.{in_range, within, read-at, row-is, row-none}
+use Rattle.gui_store.proofs.Kept.{in_range, read-on, read-at, read-row}
 use Rattle.gui_store.proofs.store.Store.row.Goals as goal
 
-pub index-requires : goal.index-requires
-index-requires c =
-    let a = within (parts_of c.args.self.now) c.args.self.now.kept c.args.h.0 (sym c.has.ensures ∙ c.if-has.true) in
-    let b = c.args.self.now.rows.ok.0 in omega arith
+pub returns-clause-value : goal.returns-clause-value
+returns-clause-value c = read-row (parts_of c.args.self.now) c.args.self.now.kept c.args.h.0 (option_copied c.get.result) c.get.ensures
 
-pub returns-then-has : goal.returns-then-has
-returns-then-has c =
-    let p = parts_of c.args.self.now in
-    let on = sym c.has.ensures ∙ c.if-has.true in
-    let read = read-at p c.args.self.now.kept c.args.h.0 c.index.result.now on c.index.ensures in
-    record { value = ap (λ (r : Row). Some r) read ∙ sym (row-is p c.args.h.0 on); in_range = subst (λ (r : Row). IsRow r) (sym read) (in_range p c.args.self.now.kept c.args.h.0 on) }
+ranged : (p : Parts) (k : AreKept p) (h : ℕ) (o : Option (Bor Row)) → option_copied o ≡ value_at p.rows h → IfSome o (λ row. IsRow (row_of h row.now))
+ranged p k h None e = tt
+ranged p k h (Some row) e = subst (λ (r : SceneRow). IsRow r) (sym (read-at p k h row.now e)) (in_range p k h (read-on p k h row.now e))
 
-pub returns-else-has-clause-value : goal.returns-else-has-clause-value
-returns-else-has-clause-value c = sym (row-none (parts_of c.args.self.now) c.args.h.0 (sym c.has.ensures ∙ c.if-has.false))
+pub returns-clause-in_range : goal.returns-clause-in_range
+returns-clause-in_range c = ranged (parts_of c.args.self.now) c.args.self.now.kept c.args.h.0 c.get.result c.get.ensures

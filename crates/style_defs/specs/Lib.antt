@@ -1,0 +1,5 @@
+pub mod Cascade
+pub mod Examples
+pub mod Firsts
+pub mod Laws
+pub mod Words

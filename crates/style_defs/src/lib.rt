@@ -1,0 +1,41 @@
+//! The words of styles, and the definition of the cascade: which of the values that are set applies to a part
+//! of an object, and which of those wins.
+#![tactic(auto)]
+
+pub mod laws;
+pub mod words;
+
+pub use words::{PARTS, PROPS, Part, Prop, STATES, Selector};
+
+/// A property that a shared style sets.
+#[derive(Clone, Copy, Debug, Drop)]
+pub struct Setting {
+    pub prop: Prop,
+    /// In the range of the property.
+    pub value: i32,
+}
+
+/// A property that is set locally, at an object.
+#[derive(Clone, Copy, Debug, Drop)]
+pub struct Entry {
+    pub selector: Selector,
+    pub prop: Prop,
+    /// In the range of the property.
+    pub value: i32,
+}
+
+/// A shared style that is added to an object.
+#[derive(Clone, Copy, Debug, Drop)]
+pub struct Use {
+    /// The number of the style.
+    pub style: u16,
+    pub selector: Selector,
+}
+
+/// A value that applies to a part of an object, and the states that it is set for.
+#[derive(Clone, Copy, Debug, Drop)]
+pub struct Candidate {
+    /// A bit for each state, as [`STATES`] says.
+    pub states: u16,
+    pub value: i32,
+}

@@ -1,0 +1,137 @@
+//! The words of styles. Each kind of word has one table of its names.
+ghost use Rattle.std.specs.Prelude.{◌≡◌};
+
+/// The part of an object that a property is for.
+#[derive(Clone, Copy, Debug, PartialEq, Eq)]
+pub enum Part {
+    /// The object itself.
+    Main,
+    /// The scrollbar.
+    Scrollbar,
+    /// The filled share of a bar or a slider, and the box of a checkbox.
+    Indicator,
+    /// The handle of a slider.
+    Knob,
+}
+
+pub const PARTS: [(&'static str, Part); 4] = [
+    ("main", Part::Main),
+    ("scrollbar", Part::Scrollbar),
+    ("indicator", Part::Indicator),
+    ("knob", Part::Knob),
+];
+
+/// A property of a part. Its value is a number.
+///
+/// A colour of red r, green g and blue b, from 0 to 255 each, is `65536 * r + 256 * g + b`. An opacity is
+/// from 0 to 255. Widths, pads and spaces are in pixels.
+///
+/// The properties of a text are inherited: where a part has no value, the object's own part has, and then the
+/// object's ancestors. The others are not.
+#[derive(Clone, Copy, Debug, PartialEq, Eq)]
+pub enum Prop {
+    /// The colour of the fill. White where none is set.
+    BgColor,
+    /// The opacity of the fill. 0 where none is set.
+    BgOpa,
+    /// The colour of the border. Black where none is set.
+    BorderColor,
+    /// The opacity of the border. 255 where none is set.
+    BorderOpa,
+    /// The width of the border, from 0 to 100. 0 where none is set.
+    BorderWidth,
+    /// The space between the border and what is inside, from 0 to 1000, as the other three. 0 where none is
+    /// set.
+    PadTop,
+    PadBottom,
+    PadLeft,
+    PadRight,
+    /// The space between two rows of children, from 0 to 1000. 0 where none is set.
+    PadRow,
+    /// The space between two columns of children, from 0 to 1000. 0 where none is set.
+    PadColumn,
+    /// The colour in which an image of opacities alone is drawn. Black where none is set.
+    ImgRecolor,
+    /// The opacity of an image. 255 where none is set.
+    ImgOpa,
+    /// The colour of a text. Black where none is set.
+    TextColor,
+    /// The opacity of a text. 255 where none is set.
+    TextOpa,
+    /// The number of a text's font, from 0 to 99. 0, the built-in font, where none is set.
+    TextFont,
+    /// Where the lines of a text stand: 0 left, 1 center, 2 right. Left where none is set.
+    TextAlign,
+    /// The space between two characters, from 0 to 100. 0 where none is set.
+    TextLetterSpace,
+    /// The space between two lines, from 0 to 100. 0 where none is set.
+    TextLineSpace,
+}
+
+pub const PROPS: [(&'static str, Prop); 19] = [
+    ("bg_color", Prop::BgColor),
+    ("bg_opa", Prop::BgOpa),
+    ("border_color", Prop::BorderColor),
+    ("border_opa", Prop::BorderOpa),
+    ("border_width", Prop::BorderWidth),
+    ("pad_top", Prop::PadTop),
+    ("pad_bottom", Prop::PadBottom),
+    ("pad_left", Prop::PadLeft),
+    ("pad_right", Prop::PadRight),
+    ("pad_row", Prop::PadRow),
+    ("pad_column", Prop::PadColumn),
+    ("img_recolor", Prop::ImgRecolor),
+    ("img_opa", Prop::ImgOpa),
+    ("text_color", Prop::TextColor),
+    ("text_opa", Prop::TextOpa),
+    ("text_font", Prop::TextFont),
+    ("text_align", Prop::TextAlign),
+    ("text_letter_space", Prop::TextLetterSpace),
+    ("text_line_space", Prop::TextLineSpace),
+];
+
+/// The states that an object may be in, each with its bit.
+pub const STATES: [(&'static str, u16); 12] = [
+    ("checked", 0x0001),
+    ("focused", 0x0002),
+    ("focus_key", 0x0004),
+    ("edited", 0x0008),
+    ("hovered", 0x0010),
+    ("pressed", 0x0020),
+    ("scrolled", 0x0040),
+    ("disabled", 0x0080),
+    ("user1", 0x1000),
+    ("user2", 0x2000),
+    ("user3", 0x4000),
+    ("user4", 0x8000),
+];
+
+/// What a property is set for: a part, while the object is in all of the given states.
+#[derive(Clone, Copy, Debug, PartialEq, Eq)]
+pub struct Selector {
+    pub part: Part,
+    /// A bit for each state, as [`STATES`] says.
+    pub states: u16,
+}
+
+impl Part {
+    ghost use Rattle.style_defs.specs.Words.{part_number};
+
+    /// Its place in [`PARTS`], from 0.
+    pub fn number(self) -> u8
+        ensures { result ≡ part_number self }
+    {
+        self as u8
+    }
+}
+
+impl Prop {
+    ghost use Rattle.style_defs.specs.Words.{prop_number};
+
+    /// Its place in [`PROPS`], from 0.
+    pub fn number(self) -> u8
+        ensures { result ≡ prop_number self }
+    {
+        self as u8
+    }
+}

@@ -1,0 +1,5 @@
+pub mod Answers
+pub mod Changes
+pub mod Keys
+pub mod Shared
+pub mod Views

@@ -1,0 +1,10 @@
+//! The shared styles, what is set locally at each object, and which styles each object uses.
+//!
+//! All memory is taken at [`Styles::open`]. A call that is refused leaves all as it was.
+#![tactic(auto)]
+
+mod cascade;
+mod styles;
+
+pub use style_defs::{Part, Prop, Selector};
+pub use styles::Styles;

@@ -1,16 +1,21 @@
 -- What a contract sees of `Styles`, what its calls answer and what they leave.
 use Rattle.std.specs.Prelude.{ℕ, ◌+◌, ◌-◌, ℤ, Bool, ◌&&◌, ◌==◌, nat_lt, not, if◌then◌else◌}
-use Rattle.std.specs.Prelude.{List, [], ◌∷◌, ◌++◌, map, is_some, length, slice_index_or, slice_set, Result, Ok, Err}
+use Rattle.std.specs.Prelude.{List, [], ◌∷◌, ◌++◌, map, is_some, length, slice_index_or, slice_set}
+use Rattle.std.specs.Prelude.{Result, Ok, Err}
+use Rattle.std.specs.declared.option.Option.{Option}
 use Rattle.gui_base.specs.declared.limits.Pool.{Pool}
 use Rattle.gui_base.specs.declared.limits.Pool.TheVariants.{Styles as StyleSlots, Entries, Uses}
 use Rattle.gui_base.specs.declared.refusal.Refusal.{Refusal}
 use Rattle.gui_base.specs.declared.refusal.Refusal.TheVariants.{Unknown, Taken, Full}
+use Rattle.style_defs.specs.declared.words.Part.{Part}
 use Rattle.style_defs.specs.declared.words.Prop.{Prop}
 use Rattle.style_defs.specs.declared.words.Selector.{Selector}
+use Rattle.style_defs.specs.declared.Candidate.{Candidate}
 use Rattle.style_defs.specs.declared.Entry.{Entry}
 use Rattle.style_defs.specs.declared.Setting.{Setting}
 use Rattle.style_defs.specs.declared.Use.{Use}
-use Rattle.style_defs.specs.Cascade.{Style, is_numbered, has_style, sets, settings_of}
+use Rattle.style_defs.specs.Cascade.{Style, is_numbered, has_style, sets, settings_of, of_entry, of_use}
+use Rattle.style_defs.specs.Cascade.{winning}
 use Rattle.style_defs.specs.Firsts.{first_by, put_by, drop_by}
 use Rattle.style_defs.specs.Words.{same_prop, same_selector}
 
@@ -32,6 +37,19 @@ locals_of s h = slice_index_or s.locals h []
 -- the styles that it uses, in the order of adding
 abbrev pub uses_of : Styles → ℕ → List Use
 uses_of s h = slice_index_or s.uses h []
+
+module _ (s : Styles) (h : ℕ) (part : Part) (states : ℕ) (prop : Prop) where
+  -- the value that wins for a property of a part, where the object is in these states
+  abbrev pub winning_at : Option ℤ
+  winning_at = winning s.styles (uses_of s h) (locals_of s h) part states prop
+
+  -- what each style gives that the object uses
+  abbrev pub shared_at : List (Option Candidate)
+  shared_at = map (of_use s.styles part states prop) (uses_of s h)
+
+  -- what each local entry gives
+  abbrev pub local_at : List (Option Candidate)
+  local_at = map (of_entry part states prop) (locals_of s h)
 
 -- whether an entry sets the property for the selector
 abbrev pub is_for : Selector → Prop → Entry → Bool

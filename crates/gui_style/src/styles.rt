@@ -1,11 +1,10 @@
 //! The styles.
-ghost use Rattle.std.specs.Prelude.{◌≡◌, ℕ, ◌+◌, ◌<◌, [], None, length, map, fold};
-ghost use Rattle.std.specs.Prelude.{IfOk, OnOk, OnErr};
+ghost use Rattle.std.specs.Prelude.{◌≡◌, ℕ, ◌+◌, ◌<◌, [], None, length, fold, IfOk, OnOk, OnErr};
 ghost use Rattle.style_defs.specs.Firsts.{place_by};
-ghost use Rattle.style_defs.specs.Cascade.{has_style, sets, settings_of, setting_of, of_use, of_entry};
-ghost use Rattle.style_defs.specs.Cascade.{stronger, winning};
+ghost use Rattle.style_defs.specs.Cascade.{has_style, sets, settings_of, setting_of, of_use, stronger};
 ghost use Rattle.gui_pool.specs.Lists.{pushed};
-ghost use Rattle.gui_style.specs.Styles.{locals_of, uses_of, is_for, is_use, an_entry, a_use, a_setting, full_answer};
+ghost use Rattle.gui_style.specs.Styles.{locals_of, uses_of, is_for, is_use, an_entry, a_use, a_setting};
+ghost use Rattle.gui_style.specs.Styles.{winning_at, shared_at, local_at, full_answer};
 ghost use Rattle.gui_style.specs.Kept.{first_style};
 ghost use Rattle.gui_style.specs.Styles.{style_answer, with_style, style_prop_answer, with_prop};
 ghost use Rattle.gui_style.specs.Styles.{unset_prop_answer, without_prop, add_style_answer, with_use};
@@ -19,13 +18,14 @@ use std::alloc::Global;
 use std::marker::Model;
 use style_defs::{Candidate, Entry, Part, Prop, Selector, Use};
 
-/// How many numbers a handle or a style may have.
+/// How many numbers there are for handles, and as many for styles.
 const NUMBERS: u32 = 65_536;
 
-/// The owner of what style 0 sets. Owners below are objects.
+/// The owner of what style 0 sets. The owners before 65,536 are objects, by handle.
 ///
-/// An owner's low bits name its bucket. So that styles share buckets with objects late, the first style comes
-/// 10,000 owners after a bucket of the number 0.
+/// An owner's low bits name its bucket, and a walk passes over the others in the bucket. Handles go up to
+/// 9,999, so the first style is put where handle 10,000 would be: the buckets of the styles come after those
+/// of the objects.
 const FIRST_STYLE: u32 = 75_536;
 
 /// What is written beside a property of a shared style, which has no selector of its own.
@@ -36,11 +36,14 @@ const NO_SELECTOR: Selector = Selector {
 
 /// The shared styles, what is set locally at each object, and the styles that each object uses.
 ///
-/// A contract sees the shared styles by their numbers from the least on, the local entries and the uses by
-/// handle, and how many more of each fit. Every handle and every number of a style may be passed to a call: an
-/// object that nothing was set at has no entries and uses no style.
+/// A contract sees the styles by their numbers from the least on, the local entries and the uses by handle,
+/// and how many more of each fit. Any handle and any number of a style may be given: what nothing was done to
+/// has no entries and uses no style.
 ///
-/// A style takes 20 to 24 bytes, an entry 32 to 36 and a use 24 to 28. Handles take no memory.
+/// A style takes 20 to 24 bytes, an entry 32 to 36 and a use 28 to 32. Handles and numbers take no memory.
+///
+/// A call takes time by the number of entries or uses of the object or the style that it names, and a look-up
+/// by those of the object and of the styles that it uses. Others are passed over where they share a bucket.
 #[derive(Drop)]
 pub struct Styles {
     // The styles that are there, by number.
@@ -324,7 +327,13 @@ impl Styles {
     /// # Errors
     ///
     /// `Full` of entries where the property is not set yet and no more entries fit. All is then as before.
-    pub fn set_local(&mut self, h: Handle, selector: Selector, prop: Prop, value: i32) -> Result<(), Refusal>
+    pub fn set_local(
+        &mut self,
+        h: Handle,
+        selector: Selector,
+        prop: Prop,
+        value: i32,
+    ) -> Result<(), Refusal>
         ensures answer { result ≡ set_local_answer self.old h.0 selector prop }
         ensures ok { OnOk result (self.new ≡ with_local self.old h.0 (an_entry selector prop value)) }
         ensures refused { OnErr result (self.new ≡ self.old) }
@@ -382,7 +391,7 @@ impl Styles {
 
     /// The candidate that wins of the styles that an object uses.
     fn best_shared(&self, h: Handle, part: Part, states: u16, prop: Prop) -> Option<Candidate>
-        ensures { result ≡ fold stronger None (map (of_use self.now.styles part states prop) (uses_of self.now h.0)) }
+        ensures { result ≡ fold stronger None (shared_at self.now h.0 part states prop) }
     {
         let mut best = None;
         let mut uses = self.uses.of(h.0 as u32);
@@ -393,8 +402,15 @@ impl Styles {
     }
 
     /// The candidate that wins of the best so far and what is set locally at an object.
-    fn best_local(&self, shared: Option<Candidate>, h: Handle, part: Part, states: u16, prop: Prop) -> Option<Candidate>
-        ensures { result ≡ fold stronger shared (map (of_entry part states prop) (locals_of self.now h.0)) }
+    fn best_local(
+        &self,
+        shared: Option<Candidate>,
+        h: Handle,
+        part: Part,
+        states: u16,
+        prop: Prop,
+    ) -> Option<Candidate>
+        ensures { result ≡ fold stronger shared (local_at self.now h.0 part states prop) }
     {
         let mut best = shared;
         let mut entries = self.entries.of(h.0 as u32);
@@ -407,7 +423,7 @@ impl Styles {
     /// The value of a property of a part that wins, for an object in these states: `None` exactly where none
     /// applies. It reads the entries of the object and of the styles that it uses.
     pub fn lookup(&self, h: Handle, part: Part, states: u16, prop: Prop) -> Option<i32>
-        ensures { result ≡ winning self.now.styles (uses_of self.now h.0) (locals_of self.now h.0) part states prop }
+        ensures { result ≡ winning_at self.now h.0 part states prop }
     {
         let shared = self.best_shared(h, part, states, prop);
         let best = self.best_local(shared, h, part, states, prop)?;

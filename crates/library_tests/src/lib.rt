@@ -15,4 +15,6 @@ mod pool;
 #[cfg(test)]
 mod store;
 #[cfg(test)]
+mod styles;
+#[cfg(test)]
 mod tree;

@@ -1,5 +1,4 @@
 pub mod Fields
-pub mod Fronts
 pub mod Lines
 pub mod Ranges
 pub mod Readings

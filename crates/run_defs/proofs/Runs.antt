@@ -1,123 +1,80 @@
--- How a run goes on.
-use Rattle.std.proofs.Common.{◌≡◌, ◌∙◌, sym, ap, ℕ, suc, ◌+◌, ◌||◌, Bool, true, false, nat_lt, List, [], ◌∷◌, ◌++◌, length, arith, refl, append_assoc, zero-add}
-use Rattle.std.specs.Prelude.{Some, None, Ok, Err}
-use Rattle.std.specs.declared.option.Option.{Option}
-use Rattle.std.specs.List.{list_any}
-use Rattle.std.proofs.lemmas.List.Folds.{list_any-append}
-use Rattle.std.proofs.lemmas.Grind.{flat_map-append}
-use Rattle.std.proofs.lemmas.Bool.Decides.{nat_tests}
-use Rattle.scene_defs.specs.Scene.{Scene}
-use Rattle.scene_defs.specs.Picture.{frame_file}
+-- How a run goes on over more lines.
+use Rattle.std.proofs.Common.{◌≡◌, ◌∙◌, ◌≤◌, ap, sym, ℕ, ◌+◌, cond, List, [], ◌∷◌, ◌++◌, length, arith, refl}
+use Rattle.std.specs.Prelude.{Ok, Err}
+use Rattle.std.proofs.lemmas.List.Sums.{sum_by-append, sum_by-cons}
 use Rattle.scene_defs.proofs.Changes.{change_keeps_limits}
 use Rattle.run_defs.specs.declared.Command.TheVariants.{Change as CommandOf}
 use Rattle.run_defs.specs.declared.Line.TheVariants.{Blank, Frame, Make}
 use Rattle.run_defs.specs.declared.Outcome.{Outcome}
-use Rattle.run_defs.specs.declared.Outcome.TheVariants.{Done, Fault}
-use Rattle.run_defs.specs.Machine.{Machine}
 use Rattle.run_defs.specs.Script.{Said}
-use Rattle.run_defs.specs.Run.{Entry, Silent, Replied, Framed, entry, entries, after, after_all, log_text, reply_line, frame_line, frame_count, done_scenes, frame_files, next_frame, fault_count, is_refused, noted, last_done}
+use Rattle.run_defs.specs.Run.{Moment, after, after_all, frames_asked, Entry, Silent, Replies, Frames, entry, entries, asks_frame, frame_count, Told, Replied, Framed, told, is_fault, fault_count}
 
-pub entries-append : (m : Machine) (xs ys : List Said) → entries m (xs ++ ys) ≡ entries m xs ++ entries (after_all m xs) ys
-entries-append m [] ys = refl
-entries-append m (x ∷ xs) ys = ap (λ (es : List Entry). entry m x ∷ es) (entries-append (after m x) xs ys)
+pub entries-append : (now : Moment) (xs ys : List Said) → entries now (xs ++ ys) ≡ entries now xs ++ entries (after_all now xs) ys
+entries-append now [] ys = refl
+entries-append now (x ∷ xs) ys = ap (λ (es : List Entry). entry now x ∷ es) (entries-append (after now x) xs ys)
 
-pub after_all-append : (m : Machine) (xs ys : List Said) → after_all m (xs ++ ys) ≡ after_all (after_all m xs) ys
-after_all-append m [] ys = refl
-after_all-append m (x ∷ xs) ys = after_all-append (after m x) xs ys
-
-pub length-entries : (m : Machine) (xs : List Said) → length (entries m xs) ≡ length xs
-length-entries m [] = refl
-length-entries m (x ∷ xs) = ap suc (length-entries (after m x) xs)
-
-one_more : (n k : ℕ) → (n + 1) + k ≡ n + suc k
-one_more n k = omega arith
-
-nothing_more : (n : ℕ) → n ≡ n + 0
-nothing_more n = omega arith
-
-pub log_text-append : (n k : ℕ) (es fs : List Entry) (o x : List Outcome) → length o ≡ frame_count es →
-    log_text n k (es ++ fs) (o ++ x) ≡ log_text n k es o ++ log_text (n + length es) (k + length o) fs x
-log_text-append n k [] fs [] x h = rw (sym (nothing_more n), sym (nothing_more k)) refl
-log_text-append n k [] fs (y ∷ o) x h = cc
-log_text-append n k (Silent ∷ es) fs o x h =
-    log_text-append (n + 1) k es fs o x h ∙ ap (λ (i : ℕ). log_text (n + 1) k es o ++ log_text i (k + length o) fs x) (one_more n (length es))
-log_text-append n k (Replied text refused ∷ es) fs o x h =
-    ap (λ (t : List ℕ). reply_line n text ++ t) (log_text-append (n + 1) k es fs o x h)
-    ∙ ap (λ (i : ℕ). reply_line n text ++ (log_text (n + 1) k es o ++ log_text i (k + length o) fs x)) (one_more n (length es))
-    ∙ sym (append_assoc (reply_line n text) (log_text (n + 1) k es o) (log_text (n + suc (length es)) (k + length o) fs x))
-log_text-append n k (Framed scene ∷ es) fs [] x h = absurd (omega arith)
-log_text-append n k (Framed scene ∷ es) fs (y ∷ o) x h =
-    ap (λ (t : List ℕ). frame_line n k y ++ t) (log_text-append (n + 1) (k + 1) es fs o x (omega arith))
-    ∙ ap (λ (i : ℕ). frame_line n k y ++ (log_text (n + 1) (k + 1) es o ++ log_text i ((k + 1) + length o) fs x)) (one_more n (length es))
-    ∙ ap (λ (i : ℕ). frame_line n k y ++ (log_text (n + 1) (k + 1) es o ++ log_text (n + suc (length es)) i fs x)) (one_more k (length o))
-    ∙ sym (append_assoc (frame_line n k y) (log_text (n + 1) (k + 1) es o) (log_text (n + suc (length es)) (k + suc (length o)) fs x))
+pub after_all-append : (now : Moment) (xs ys : List Said) → after_all now (xs ++ ys) ≡ after_all (after_all now xs) ys
+after_all-append now [] ys = refl
+after_all-append now (x ∷ xs) ys = after_all-append (after now x) xs ys
 
 pub frame_count-append : (es fs : List Entry) → frame_count (es ++ fs) ≡ frame_count es + frame_count fs
-frame_count-append [] fs = sym (zero-add (frame_count fs))
-frame_count-append (Silent ∷ es) fs = frame_count-append es fs
-frame_count-append (Replied text refused ∷ es) fs = frame_count-append es fs
-frame_count-append (Framed scene ∷ es) fs = omega (arith, frame_count-append es fs)
+frame_count-append es fs = sum_by-append (λ (e : Entry). cond (asks_frame e) 1 0) es fs
 
-pub done_scenes-append : (es fs : List Entry) (o x : List Outcome) → length o ≡ frame_count es →
-    done_scenes (es ++ fs) (o ++ x) ≡ done_scenes es o ++ done_scenes fs x
-done_scenes-append [] fs [] x h = refl
-done_scenes-append [] fs (y ∷ o) x h = cc
-done_scenes-append (Silent ∷ es) fs o x h = done_scenes-append es fs o x h
-done_scenes-append (Replied text refused ∷ es) fs o x h = done_scenes-append es fs o x h
-done_scenes-append (Framed scene ∷ es) fs [] x h = absurd (omega arith)
-done_scenes-append (Framed scene ∷ es) fs (Done ∷ o) x h = ap (λ (t : List Scene). scene ∷ t) (done_scenes-append es fs o x (omega arith))
-done_scenes-append (Framed scene ∷ es) fs (Fault ∷ o) x h = done_scenes-append es fs o x (omega arith)
+pub frame_count-cons : (e : Entry) (es : List Entry) → frame_count (e ∷ es) ≡ cond (asks_frame e) 1 0 + frame_count es
+frame_count-cons e es = sum_by-cons (λ (e : Entry). cond (asks_frame e) 1 0) e es
 
-pub frame_files-append : (es fs : List Entry) (o x : List Outcome) → length o ≡ frame_count es →
-    frame_files (done_scenes (es ++ fs) (o ++ x)) ≡ frame_files (done_scenes es o) ++ frame_files (done_scenes fs x)
-frame_files-append es fs o x h = ap frame_files (done_scenes-append es fs o x h) ∙ flat_map-append frame_file (done_scenes es o) (done_scenes fs x)
+pub fault_count-append : (ts us : List Told) → fault_count (ts ++ us) ≡ fault_count ts + fault_count us
+fault_count-append ts us = sum_by-append (λ (t : Told). cond (is_fault t) 1 0) ts us
 
-pub next_frame-append : (es fs : List Entry) (o x : List Outcome) → length o ≡ frame_count es → next_frame (es ++ fs) (o ++ x) ≡ next_frame fs x
-next_frame-append [] fs [] x h = refl
-next_frame-append [] fs (y ∷ o) x h = cc
-next_frame-append (Silent ∷ es) fs o x h = next_frame-append es fs o x h
-next_frame-append (Replied text refused ∷ es) fs o x h = next_frame-append es fs o x h
-next_frame-append (Framed scene ∷ es) fs [] x h = absurd (omega arith)
-next_frame-append (Framed scene ∷ es) fs (y ∷ o) x h = next_frame-append es fs o x (omega arith)
+-- what is told of more lines, where each frame of the lines before them has its outcome
+pub told-append : (es fs : List Entry) (o x : List Outcome) → length o ≡ frame_count es → told (es ++ fs) (o ++ x) ≡ told es o ++ told fs x
+told-append [] fs [] x h = refl
+told-append [] fs (y ∷ o) x h = cc
+told-append (Silent ∷ es) fs o x h = told-append es fs o x h
+told-append (Replies number lines reply ∷ es) fs o x h = ap (λ (ts : List Told). Replied number lines reply ∷ ts) (told-append es fs o x h)
+told-append (Frames number frame scene ∷ es) fs [] x h = absurd (omega (arith, frame_count-cons (Frames number frame scene) es))
+told-append (Frames number frame scene ∷ es) fs (y ∷ o) x h = ap (λ (ts : List Told). Framed number frame scene y ∷ ts) (told-append es fs o x (omega (arith, frame_count-cons (Frames number frame scene) es)))
 
-pub fault_count-append : (o x : List Outcome) → fault_count (o ++ x) ≡ fault_count o + fault_count x
-fault_count-append [] x = sym (zero-add (fault_count x))
-fault_count-append (Done ∷ o) x = fault_count-append o x
-fault_count-append (Fault ∷ o) x = omega (arith, fault_count-append o x)
+-- the same of a run, from the moment on to which the lines before them lead
+pub frame_count_more : (now next : Moment) (xs ys : List Said) → next ≡ after_all now xs →
+    frame_count (entries now (xs ++ ys)) ≡ frame_count (entries now xs) + frame_count (entries next ys)
+frame_count_more now next xs ys e =
+    ap frame_count (entries-append now xs ys) ∙ (frame_count-append (entries now xs) (entries (after_all now xs) ys) ∙ ap (λ (m : Moment). frame_count (entries now xs) + frame_count (entries m ys)) (sym e))
 
-pub last_done-append : (seen : Option Scene) (es fs : List Entry) (o x : List Outcome) → length o ≡ frame_count es →
-    last_done seen (es ++ fs) (o ++ x) ≡ last_done (last_done seen es o) fs x
-last_done-append seen [] fs [] x h = refl
-last_done-append seen [] fs (y ∷ o) x h = cc
-last_done-append seen (Silent ∷ es) fs o x h = last_done-append seen es fs o x h
-last_done-append seen (Replied text refused ∷ es) fs o x h = last_done-append None es fs o x h
-last_done-append seen (Framed scene ∷ es) fs [] x h = absurd (omega arith)
-last_done-append seen (Framed scene ∷ es) fs (Done ∷ o) x h = last_done-append (Some scene) es fs o x (omega arith)
-last_done-append seen (Framed scene ∷ es) fs (Fault ∷ o) x h = last_done-append None es fs o x (omega arith)
-
-any_fault : (m n : ℕ) → nat_lt 0 (m + n) ≡ (nat_lt 0 m || nat_lt 0 n)
-any_fault m n = grind (arith, nat_tests)
-
-swapped : (a b c d : Bool) → ((a || b) || (c || d)) ≡ ((a || c) || (b || d))
-swapped true b c d = refl
-swapped false true true d = refl
-swapped false true false d = refl
-swapped false false c d = refl
-
-pub noted-append : (es fs : List Entry) (o x : List Outcome) → noted (es ++ fs) (o ++ x) ≡ (noted es o || noted fs x)
-noted-append es fs o x =
-    ap (λ (b : Bool). b || nat_lt 0 (fault_count (o ++ x))) (list_any-append is_refused es fs)
-    ∙ ap (λ (n : ℕ). (list_any is_refused es || list_any is_refused fs) || nat_lt 0 n) (fault_count-append o x)
-    ∙ ap (λ (b : Bool). (list_any is_refused es || list_any is_refused fs) || b) (any_fault (fault_count o) (fault_count x))
-    ∙ swapped (list_any is_refused es) (list_any is_refused fs) (nat_lt 0 (fault_count o)) (nat_lt 0 (fault_count x))
+pub told_more : (now next : Moment) (xs ys : List Said) (o x : List Outcome) → next ≡ after_all now xs → length o ≡ frame_count (entries now xs) →
+    told (entries now (xs ++ ys)) (o ++ x) ≡ told (entries now xs) o ++ told (entries next ys) x
+told_more now next xs ys o x e h =
+    ap (λ (es : List Entry). told es (o ++ x)) (entries-append now xs ys) ∙ (told-append (entries now xs) (entries (after_all now xs) ys) o x h ∙ ap (λ (m : Moment). told (entries now xs) o ++ told (entries m ys) x) (sym e))
 
 -- no line changes the limits
-pub after-limits : (m : Machine) (said : Said) → (after m said).scene.limits ≡ m.scene.limits
-after-limits m (Ok Blank) = refl
-after-limits m (Ok Frame) = refl
-after-limits m (Ok (Make (CommandOf change))) = change_keeps_limits m.scene change
-after-limits m (Err fault) = refl
+pub after-limits : (now : Moment) (said : Said) → (after now said).machine.scene.limits ≡ now.machine.scene.limits
+after-limits now (Ok Blank) = refl
+after-limits now (Ok Frame) = refl
+after-limits now (Ok (Make (CommandOf change))) = change_keeps_limits now.machine.scene change
+after-limits now (Err fault) = refl
 
-pub after_all-limits : (m : Machine) (lines : List Said) → (after_all m lines).scene.limits ≡ m.scene.limits
-after_all-limits m [] = refl
-after_all-limits m (said ∷ lines) = after_all-limits (after m said) lines ∙ after-limits m said
+pub after_all-limits : (now : Moment) (lines : List Said) → (after_all now lines).machine.scene.limits ≡ now.machine.scene.limits
+after_all-limits now [] = refl
+after_all-limits now (said ∷ lines) = after_all-limits (after now said) lines ∙ after-limits now said
+
+-- each line has a number, and at most one frame
+pub after_all-number : (now : Moment) (lines : List Said) → (after_all now lines).number ≡ now.number + length lines
+after_all-number now [] = omega arith
+after_all-number now (said ∷ lines) = omega (arith, after_all-number (after now said) lines)
+
+one_frame : (said : Said) → frames_asked said ≤ 1
+one_frame (Ok Blank) = omega arith
+one_frame (Ok Frame) = omega arith
+one_frame (Ok (Make command)) = omega arith
+one_frame (Err fault) = omega arith
+
+pub after_all-frame : (now : Moment) (lines : List Said) → (after_all now lines).frame ≤ now.frame + length lines
+after_all-frame now [] = omega arith
+after_all-frame now (said ∷ lines) = omega (arith, one_frame said, after_all-frame (after now said) lines)
+
+-- the frames that a line asks for are those of its entry
+pub frames_asked-entry : (now : Moment) (said : Said) → frame_count (entry now said ∷ []) ≡ frames_asked said
+frames_asked-entry now (Ok Blank) = refl
+frames_asked-entry now (Ok Frame) = refl
+frames_asked-entry now (Ok (Make command)) = refl
+frames_asked-entry now (Err fault) = refl

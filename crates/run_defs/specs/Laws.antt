@@ -7,15 +7,15 @@ use Rattle.run_defs.specs.Language.{words_of, is_comment, is_in_no_word}
 use Rattle.run_defs.specs.Fields.{Field, Progress, value, past, next_of}
 use Rattle.run_defs.specs.Step.{is_command_in_range, IsCommand}
 use Rattle.run_defs.specs.Script.{Said, parse, max_line, is_newline, without_return, says_cut}
-use Rattle.run_defs.specs.Run.{Entry, log_text, frame_count}
+use Rattle.run_defs.specs.Run.{Entry, frame_count, told, log_text}
 
 -- the log shows the outcomes: two lists with one outcome for each frame that give the same log are the same
 -- list
 abbrev pub ShowsOutcomes : Type 0
 ShowsOutcomes =
-    (number frame : ℕ) (es : List Entry) (first second : List Outcome) →
+    (es : List Entry) (first second : List Outcome) →
     length first ≡ frame_count es → length second ≡ frame_count es →
-    log_text number frame es first ≡ log_text number frame es second → first ≡ second
+    log_text (told es first) ≡ log_text (told es second) → first ≡ second
 
 -- the numbers of what a line says lie in their intervals, and a command is one that may be asked for
 abbrev pub IsInRange : Said → Type 0

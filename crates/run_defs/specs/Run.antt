@@ -1,8 +1,8 @@
 -- What a run of a script comes to, along the outcomes of its frames.
-use Rattle.std.specs.Prelude.{ℕ, Bool, false, ◌||◌, nat_lt, Some, None, Ok, Err, ◌+◌, List, [], ◌∷◌}
+use Rattle.std.specs.Prelude.{ℕ, Bool, true, false, Some, None, Ok, Err, ◌+◌, List, [], ◌∷◌}
 use Rattle.std.specs.Prelude.{◌++◌, codes, decimal}
 use Rattle.std.specs.declared.option.Option.{Option}
-use Rattle.std.specs.List.{flat_map, list_any}
+use Rattle.std.specs.List.{count_by, filter_map, flat_map, fold, list_any}
 use Rattle.scene_defs.specs.Scene.{Scene}
 use Rattle.scene_defs.specs.Picture.{frame_file}
 use Rattle.run_defs.specs.declared.Line.TheVariants.{Blank, Frame, Make}
@@ -15,125 +15,146 @@ use Rattle.run_defs.specs.Step.{step, is_noted}
 use Rattle.run_defs.specs.Script.{Said}
 use Rattle.run_defs.specs.Why.{why, refusal_of}
 
--- what a line comes to: nothing, a reply, which may be a refusal, or a frame of this scene
+-- a moment of a run: the machine, and the numbers of the next line and of the next frame
+pub record Moment : Type 0 where
+  pub machine : Machine
+  pub number : ℕ
+  pub frame : ℕ
+
+abbrev pub moment : Machine → ℕ → ℕ → Moment
+moment machine number frame = record { machine = machine; number = number; frame = frame }
+
+abbrev pub first_moment : Machine → Moment
+first_moment machine = moment machine 1 1
+
+-- the machine after a line
+abbrev pub machine_after : Machine → Said → Machine
+machine_after machine (Ok Blank) = machine
+machine_after machine (Ok Frame) = machine
+machine_after machine (Ok (Make command)) = (step machine command).machine
+machine_after machine (Err fault) = machine
+
+-- how many frames a line asks for
+abbrev pub frames_asked : Said → ℕ
+frames_asked (Ok Blank) = 0
+frames_asked (Ok Frame) = 1
+frames_asked (Ok (Make command)) = 0
+frames_asked (Err fault) = 0
+
+abbrev pub after : Moment → Said → Moment
+after now said = record {
+  machine = machine_after now.machine said;
+  number = now.number + 1;
+  frame = now.frame + frames_asked said;
+}
+
+abbrev pub after_all : Moment → List Said → Moment
+after_all now [] = now
+after_all now (said ∷ lines) = after_all (after now said) lines
+
+-- What a line asks for: nothing, a reply after the lines that its events write, or a frame of this scene, which
+-- has an outcome. The numbers are those of the line and of the frame.
 pub data Entry : Type 0 where
   Silent : Entry
-  Replied : (text : List ℕ) (refused : Bool) → Entry
-  Framed : (scene : Scene) → Entry
+  Replies : (number : ℕ) (lines : List ℕ) (reply : Reply) → Entry
+  Frames : (number frame : ℕ) (scene : Scene) → Entry
+
+abbrev pub entry : Moment → Said → Entry
+entry now (Ok Blank) = Silent
+entry now (Ok Frame) = Frames now.number now.frame now.machine.scene
+entry now (Ok (Make command)) =
+    Replies now.number (step now.machine command).lines (step now.machine command).reply
+entry now (Err fault) = Replies now.number [] (Refused (refusal_of fault))
+
+abbrev pub entries : Moment → List Said → List Entry
+entries now [] = []
+entries now (said ∷ lines) = entry now said ∷ entries (after now said) lines
+
+abbrev pub asks_frame : Entry → Bool
+asks_frame Silent = false
+asks_frame (Replies number lines reply) = false
+asks_frame (Frames number frame scene) = true
+
+-- how many frames these lines ask for
+abbrev pub frame_count : List Entry → ℕ
+frame_count es = count_by asks_frame es
+
+-- what the log tells of a line: its reply after the lines that its events wrote, or its frame with the outcome
+pub data Told : Type 0 where
+  Replied : (number : ℕ) (lines : List ℕ) (reply : Reply) → Told
+  Framed : (number frame : ℕ) (scene : Scene) (outcome : Outcome) → Told
+
+-- what is told of these lines, each frame with the outcome that is next, as far as the outcomes reach
+abbrev pub told : List Entry → List Outcome → List Told
+told [] outcomes = []
+told (Silent ∷ es) outcomes = told es outcomes
+told (Replies number lines reply ∷ es) outcomes = Replied number lines reply ∷ told es outcomes
+told (Frames number frame scene ∷ es) [] = []
+told (Frames number frame scene ∷ es) (outcome ∷ outcomes) =
+    Framed number frame scene outcome ∷ told es outcomes
 
 -- the text of a reply
 abbrev pub reply_text : Reply → List ℕ
 reply_text (Fine noted) = codes "ok"
 reply_text (Refused refusal) = codes "refused " ++ why refusal
 
-abbrev pub replied : Reply → Entry
-replied reply = Replied (reply_text reply) (is_noted reply)
-
-abbrev pub entry : Machine → Said → Entry
-entry machine (Ok Blank) = Silent
-entry machine (Ok Frame) = Framed machine.scene
-entry machine (Ok (Make command)) = replied (step machine command).reply
-entry machine (Err fault) = replied (Refused (refusal_of fault))
-
--- the machine after a line
-abbrev pub after : Machine → Said → Machine
-after machine (Ok Blank) = machine
-after machine (Ok Frame) = machine
-after machine (Ok (Make command)) = (step machine command).machine
-after machine (Err fault) = machine
-
-abbrev pub entries : Machine → List Said → List Entry
-entries machine [] = []
-entries machine (said ∷ lines) = entry machine said ∷ entries (after machine said) lines
-
-abbrev pub after_all : Machine → List Said → Machine
-after_all machine [] = machine
-after_all machine (said ∷ lines) = after_all (after machine said) lines
+-- the line of the log that a reply makes
+abbrev pub reply_line : ℕ → Reply → List ℕ
+reply_line number reply = decimal number ++ codes " " ++ reply_text reply ++ codes "\n"
 
 abbrev pub ending : Outcome → List ℕ
 ending Done = codes " done\n"
 ending Fault = codes " fault\n"
 
--- the line of the log that a reply makes
-abbrev pub reply_line : ℕ → List ℕ → List ℕ
-reply_line number text = decimal number ++ codes " " ++ text ++ codes "\n"
-
 -- the line of the log that a frame makes
 abbrev pub frame_line : ℕ → ℕ → Outcome → List ℕ
 frame_line number frame outcome = decimal number ++ codes " frame " ++ decimal frame ++ ending outcome
 
--- the log from this line and this frame on, as far as the outcomes reach
-abbrev pub log_text : ℕ → ℕ → List Entry → List Outcome → List ℕ
-log_text number frame [] outcomes = []
-log_text number frame (Silent ∷ es) outcomes = log_text (number + 1) frame es outcomes
-log_text number frame (Replied text refused ∷ es) outcomes =
-    reply_line number text ++ log_text (number + 1) frame es outcomes
-log_text number frame (Framed scene ∷ es) [] = []
-log_text number frame (Framed scene ∷ es) (outcome ∷ outcomes) =
-    frame_line number frame outcome ++ log_text (number + 1) (frame + 1) es outcomes
+abbrev pub log_lines : Told → List ℕ
+log_lines (Replied number lines reply) = lines ++ reply_line number reply
+log_lines (Framed number frame scene outcome) = frame_line number frame outcome
 
--- how many frames there are
-abbrev pub frame_count : List Entry → ℕ
-frame_count [] = 0
-frame_count (Silent ∷ es) = frame_count es
-frame_count (Replied text refused ∷ es) = frame_count es
-frame_count (Framed scene ∷ es) = frame_count es + 1
+-- the log
+abbrev pub log_text : List Told → List ℕ
+log_text ts = flat_map log_lines ts
+
+abbrev pub done_scene : Told → Option Scene
+done_scene (Replied number lines reply) = None
+done_scene (Framed number frame scene Done) = Some scene
+done_scene (Framed number frame scene Fault) = None
 
 -- the scenes of the frames that were done
-abbrev pub done_scenes : List Entry → List Outcome → List Scene
-done_scenes [] outcomes = []
-done_scenes (Silent ∷ es) outcomes = done_scenes es outcomes
-done_scenes (Replied text refused ∷ es) outcomes = done_scenes es outcomes
-done_scenes (Framed scene ∷ es) [] = []
-done_scenes (Framed scene ∷ es) (Done ∷ outcomes) = scene ∷ done_scenes es outcomes
-done_scenes (Framed scene ∷ es) (Fault ∷ outcomes) = done_scenes es outcomes
+abbrev pub done_scenes : List Told → List Scene
+done_scenes ts = filter_map done_scene ts
 
--- the files of these scenes, one after another
-abbrev pub frame_files : List Scene → List ℕ
-frame_files scenes = flat_map frame_file scenes
+-- the files of their pictures, one after another
+abbrev pub frame_files : List Told → List ℕ
+frame_files ts = flat_map frame_file (done_scenes ts)
 
--- the scene of the frame line that comes after those that these outcomes are for, if there is one
-abbrev pub next_frame : List Entry → List Outcome → Option Scene
-next_frame [] outcomes = None
-next_frame (Silent ∷ es) outcomes = next_frame es outcomes
-next_frame (Replied text refused ∷ es) outcomes = next_frame es outcomes
-next_frame (Framed scene ∷ es) [] = Some scene
-next_frame (Framed scene ∷ es) (outcome ∷ outcomes) = next_frame es outcomes
+-- the scene of the last frame, where it was done and no other reply came after it; where nothing is told, the
+-- scene that was seen before
+abbrev pub last_done : Option Scene → List Told → Option Scene
+last_done seen ts = fold (λ earlier t. done_scene t) seen ts
 
--- the file of that scene, or nothing
-abbrev pub next_file : Option Scene → List ℕ
-next_file None = []
-next_file (Some scene) = frame_file scene
+abbrev pub is_fault : Told → Bool
+is_fault (Replied number lines reply) = false
+is_fault (Framed number frame scene Done) = false
+is_fault (Framed number frame scene Fault) = true
 
--- how many of the outcomes are faults
-abbrev pub fault_count : List Outcome → ℕ
-fault_count [] = 0
-fault_count (Done ∷ outcomes) = fault_count outcomes
-fault_count (Fault ∷ outcomes) = fault_count outcomes + 1
+-- how many frames faulted
+abbrev pub fault_count : List Told → ℕ
+fault_count ts = count_by is_fault ts
 
-abbrev pub is_refused : Entry → Bool
-is_refused Silent = false
-is_refused (Replied text refused) = refused
-is_refused (Framed scene) = false
+abbrev pub notes : Told → Bool
+notes (Replied number lines reply) = is_noted reply
+notes (Framed number frame scene outcome) = is_fault (Framed number frame scene outcome)
 
 -- whether a line was refused or a frame faulted
-abbrev pub noted : List Entry → List Outcome → Bool
-noted es outcomes = list_any is_refused es || nat_lt 0 (fault_count outcomes)
+abbrev pub noted : List Told → Bool
+noted ts = list_any notes ts
 
--- the scene of the frame that was done last, where no other reply came after it
-abbrev pub last_done : Option Scene → List Entry → List Outcome → Option Scene
-last_done seen [] outcomes = seen
-last_done seen (Silent ∷ es) outcomes = last_done seen es outcomes
-last_done seen (Replied text refused ∷ es) outcomes = last_done None es outcomes
-last_done seen (Framed scene ∷ es) [] = None
-last_done seen (Framed scene ∷ es) (Done ∷ outcomes) = last_done (Some scene) es outcomes
-last_done seen (Framed scene ∷ es) (Fault ∷ outcomes) = last_done None es outcomes
-
--- the entries up to the frames that these outcomes are for
-abbrev pub framed : List Entry → List Outcome → List Entry
-framed es [] = []
-framed [] (outcome ∷ outcomes) = []
-framed (Silent ∷ es) (outcome ∷ outcomes) = Silent ∷ framed es (outcome ∷ outcomes)
-framed (Replied text refused ∷ es) (outcome ∷ outcomes) =
-    Replied text refused ∷ framed es (outcome ∷ outcomes)
-framed (Framed scene ∷ es) (outcome ∷ outcomes) = Framed scene ∷ framed es outcomes
+-- the file of the picture that a line asks for
+abbrev pub file_asked : Entry → List ℕ
+file_asked Silent = []
+file_asked (Replies number lines reply) = []
+file_asked (Frames number frame scene) = frame_file scene

@@ -1,87 +1,188 @@
--- How the answers go on line by line.
-use Rattle.std.proofs.Common.{◌≡◌, ◌∙◌, sym, ap, subst, ℕ, ◌+◌, Bool, ◌||◌, nat_lt, false, true, List, [], ◌∷◌, ◌++◌, length, length-append, arith, refl}
-use Rattle.std.specs.Prelude.{IfSome, None}
+-- How a run goes on over more lines.
+use Rattle.std.proofs.Common.{◌≡◌, ◌∙◌, sym, ap, subst, ℕ, ◌+◌, ◌≤◌, ◌||◌, Bool, true, false, List, [], ◌∷◌, ◌++◌, length, length-append, append_assoc, arith, refl, inl, inr}
+use Rattle.std.specs.Prelude.{IfSome, None, flat_map, fold}
 use Rattle.std.specs.declared.option.Option.{Option}
 use Rattle.std.specs.Io.KnownBytes.{Appends}
+use Rattle.std.specs.Option.{option_to_list}
+use Rattle.std.proofs.lemmas.Grind.{flat_map-append}
+use Rattle.std.proofs.lemmas.List.{append-nil}
+use Rattle.std.proofs.lemmas.List.Elements.{filter_map-append}
+use Rattle.std.proofs.lemmas.List.Folds.{list_any-append}
+use Rattle.std.proofs.lemmas.List.Sums.{fold-append}
 use Rattle.scene_defs.specs.Scene.{Scene}
+use Rattle.scene_defs.specs.Picture.{frame_file}
 use Rattle.run_defs.specs.declared.Outcome.{Outcome}
 use Rattle.run_defs.specs.Machine.{Machine}
 use Rattle.run_defs.specs.Script.{Said}
-use Rattle.run_defs.specs.Run.{Entry, entry, after, entries, after_all, noted, is_refused, fault_count, last_done}
-use Rattle.run_defs.proofs.Runs.{after_all-limits, entries-append, after_all-append, length-entries, log_text-append, frame_count-append, frame_files-append, fault_count-append, last_done-append, noted-append}
+use Rattle.run_defs.specs.Run.{Moment, moment, Entry, Told, entry, entries, after_all, told, log_text, log_lines, done_scene, done_scenes, frame_files, last_done, fault_count, notes, noted, frame_count, frames_asked, machine_after}
+use Rattle.run_defs.proofs.Runs.{after_all-append, after_all-limits, after_all-number, after_all-frame, fault_count-append, frame_count_more, told_more, frames_asked-entry}
+use Rattle.gui_edge.specs.Causes.{Rose}
 use Rattle.gui_edge.specs.Panel.{PanelState, HasSizes}
-use Rattle.gui_core.specs.Machines.{machine_of}
 use Rattle.gui_core.specs.Panels.{ShowsScene}
-use Rattle.scene_run.specs.Effects.{Output, Keeps, Effects}
-use Rattle.scene_run.specs.Reached.{Answered}
-use Rattle.scene_run.specs.declared.runner.Runner.{Runner}
-use Rattle.scene_run.proofs.Known.{Appends-more}
+use Rattle.scene_run.specs.Effects.{Output, PanelKeeps, PanelEffects, Effects, Breaks, WriteFailed, Answers, Halted}
+use Rattle.scene_run.specs.Running.{Running, IsReady, Goes, GoesOn, Halts}
+use Rattle.scene_run.proofs.Known.{Appends-more, Appends-nothing}
 
-pub Keeps-more : (a b c : Output) → Keeps a b → Keeps b c → Keeps a c
-Keeps-more a b c h k = record {
-  panel = record {
-    told = λ t. k.panel.told (h.panel.told t);
-    flush_faults = omega (arith, h.panel.flush_faults, k.panel.flush_faults);
-    present_faults = omega (arith, h.panel.present_faults, k.panel.present_faults);
-  };
+pub PanelKeeps-self : (p : PanelState) → PanelKeeps p p
+PanelKeeps-self p = record { told = λ t. t; flush_faults = omega arith; present_faults = omega arith }
+
+Effects-none : (o : Output) (seen : Option Scene) → IfSome seen (ShowsScene o.panel) → Effects o o seen []
+Effects-none o seen shown = record {
+  panel = record { frames = λ t. Appends-nothing o.panel.frames; shown = shown; faults = omega arith; keeps = PanelKeeps-self o.panel };
+  log = Appends-nothing o.log.held;
   log_faults = omega arith;
 }
 
-pub Effects-more : (a b c : Output) (n k : ℕ) (seen : Option Scene) (es : List Entry) (o : List Outcome) (e : Entry) (x : List Outcome) →
-    Effects a b n k seen es o → Effects b c (n + length es) (k + length o) (last_done seen es o) (e ∷ []) x → Effects a c n k seen (es ++ e ∷ []) (o ++ x)
-Effects-more a b c n k seen es o e x h j = record {
-  each = omega (arith, length-append o x, frame_count-append es (e ∷ []), h.each, j.each);
-  log = subst (Appends a.log.held c.log.held) (sym (log_text-append n k es (e ∷ []) o x h.each)) (Appends-more a.log.held b.log.held c.log.held _ _ h.log j.log);
-  frames = λ t. subst (Appends a.panel.frames c.panel.frames) (sym (frame_files-append es (e ∷ []) o x h.each)) (Appends-more a.panel.frames b.panel.frames c.panel.frames _ _ (h.frames t) (j.frames (h.keeps.panel.told t)));
-  shown = subst (λ (s : Option Scene). IfSome s (ShowsScene c.panel)) (sym (last_done-append seen es (e ∷ []) o x h.each)) j.shown;
-  faults = omega (arith, fault_count-append o x, h.faults, j.faults);
-  keeps = Keeps-more a b c h.keeps j.keeps;
+frame_files-append : (ts us : List Told) → frame_files (ts ++ us) ≡ frame_files ts ++ frame_files us
+frame_files-append ts us = ap (flat_map frame_file) (filter_map-append done_scene ts us) ∙ flat_map-append frame_file (done_scenes ts) (done_scenes us)
+
+last_done-append : (seen : Option Scene) (ts us : List Told) → last_done seen (ts ++ us) ≡ last_done (last_done seen ts) us
+last_done-append seen ts us = fold-append (λ (earlier : Option Scene) (t : Told). done_scene t) seen ts us
+
+PanelEffects-more : (a b c : PanelState) (seen : Option Scene) (ts us : List Told) → PanelEffects a b seen ts → PanelEffects b c (last_done seen ts) us → PanelEffects a c seen (ts ++ us)
+PanelEffects-more a b c seen ts us h k = record {
+  frames = λ t. subst (Appends a.frames c.frames) (sym (frame_files-append ts us)) (Appends-more a.frames b.frames c.frames _ _ (h.frames t) (k.frames (h.keeps.told t)));
+  shown = subst (λ (s : Option Scene). IfSome s (ShowsScene c)) (sym (last_done-append seen ts us)) k.shown;
+  faults = omega (arith, fault_count-append ts us, h.faults, k.faults);
+  keeps = record {
+    told = λ t. k.keeps.told (h.keeps.told t);
+    flush_faults = omega (arith, h.keeps.flush_faults, k.keeps.flush_faults);
+    present_faults = omega (arith, h.keeps.present_faults, k.keeps.present_faults);
+  };
 }
 
-pub entries_next : (first m : Machine) (lines : List Said) (said : Said) → m ≡ after_all first lines → entries first (lines ++ said ∷ []) ≡ entries first lines ++ entry m said ∷ []
-entries_next first m lines said e = entries-append first lines (said ∷ []) ∙ ap (λ (k : Machine). entries first lines ++ entry k said ∷ []) (sym e)
+Effects-more : (a b c : Output) (seen : Option Scene) (ts us : List Told) → Effects a b seen ts → Effects b c (last_done seen ts) us → Effects a c seen (ts ++ us)
+Effects-more a b c seen ts us h k = record {
+  panel = PanelEffects-more a.panel b.panel c.panel seen ts us h.panel k.panel;
+  log = subst (Appends a.log.held c.log.held) (sym (flat_map-append log_lines ts us)) (Appends-more a.log.held b.log.held c.log.held _ _ h.log k.log);
+  log_faults = omega (arith, h.log_faults, k.log_faults);
+}
+
+-- a panel with the sizes of a later moment has those of an earlier one, since no line changes the limits
+same_sizes : (start next : Moment) (lines : List Said) (panel : PanelState) → next ≡ after_all start lines → HasSizes panel next.machine.scene.limits → HasSizes panel start.machine.scene.limits
+same_sizes start next lines panel e sizes = subst (HasSizes panel) (ap (λ (m : Moment). m.machine.scene.limits) e ∙ after_all-limits start lines) sizes
+
+Answers-more : (start next : Moment) (a b c : Output) (seen : Option Scene) (xs ys : List Said) → next ≡ after_all start xs →
+    (h : Answers start a b seen xs) → Answers next b c (last_done seen (told (entries start xs) h.outcomes)) ys → Answers start a c seen (xs ++ ys)
+Answers-more start next a b c seen xs ys e h k = record {
+  outcomes = h.outcomes ++ k.outcomes;
+  each = omega (arith, length-append h.outcomes k.outcomes, frame_count_more start next xs ys e, h.each, k.each);
+  effects = subst (Effects a c seen) (sym (told_more start next xs ys h.outcomes k.outcomes e h.each)) (Effects-more a b c seen _ _ h.effects k.effects);
+  slices = same_sizes start next xs c.panel e k.slices;
+}
 
 or_false : (b : Bool) → (b || false) ≡ b
 or_false true = refl
 or_false false = refl
 
--- what is noted of one entry
-noted_by : (a b c : Bool) (e : Entry) (x : List Outcome) → a ≡ (b || (c || nat_lt 0 (fault_count x))) → c ≡ is_refused e → a ≡ (b || noted (e ∷ []) x)
-noted_by a b c e x h k = h ∙ ap (λ (r : Bool). b || r) (ap (λ (r : Bool). r || nat_lt 0 (fault_count x)) (k ∙ sym (or_false (is_refused e))))
+-- no lines, and then one
+Answers-none : (start : Moment) (o : Output) (seen : Option Scene) → IfSome seen (ShowsScene o.panel) → HasSizes o.panel start.machine.scene.limits → Answers start o o seen []
+Answers-none start o seen shown sizes = record { outcomes = []; each = refl; effects = Effects-none o seen shown; slices = sizes }
 
--- what an entry does, whatever the panel shows before
-pub record Does (old new : Output) (line frame : ℕ) (e : Entry) (x : List Outcome) : Type 0 where
-  pub each : (seen : Option Scene) → IfSome seen (ShowsScene old.panel) → Effects old new line frame seen (e ∷ []) x
-
-pub line_number : (n : ℕ) (first : Machine) (lines : List Said) → n ≡ 1 + length lines → n ≡ 1 + length (entries first lines)
-line_number n first lines e = omega (arith, length-entries first lines)
-
--- a panel of the machine's sizes is one of the first machine's
-pub first_sizes : (first : Machine) (runner : Runner) (lines : List Said) (panel : PanelState) → machine_of runner.gui ≡ after_all first lines → HasSizes panel (machine_of runner.gui).scene.limits → HasSizes panel first.scene.limits
-first_sizes first runner lines panel is sizes = subst (HasSizes panel) (ap (λ (m : Machine). m.scene.limits) is ∙ after_all-limits first lines) sizes
-
-pub answered_more : (first : Machine) (start old new : Output) (before later : Runner) (lines : List Said) (said : Said) (refused : Bool) (x : List Outcome) →
-    Answered first start old before lines → Does old new before.number before.frame (entry (machine_of before.gui) said) x → machine_of later.gui ≡ after (machine_of before.gui) said →
-    later.number ≡ before.number + 1 → later.frame ≡ before.frame + length x → later.noted ≡ (before.noted || (refused || nat_lt 0 (fault_count x))) → refused ≡ is_refused (entry (machine_of before.gui) said) → HasSizes new.panel (machine_of before.gui).scene.limits →
-    Answered first start new later (lines ++ said ∷ [])
-answered_more first start old new before later lines said refused x h does moved number frame noted_is refused_is sizes = record {
-  outcomes = h.outcomes ++ x;
-  effects =
-      let es = entries first lines in
-      let m = machine_of before.gui in
-      let seen = last_done None es h.outcomes in
-      let one : Effects old new before.number before.frame seen (entry m said ∷ []) x = does.each seen h.effects.shown in
-      let here : Effects old new (1 + length es) (1 + length h.outcomes) seen (entry m said ∷ []) x =
-      subst (λ (k : ℕ). Effects old new (1 + length es) k seen (entry m said ∷ []) x) h.frame
-      (subst (λ (n : ℕ). Effects old new n before.frame seen (entry m said ∷ []) x) (line_number before.number first lines h.number) one) in
-      subst (λ (fs : List Entry). Effects start new 1 1 None fs (h.outcomes ++ x)) (sym (entries_next first m lines said h.machine_is))
-      (Effects-more start old new 1 1 None es h.outcomes (entry m said) x h.effects here);
-  machine_is = moved ∙ (ap (λ (n : Machine). after n said) h.machine_is ∙ sym (after_all-append first lines (said ∷ [])));
-  number = omega (arith, length-append lines (said ∷ []), h.number, number);
-  frame = omega (arith, length-append h.outcomes x, h.frame, frame);
-  noted_is = noted_by later.noted before.noted refused (entry (machine_of before.gui) said) x noted_is refused_is
-      ∙ (ap (λ (c : Bool). c || noted (entry (machine_of before.gui) said ∷ []) x) h.noted_is
-      ∙ (sym (noted-append (entries first lines) (entry (machine_of before.gui) said ∷ []) h.outcomes x)
-      ∙ ap (λ (fs : List Entry). noted fs (h.outcomes ++ x)) (sym (entries_next first (machine_of before.gui) lines said h.machine_is))));
-  sizes = first_sizes first before lines new.panel h.machine_is sizes;
+pub goes_on_none : (now : Running) → HasSizes now.output.panel now.moment.machine.scene.limits → GoesOn now now []
+goes_on_none now sizes = record {
+  from = λ seen shown. record { answers = Answers-none now.moment now.output seen shown sizes; moment = refl; noted_is = sym (or_false now.noted) };
 }
+
+same_moment : (m n : Machine) (a b c d : ℕ) → m ≡ n → a ≡ b → c ≡ d → moment m a c ≡ moment n b d
+same_moment m n a b c d e f h = rw (e, f, h) refl
+
+pub goes_on_one : (old new : Running) (said : Said) (outcome : Option Outcome) (n : Bool) →
+    ((seen : Option Scene) → IfSome seen (ShowsScene old.output.panel) → Effects old.output new.output seen (told (entry old.moment said ∷ []) (option_to_list outcome))) →
+    length (option_to_list outcome) ≡ frames_asked said → n ≡ noted (told (entry old.moment said ∷ []) (option_to_list outcome)) → new.moment.machine ≡ machine_after old.moment.machine said →
+    new.moment.number ≡ old.moment.number + 1 → new.moment.frame ≡ old.moment.frame + length (option_to_list outcome) → new.noted ≡ (old.noted || n) → HasSizes new.output.panel old.moment.machine.scene.limits → GoesOn old new (said ∷ [])
+goes_on_one old new said outcome n effects asked notes_are machine number frame noted_is sizes = record {
+  from = λ seen shown. record {
+    answers = record { outcomes = option_to_list outcome; each = asked ∙ sym (frames_asked-entry old.moment said); effects = effects seen shown; slices = sizes };
+    moment = same_moment _ _ _ _ _ _ machine number (frame ∙ ap (λ (k : ℕ). old.moment.frame + k) asked);
+    noted_is = noted_is ∙ ap (λ (m : Bool). old.noted || m) notes_are;
+  };
+}
+
+pub halts_at : (old : Running) (new : Output) (said : Said) → HasSizes old.output.panel old.moment.machine.scene.limits → Breaks old.output new (entry old.moment said) → HasSizes new.panel old.moment.machine.scene.limits → Halts old new (said ∷ [])
+halts_at old new said sizes breaks new_sizes = record {
+  from = λ seen shown. record {
+    answered = [];
+    said = said;
+    unreached = [];
+    lines_are = refl;
+    between = old.output;
+    answers = Answers-none old.moment old.output seen shown sizes;
+    breaks = breaks;
+    slices = new_sizes;
+  };
+}
+
+or_assoc : (a b c : Bool) → ((a || b) || c) ≡ (a || (b || c))
+or_assoc true b c = refl
+or_assoc false b c = refl
+
+goes_more : (a b c : Running) (seen : Option Scene) (xs ys : List Said) → IfSome seen (ShowsScene a.output.panel) → GoesOn a b xs → GoesOn b c ys → Goes a c seen (xs ++ ys)
+unfolding Answers-more
+goes_more a b c seen xs ys shown first then =
+    let h : Goes a b seen xs = first.from seen shown in
+    let seen' : Option Scene = last_done seen (told (entries a.moment xs) h.answers.outcomes) in
+    let k : Goes b c seen' ys = then.from seen' h.answers.effects.panel.shown in
+    let ts : List Told = told (entries a.moment xs) h.answers.outcomes in
+    let us : List Told = told (entries b.moment ys) k.answers.outcomes in
+    record {
+      answers = Answers-more a.moment b.moment a.output b.output c.output seen xs ys h.moment h.answers k.answers;
+      moment = k.moment ∙ (ap (λ (m : Moment). after_all m ys) h.moment ∙ sym (after_all-append a.moment xs ys));
+      noted_is = k.noted_is ∙ (ap (λ (n : Bool). n || noted us) h.noted_is ∙ (or_assoc a.noted (noted ts) (noted us)
+          ∙ ap (λ (n : Bool). a.noted || n) (sym (list_any-append notes ts us) ∙ ap noted (sym (told_more a.moment b.moment xs ys h.answers.outcomes k.answers.outcomes h.moment h.answers.each)))));
+    }
+
+pub goes_on_more : (a b c : Running) (xs ys : List Said) → GoesOn a b xs → GoesOn b c ys → GoesOn a c (xs ++ ys)
+goes_on_more a b c xs ys first then = record { from = λ seen shown. goes_more a b c seen xs ys shown first then }
+
+-- a write failed at a line after those
+pub halts_more : (a b : Running) (c : Output) (xs ys : List Said) → GoesOn a b xs → Halts b c ys → Halts a c (xs ++ ys)
+halts_more a b c xs ys first then = record {
+  from = λ seen shown.
+      let h = first.from seen shown in
+      let k = then.from _ h.answers.effects.panel.shown in
+      record {
+        answered = xs ++ k.answered;
+        said = k.said;
+        unreached = k.unreached;
+        lines_are = append_assoc xs k.answered (k.said ∷ k.unreached) ∙ ap (λ (t : List Said). xs ++ t) k.lines_are;
+        between = k.between;
+        answers = Answers-more a.moment b.moment a.output b.output k.between seen xs k.answered h.moment h.answers k.answers;
+        breaks = subst (λ (m : Moment). Breaks k.between c (entry m k.said)) (ap (λ (m : Moment). after_all m k.answered) h.moment ∙ sym (after_all-append a.moment xs k.answered)) k.breaks;
+        slices = same_sizes a.moment b.moment xs c.panel h.moment k.slices;
+      };
+}
+
+-- more lines, which were not reached, change nothing of it
+pub halts_on : (a : Running) (c : Output) (lines more : List Said) → Halts a c lines → Halts a c (lines ++ more)
+halts_on a c lines more h = record {
+  from = λ seen shown.
+      let k = h.from seen shown in
+      record {
+        answered = k.answered;
+        said = k.said;
+        unreached = k.unreached ++ more;
+        lines_are = sym (append_assoc k.answered (k.said ∷ k.unreached) more) ∙ ap (λ (t : List Said). t ++ more) k.lines_are;
+        between = k.between;
+        answers = k.answers;
+        breaks = k.breaks;
+        slices = k.slices;
+      };
+}
+
+-- the count of failed writes rose since the start
+pub halted_cause : (start : Moment) (a c : Output) (seen : Option Scene) (lines : List Said) → Halted start a c seen lines → WriteFailed a c
+halted_cause start a c seen lines h = rose a h.between c h.answers.effects.log_faults h.answers.effects.panel.keeps.present_faults h.breaks.cause where
+  rose : (a b c : Output) → a.log.faults ≤ b.log.faults → a.panel.present_faults ≤ b.panel.present_faults → WriteFailed b c → WriteFailed a c
+  rose a b c log panel (inl e) = inl (omega arith)
+  rose a b c log panel (inr e) = inr (omega arith)
+
+-- lines use up numbers, and nothing else of what the next lines need
+pub ready_on : (a b : Running) (lines : List Said) (room more : ℕ) → IsReady a room → GoesOn a b lines → length lines + more ≤ room → IsReady b more
+ready_on a b lines room more ready goes few =
+    let h = goes.from None tt in
+    record {
+      sizes = subst (HasSizes b.output.panel) (sym (ap (λ (m : Moment). m.machine.scene.limits) h.moment ∙ after_all-limits a.moment lines)) h.answers.slices;
+      number = omega (arith, ap (λ (m : Moment). m.number) h.moment, after_all-number a.moment lines, ready.number);
+      frame = omega (arith, ap (λ (m : Moment). m.frame) h.moment, after_all-frame a.moment lines, ready.frame);
+    }

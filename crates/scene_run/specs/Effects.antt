@@ -1,16 +1,16 @@
 -- What lines of the script do to the log and to the panel.
-use Rattle.std.specs.Prelude.{◌≡◌, ℕ, ◌+◌, ◌≤◌, List, [], ◌∷◌, length, IsSome, IfSome}
+use Rattle.std.specs.Prelude.{◌≡◌, ℕ, ◌+◌, ◌≤◌, ◌⊎◌, List, [], ◌∷◌, ◌++◌, length, IsSome, IfSome}
 use Rattle.std.specs.declared.option.Option.{Option}
 use Rattle.std.specs.Io.KnownBytes.{Appends}
 use Rattle.scene_defs.specs.Scene.{Scene}
 use Rattle.scene_defs.specs.Picture.{frame_file}
 use Rattle.run_defs.specs.declared.Outcome.{Outcome}
-use Rattle.run_defs.specs.declared.Outcome.TheVariants.{Done}
-use Rattle.run_defs.specs.Run.{Entry, Framed, log_text, frame_count, fault_count, done_scenes, last_done}
-use Rattle.run_defs.specs.Run.{frame_files, next_frame, next_file}
+use Rattle.run_defs.specs.Script.{Said}
+use Rattle.run_defs.specs.Run.{Moment, Entry, Told, entry, after_all, entries, told, frame_count, log_text}
+use Rattle.run_defs.specs.Run.{frame_files, file_asked, last_done, fault_count}
 use Rattle.gui_edge.specs.Causes.{Rose}
 use Rattle.gui_edge.specs.Sink.{SinkState, AppendsPrefix}
-use Rattle.gui_edge.specs.Panel.{PanelState}
+use Rattle.gui_edge.specs.Panel.{PanelState, HasSizes}
 use Rattle.gui_core.specs.Panels.{ShowsScene}
 
 -- what a run writes to
@@ -27,40 +27,61 @@ pub record PanelKeeps (old new : PanelState) : Type 0 where
   pub flush_faults : old.flush_faults ≤ new.flush_faults
   pub present_faults : old.present_faults ≤ new.present_faults
 
-pub record Keeps (old new : Output) : Type 0 where
-  pub panel : PanelKeeps old.panel new.panel
+-- What is told of some lines was shown. `seen` is the scene that the panel showed before, where it is known.
+pub record PanelEffects (old new : PanelState) (seen : Option Scene) (ts : List Told) : Type 0 where
+  -- the frames grew by the pictures of the scenes at the done frame lines, in order
+  pub frames : IsSome old.shows → Appends old.frames new.frames (frame_files ts)
+  -- where the last reply is that of a done frame, the panel shows its picture
+  pub shown : IfSome (last_done seen ts) (ShowsScene new)
+  -- there are no more fault lines than failed flushes
+  pub faults : old.flush_faults + fault_count ts ≤ new.flush_faults
+  pub keeps : PanelKeeps old new
+
+-- What is told of some lines was shown and written.
+pub record Effects (old new : Output) (seen : Option Scene) (ts : List Told) : Type 0 where
+  pub panel : PanelEffects old.panel new.panel seen ts
+  -- the log grew by its text
+  pub log : Appends old.log.held new.log.held (log_text ts)
   pub log_faults : old.log.faults ≤ new.log.faults
 
--- What these entries do with these outcomes, from the line and the frame of these numbers on. `seen` is the
--- scene that the panel shows before, where it is known.
-pub record Effects (old new : Output) (line frame : ℕ) (seen : Option Scene) (es : List Entry)
-    (outcomes : List Outcome) : Type 0 where
-  pub each : length outcomes ≡ frame_count es
-  pub log : Appends old.log.held new.log.held (log_text line frame es outcomes)
-  pub frames : IsSome old.panel.shows →
-      Appends old.panel.frames new.panel.frames (frame_files (done_scenes es outcomes))
-  pub shown : IfSome (last_done seen es outcomes) (ShowsScene new.panel)
-  pub faults : old.panel.flush_faults + fault_count outcomes ≤ new.panel.flush_faults
-  pub keeps : Keeps old new
+-- a write of the log or of a frame failed
+abbrev pub WriteFailed : Output → Output → Type 0
+WriteFailed old new =
+    Rose old.log.faults new.log.faults ⊎ Rose old.panel.present_faults new.panel.present_faults
 
--- What an entry does before a write of the log or of a frame fails: a prefix of its log line is written, and
--- a prefix of its frame.
-pub record Breaks (old new : Output) (line frame : ℕ) (e : Entry) : Type 0 where
+-- A write failed at a line: of its text for the log a prefix was written, and of the picture that it asks for.
+pub record Breaks (old new : Output) (e : Entry) : Type 0 where
+  -- the outcome of its frame, where it came to one
   pub last : List Outcome
   pub one : length last ≤ frame_count (e ∷ [])
-  pub log : AppendsPrefix old.log.held new.log.held (log_text line frame (e ∷ []) last)
-  pub frames : IsSome old.panel.shows →
-      AppendsPrefix old.panel.frames new.panel.frames (next_file (next_frame (e ∷ []) []))
-  pub faults : old.panel.flush_faults + fault_count last ≤ new.panel.flush_faults
-  pub keeps : Keeps old new
+  pub log : AppendsPrefix old.log.held new.log.held (log_text (told (e ∷ []) last))
+  pub frames : IsSome old.panel.shows → AppendsPrefix old.panel.frames new.panel.frames (file_asked e)
+  pub faults : old.panel.flush_faults + fault_count (told (e ∷ []) last) ≤ new.panel.flush_faults
+  pub cause : WriteFailed old new
+  pub keeps : PanelKeeps old.panel new.panel
+  pub log_faults : old.log.faults ≤ new.log.faults
 
--- a frame line came to this outcome
-pub record FrameShown (old new : PanelState) (scene : Scene) (outcome : Outcome) : Type 0 where
-  pub frames : IsSome old.shows →
-      Appends old.frames new.frames (frame_files (done_scenes (Framed scene ∷ []) (outcome ∷ [])))
-  pub done : outcome ≡ Done → ShowsScene new scene
-  pub faults : old.flush_faults + fault_count (outcome ∷ []) ≤ new.flush_faults
-  pub keeps : PanelKeeps old new
+-- These lines were answered, from this moment of a run on.
+pub record Answers (start : Moment) (old new : Output) (seen : Option Scene) (lines : List Said) : Type 0 where
+  -- each frame line has an outcome
+  pub outcomes : List Outcome
+  pub each : length outcomes ≡ frame_count (entries start lines)
+  -- what is told of the lines with these outcomes was written
+  pub effects : Effects old new seen (told (entries start lines) outcomes)
+  -- the panel is opened with the limits' sizes
+  pub slices : HasSizes new.panel start.machine.scene.limits
+
+-- A write failed at one of these lines: those before it were answered, and those after it were not reached.
+pub record Halted (start : Moment) (old new : Output) (seen : Option Scene) (lines : List Said) : Type 0 where
+  pub answered : List Said
+  pub said : Said
+  pub unreached : List Said
+  pub lines_are : answered ++ said ∷ unreached ≡ lines
+  -- what was written before it
+  pub between : Output
+  pub answers : Answers start old between seen answered
+  pub breaks : Breaks between new (entry (after_all start answered) said)
+  pub slices : HasSizes new.panel start.machine.scene.limits
 
 -- a frame could not be presented whole
 pub record FrameBroke (old new : PanelState) (scene : Scene) : Type 0 where

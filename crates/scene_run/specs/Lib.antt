@@ -1,4 +1,3 @@
 pub mod Effects
 pub mod Headline
-pub mod Reached
-pub mod Reads
+pub mod Running

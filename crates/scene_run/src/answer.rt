@@ -1,18 +1,19 @@
 //! Answers one line of the script.
-ghost use Rattle.std.specs.Prelude.{◌≡◌, ◌<◌, ◌∷◌, [], ◌⊎◌, IfOk, IfSome, OnOk, OnErr};
+ghost use Rattle.std.specs.Prelude.{◌≡◌, ◌<◌, ◌∷◌, [], ℕ, length, IfOk, IfSome, OnOk, OnErr};
 ghost use Rattle.std.specs.declared.option.Option.{Option};
+ghost use Rattle.std.specs.Io.KnownBytes.{Appends};
 ghost use Rattle.std.specs.Option.{option_to_list};
 ghost use Rattle.scene_defs.specs.Scene.{Scene};
 ghost use Rattle.run_defs.specs.Laws.{IsInRange};
 ghost use Rattle.run_defs.specs.Step.{step, is_noted, IsCommand};
-ghost use Rattle.run_defs.specs.Run.{entry, after, is_refused, reply_line, reply_text, frame_line};
-ghost use Rattle.std.specs.Io.KnownBytes.{Appends};
-ghost use Rattle.gui_edge.specs.Causes.{Rose, HasCause};
+ghost use Rattle.run_defs.specs.Run.{moment, entry, told, machine_after, frames_asked, noted};
+ghost use Rattle.run_defs.specs.Run.{Replied, Framed, reply_line, frame_line, log_lines};
+ghost use Rattle.gui_edge.specs.Causes.{HasCause};
+ghost use Rattle.gui_edge.specs.Panel.{HasSizes};
 ghost use Rattle.gui_edge.specs.Sink.{AppendsPrefix};
 ghost use Rattle.gui_core.specs.Machines.{machine_of};
-ghost use Rattle.gui_edge.specs.Panel.{HasSizes};
 ghost use Rattle.gui_core.specs.Panels.{ShowsScene, Refreshes};
-ghost use Rattle.scene_run.specs.Effects.{output, PanelKeeps, Keeps, Effects, Breaks, FrameShown, FrameBroke};
+ghost use Rattle.scene_run.specs.Effects.{output, PanelEffects, Effects, Breaks, FrameBroke};
 
 use arrayvec::ArrayVec;
 use gui_base::{Refusal, Steps};
@@ -44,7 +45,7 @@ fn frame_text(number: u32, frame: u32, outcome: Outcome) -> LogLine
 
 /// The line of the log for a reply.
 fn reply_text(number: u32, reply: Reply) -> LogLine
-    ensures { result.items ≡ reply_line number (reply_text reply) }
+    ensures { result.items ≡ reply_line number reply }
 {
     let mut text = ArrayVec::new();
     push_number(&mut text, number);
@@ -69,15 +70,17 @@ fn is_noted(reply: Reply) -> bool
     }
 }
 
-/// Carries out a command and writes the reply. It tells whether there is something to note.
+/// Carries out a command, which writes what its events say, and writes the reply. It tells whether there is something to note.
 fn make<L: Sink>(gui: &mut Gui, command: Command, number: u32, log: &mut L) -> Result<bool, Failed>
     requires { IsCommand command }
     ensures machine { machine_of gui.new ≡ (step (machine_of gui.old) command).machine }
-    ensures ok { OnOk result (Appends (L.state log.old).held (L.state log.new).held
-        (reply_line number (reply_text (step (machine_of gui.old) command).reply))) }
     ensures noted { IfOk result (λ noted. noted ≡ is_noted (step (machine_of gui.old) command).reply) }
+    ensures ok { OnOk result (Appends (L.state log.old).held (L.state log.new).held
+        (log_lines (Replied number (step (machine_of gui.old) command).lines
+        (step (machine_of gui.old) command).reply))) }
     ensures err { OnErr result (AppendsPrefix (L.state log.old).held (L.state log.new).held
-        (reply_line number (reply_text (step (machine_of gui.old) command).reply))) }
+        (log_lines (Replied number (step (machine_of gui.old) command).lines
+        (step (machine_of gui.old) command).reply))) }
     ensures cause { HasCause (L.state log.old).faults (L.state log.new).faults result }
 {
     let reply = gui.apply(&command, log)?;
@@ -104,9 +107,9 @@ fn show<P: Panel>(gui: &mut Gui, panel: &mut P) -> Result<Outcome, Failed>
     requires { HasSizes (P.state panel.old) (machine_of gui.old).scene.limits }
     ensures machine { machine_of gui.new ≡ machine_of gui.old }
     ensures sizes { HasSizes (P.state panel.new) (machine_of gui.old).scene.limits }
-    ensures keeps { PanelKeeps (P.state panel.old) (P.state panel.new) }
-    ensures ok { IfOk result
-        (λ outcome. FrameShown (P.state panel.old) (P.state panel.new) (machine_of gui.old).scene outcome) }
+    ensures ok { IfOk result (λ outcome. (number frame : ℕ) (seen : Option Scene) →
+        PanelEffects (P.state panel.old) (P.state panel.new) seen
+        (Framed number frame (machine_of gui.old).scene outcome ∷ [])) }
     ensures err { OnErr result
         (FrameBroke (P.state panel.old) (P.state panel.new) (machine_of gui.old).scene) }
 {
@@ -119,11 +122,11 @@ fn show<P: Panel>(gui: &mut Gui, panel: &mut P) -> Result<Outcome, Failed>
     }
 }
 
-/// What became of a line: the outcome of a frame, and whether the line was refused.
+/// What became of a line: the outcome of a frame, and whether the line was refused or the frame faulted.
 #[derive(Clone, Copy)]
 pub struct LineEnd {
     pub outcome: Option<Outcome>,
-    pub refused: bool,
+    pub noted: bool,
 }
 
 /// Answers a line: what the log and the panel get.
@@ -137,41 +140,42 @@ pub fn answer<L: Sink, P: Panel>(
 ) -> Result<LineEnd, Failed>
     requires sizes { HasSizes (P.state panel.old) (machine_of gui.old).scene.limits }
     requires in_range { IsInRange said }
-    ensures machine { machine_of gui.new ≡ after (machine_of gui.old) said }
+    ensures machine { machine_of gui.new ≡ machine_after (machine_of gui.old) said }
     ensures sizes { HasSizes (P.state panel.new) (machine_of gui.old).scene.limits }
-    ensures keeps { Keeps (output (L.state log.old) (P.state panel.old))
-        (output (L.state log.new) (P.state panel.new)) }
     ensures ok { IfOk result (λ end. (seen : Option Scene) → IfSome seen (ShowsScene (P.state panel.old)) →
         Effects (output (L.state log.old) (P.state panel.old)) (output (L.state log.new) (P.state panel.new))
-        number frame seen (entry (machine_of gui.old) said ∷ []) (option_to_list end.outcome)) }
-    ensures refused { IfOk result (λ end. end.refused ≡ is_refused (entry (machine_of gui.old) said)) }
+        seen (told (entry (moment (machine_of gui.old) number frame) said ∷ [])
+        (option_to_list end.outcome))) }
+    ensures asked { IfOk result (λ end. length (option_to_list end.outcome) ≡ frames_asked said) }
+    ensures noted { IfOk result (λ end. end.noted ≡ noted
+        (told (entry (moment (machine_of gui.old) number frame) said ∷ []) (option_to_list end.outcome))) }
     ensures err { OnErr result (Breaks (output (L.state log.old) (P.state panel.old))
-        (output (L.state log.new) (P.state panel.new)) number frame (entry (machine_of gui.old) said)) }
-    ensures cause { OnErr result (Rose (L.state log.old).faults (L.state log.new).faults
-        ⊎ Rose (P.state panel.old).present_faults (P.state panel.new).present_faults) }
+        (output (L.state log.new) (P.state panel.new))
+        (entry (moment (machine_of gui.old) number frame) said)) }
 {
     let mut end = LineEnd {
         outcome: None,
-        refused: false,
+        noted: false,
     };
     match said {
         Ok(line) => match line {
             Line::Blank => Ok(end),
             Line::Make(command) => {
-                end.refused = make(gui, command, number, log)?;
+                end.noted = make(gui, command, number, log)?;
                 Ok(end)
             }
             Line::Frame => {
                 let outcome = show(gui, panel)?;
                 log.put(frame_text(number, frame, outcome).as_slice())?;
                 end.outcome = Some(outcome);
+                end.noted = matches!(outcome, Outcome::Fault);
                 Ok(end)
             }
         },
         Err(fault) => {
             let reply = Reply::Refused(Refusal::from(fault));
             log.put(reply_text(number, reply).as_slice())?;
-            end.refused = true;
+            end.noted = true;
             Ok(end)
         }
     }

@@ -3,8 +3,7 @@ ghost use Rattle.std.specs.Prelude.{◌≡◌, ◌⊎◌};
 ghost use Rattle.gui_edge.specs.Causes.{Rose};
 ghost use Rattle.gui_core.specs.Machines.{machine_of};
 ghost use Rattle.gui_edge.specs.Panel.{HasSizes};
-ghost use Rattle.scene_run.specs.Headline.{outside};
-ghost use Rattle.scene_run.specs.Reads.{Reads};
+ghost use Rattle.scene_run.specs.Headline.{outside, Runs};
 
 use crate::runner::Runner;
 use crate::status::Status;
@@ -22,7 +21,7 @@ pub fn read_script<S: Source, L: Sink, P: Panel>(
     panel: &mut P,
 ) -> Status
     requires { HasSizes (P.state panel.old) (machine_of gui).scene.limits }
-    ensures reads { Reads (machine_of gui)
+    ensures runs { Runs (machine_of gui)
         (outside (S.state source.old) (L.state log.old) (P.state panel.old))
         (outside (S.state source.new) (L.state log.new) (P.state panel.new)) result }
     ensures read_fault { result ≡ Status.ReadFault →
@@ -39,7 +38,10 @@ pub fn read_script<S: Source, L: Sink, P: Panel>(
             Err(Failed) => return Status::ReadFault,
         };
         if count == 0 {
-            return runner.finish(log, panel);
+            match runner.finish(log, panel) {
+                Ok(()) => return runner.status(),
+                Err(Failed) => return Status::WriteFault,
+            }
         }
         let within = buffer.split_at(count.min(room)).0;
         match runner.take_piece(within, log, panel) {

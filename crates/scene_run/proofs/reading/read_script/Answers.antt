@@ -1,55 +1,58 @@
-use Rattle.std.proofs.Common.{arith, ◌∙◌, sym, ap, subst, take}
-use Rattle.gui_core.specs.declared.gui.Gui.{Gui}
+use Rattle.std.proofs.Common.{arith, ◌≡◌, ◌∙◌, ap, length-take, min, take}
 use Rattle.gui_core.specs.Machines.{machine_of}
-use Rattle.gui_edge.specs.Panel.{HasSizes}
-use Rattle.scene_run.specs.Headline.{Outside, output_of}
-use Rattle.scene_run.proofs.Breaking.{Keeps-self}
-use Rattle.scene_run.proofs.Going.{Keeps-more}
-use Rattle.scene_run.proofs.Gone.{gone_start, gone_last, read_broken, read_long, read_more}
+use Rattle.scene_run.specs.Headline.{Outside, outside}
+use Rattle.scene_run.proofs.Gone.{gone_start, gone_more, taken_piece, runs_unread, runs_whole, runs_broken_last, runs_broken, runs_long, runs_cause}
 use Rattle.scene_run.proofs.reading.read_script.Goals as goal
 
 pub loop-init : goal.loop-init
 loop-init g c =
     let e = c.new-runner.ensures in
-    let start : Outside = record { source = g.S.Source.state c.args.source.now; log = g.L.Sink.state c.args.log.now; panel = g.P.Panel.state c.args.panel.now } in
     record {
-      gone = gone_start (machine_of c.args.gui) start c.new-runner.result (ap machine_of e.gui) c.requires e.line e.number e.frame e.noted;
+      gone = gone_start (machine_of c.args.gui) _ c.new-runner.result (ap machine_of e.gui) c.requires e.line e.number e.frame e.noted;
       within = omega arith;
       turns = omega arith;
-      number = omega arith;
-      frame = omega arith;
-      sizes = subst (λ (gui : Gui). HasSizes (g.P.Panel.state c.args.panel.now) (machine_of gui).scene.limits) (sym e.gui) c.requires;
-      keeps = Keeps-self (output_of start);
       source_faults = omega arith;
     }
 
-pub returns-then-count-eq0-clause-reads : goal.returns-then-count-eq0-clause-reads
-returns-then-count-eq0-clause-reads g c =
+pub returns-in-Err-clause-runs : goal.returns-in-Err-clause-runs
+returns-in-Err-clause-runs g c = runs_unread _ _ _ _ _ _ c.loop.invariant.gone c.in-Err.ensures.bytes
+
+pub returns-in-Ok-finish-clause-runs : goal.returns-in-Ok-finish-clause-runs
+returns-in-Ok-finish-clause-runs g c =
     let none = c.in-Ok.ensures.bytes in
-    let old : Outside = record { source = g.S.Source.state c.args.source.now; log = g.L.Sink.state c.args.log.now; panel = g.P.Panel.state c.args.panel.now } in
-    let mid : Outside = record { source = g.S.Source.state c.loop.source; log = g.L.Sink.state c.loop.log; panel = g.P.Panel.state c.loop.panel } in
-    gone_last (machine_of c.args.gui) old mid _ _ c.loop.runner c.loop.room _ c.loop.invariant.gone (rw c.if-count-eq0.true at none.0) (none.1 c.if-count-eq0.true (omega arith)) (λ start taken t. c.finish.ensures.ends _ start taken t)
+    rw c.status.ensures (runs_whole _ _ _ _ _ _ c.finish.new.self _ c.loop.invariant.gone (rw c.if-count-eq0.true at none.0) (none.1 c.if-count-eq0.true (omega arith)) c.in-Ok-finish.ensures.ok)
 
-pub returns-then-count-eq0-clause-read_fault : goal.returns-then-count-eq0-clause-read_fault
-returns-then-count-eq0-clause-read_fault g c = λ e. absurd (c.finish.ensures.ended e)
+pub returns-in-Err-finish-clause-runs : goal.returns-in-Err-finish-clause-runs
+returns-in-Err-finish-clause-runs g c =
+    let none = c.in-Ok.ensures.bytes in
+    runs_broken_last _ _ _ _ _ _ _ c.loop.invariant.gone (rw c.if-count-eq0.true at none.0) (none.1 c.if-count-eq0.true (omega arith)) c.in-Err-finish.ensures.err
 
-pub returns-in-Err-take_piece-clause-reads : goal.returns-in-Err-take_piece-clause-reads
-returns-in-Err-take_piece-clause-reads g c =
-    read_broken _ _ _ _ _ c.loop.runner c.loop.room c.in-Ok.count c.read.new.buf c.split_at.result.0.now c.in-Ok.ensures.bound.0 (c.split_at.ensures.front ∙ ap (λ k. take k c.read.new.buf) c.min.ensures) c.loop.invariant.gone c.in-Ok.ensures.bytes.0 c.in-Err-take_piece.ensures.err
+pub returns-in-Err-finish-clause-write_fault : goal.returns-in-Err-finish-clause-write_fault
+returns-in-Err-finish-clause-write_fault g c = λ e. runs_cause _ _ _ (returns-in-Err-finish-clause-runs g c)
 
-pub returns-then-count-room-clause-reads : goal.returns-then-count-room-clause-reads
-returns-then-count-room-clause-reads g c =
-    read_long _ _ _ _ _ c.loop.runner c.take_piece.new.self c.loop.room c.in-Ok.count c.read.new.buf c.split_at.result.0.now c.in-Ok.ensures.bound.0 c.if-count-room.true (c.split_at.ensures.front ∙ ap (λ k. take k c.read.new.buf) c.min.ensures) c.loop.invariant.gone c.in-Ok.ensures.bytes.0 c.in-Ok-take_piece.ensures.ok
+pub returns-in-Err-take_piece-clause-runs : goal.returns-in-Err-take_piece-clause-runs
+returns-in-Err-take_piece-clause-runs g c =
+    runs_broken _ _ _ _ _ _ _ _ _
+    (taken_piece c.read.new.buf _ c.in-Ok.count c.loop.room c.in-Ok.ensures.bound.0 (c.split_at.ensures.front ∙ ap (λ k. take k c.read.new.buf) c.min.ensures)) c.loop.invariant.gone c.in-Ok.ensures.bytes.0 c.in-Err-take_piece.ensures.err
+
+pub returns-in-Err-take_piece-clause-write_fault : goal.returns-in-Err-take_piece-clause-write_fault
+returns-in-Err-take_piece-clause-write_fault g c = λ e. runs_cause _ _ _ (returns-in-Err-take_piece-clause-runs g c)
+
+pub returns-then-count-room-clause-runs : goal.returns-then-count-room-clause-runs
+returns-then-count-room-clause-runs g c =
+    runs_long _ _ _ _ _ c.loop.runner c.take_piece.new.self c.loop.room (take c.in-Ok.count c.read.new.buf) c.split_at.result.0.now
+    (omega (arith, c.if-count-room.true, c.in-Ok.ensures.bound.0, length-take c.in-Ok.count c.read.new.buf))
+    (taken_piece c.read.new.buf _ c.in-Ok.count c.loop.room c.in-Ok.ensures.bound.0 (c.split_at.ensures.front ∙ ap (λ k. take k c.read.new.buf) c.min.ensures))
+    c.loop.invariant.gone c.in-Ok.ensures.bytes.0 c.in-Ok-take_piece.ensures.ok
 
 pub loop-preserved : goal.loop-preserved
 loop-preserved g c =
     record {
-      gone = read_more _ _ _ _ _ c.loop.runner c.take_piece.new.self c.loop.room c.in-Ok.count c.read.new.buf c.split_at.result.0.now c.in-Ok.ensures.bound.0 c.if-count-room.false (c.split_at.ensures.front ∙ ap (λ k. take k c.read.new.buf) c.min.ensures) c.loop.invariant.gone c.in-Ok.ensures.bytes.0 c.in-Ok-take_piece.ensures.ok;
+      gone = gone_more _ _ _ _ _ c.loop.runner c.take_piece.new.self c.loop.room c.in-Ok.count (take c.in-Ok.count c.read.new.buf) c.split_at.result.0.now
+          (omega (arith, c.in-Ok.ensures.bound.0, length-take c.in-Ok.count c.read.new.buf)) c.if-count-room.false
+          (taken_piece c.read.new.buf _ c.in-Ok.count c.loop.room c.in-Ok.ensures.bound.0 (c.split_at.ensures.front ∙ ap (λ k. take k c.read.new.buf) c.min.ensures))
+          c.loop.invariant.gone c.in-Ok.ensures.bytes.0 c.in-Ok-take_piece.ensures.ok c.in-Ok-take_piece.ensures.line;
       within = omega arith;
       turns = omega arith;
-      number = omega (arith, c.split_at.ensures.front_len, c.min.ensures, c.take_piece.ensures.number, c.loop.invariant.number);
-      frame = omega (arith, c.split_at.ensures.front_len, c.min.ensures, c.take_piece.ensures.frame, c.loop.invariant.frame);
-      sizes = c.in-Ok-take_piece.ensures.sizes;
-      keeps = Keeps-more _ _ _ c.loop.invariant.keeps c.in-Ok-take_piece.ensures.keeps;
       source_faults = omega arith;
     }

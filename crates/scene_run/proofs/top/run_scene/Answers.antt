@@ -14,4 +14,4 @@ read_script-requires g c =
 
 pub returns-in-Ok-open-clause-headline : goal.returns-in-Ok-open-clause-headline
 returns-in-Ok-open-clause-headline g c =
-    headline_given _ (bounds_of c.in-Some.limits) (machine_of c.in-Ok.gui) _ _ _ _ _ c.read_script.result c.in-Some.ensures c.in-Ok.ensures c.in-Ok-open.ensures c.read_script.ensures.reads
+    headline_given _ (bounds_of c.in-Some.limits) (machine_of c.in-Ok.gui) _ _ _ _ _ _ _ _ c.read_script.result c.in-Some.ensures c.in-Ok.ensures c.in-Ok-open.ensures c.read_script.ensures.runs

@@ -1,5 +1,5 @@
 //! What an entry gives, which of two candidates wins, and which entries and uses are the same.
-ghost use Rattle.std.specs.Prelude.{◌≡◌};
+ghost use Rattle.std.specs.Prelude.{◌≡◌, Some};
 ghost use Rattle.style_defs.specs.Cascade.{applies, of_entry, stronger};
 ghost use Rattle.style_defs.specs.Words.{same_selector};
 ghost use Rattle.gui_style.specs.Styles.{is_for, is_use};
@@ -14,15 +14,12 @@ pub(crate) fn applies(selector: Selector, part: Part, states: u16) -> bool
 }
 
 /// Of the winner so far and the next candidate, the one that wins.
-pub(crate) fn stronger(best: Option<Candidate>, next: Option<Candidate>) -> Option<Candidate>
-    ensures { result ≡ stronger best next }
+pub(crate) fn stronger(best: Option<Candidate>, next: Candidate) -> Candidate
+    ensures { Some result ≡ stronger best (Some next) }
 {
-    let Some(best) = best else {
-        return next;
-    };
-    match next {
-        Some(next) if next.states >= best.states => Some(next),
-        _ => Some(best),
+    match best {
+        Some(best) if next.states < best.states => best,
+        _ => next,
     }
 }
 

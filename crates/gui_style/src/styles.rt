@@ -396,7 +396,9 @@ impl Styles {
         let mut best = None;
         let mut uses = self.uses.of(h.0 as u32);
         while let Some(used) = uses.next() {
-            best = stronger(best, self.shared_by(used, part, states, prop));
+            if let Some(next) = self.shared_by(used, part, states, prop) {
+                best = Some(stronger(best, next));
+            }
         }
         best
     }
@@ -415,7 +417,9 @@ impl Styles {
         let mut best = shared;
         let mut entries = self.entries.of(h.0 as u32);
         while let Some(entry) = entries.next() {
-            best = stronger(best, given_by(entry, part, states, prop));
+            if let Some(next) = given_by(entry, part, states, prop) {
+                best = Some(stronger(best, next));
+            }
         }
         best
     }

@@ -32,8 +32,8 @@ one_below n o c e lt = λ d is. subst (λ k. k.states < n) (same_Some c d (sym e
 
 -- what one step keeps
 at_most_kept : (n : ℕ) (o p : Option Candidate) → IsAtMost n o → IsAtMost n p → IsAtMost n (stronger o p)
-at_most_kept n None p a b = b
-at_most_kept n (Some c) None a b = a
+at_most_kept n o None a b = a
+at_most_kept n None (Some d) a b = b
 at_most_kept n (Some c) (Some d) a b =
     elim (cases_Bool (ltb d.states c.states)) [
       | inl less ↦ rw less a
@@ -49,8 +49,8 @@ taken c None most = refl
 taken c (Some d) most = let more = le-ltb c.states d.states (most d refl) in rw more refl
 
 none_of_two : (o p : Option Candidate) → stronger o p ≡ None → (o ≡ None) × (p ≡ None)
-none_of_two None p e = (refl, e)
-none_of_two (Some c) None e = cc
+none_of_two o None e = (e, refl)
+none_of_two None (Some d) e = cc
 none_of_two (Some c) (Some d) e =
     elim (cases_Bool (ltb d.states c.states)) [
       | inl less ↦ let no = rw less at e in cc
@@ -168,7 +168,7 @@ module _ {A : Type 0} (gives : A → Option Candidate) where
   none_given [] all = refl
   none_given (x ∷ xs) all =
       let P : A → Type 0 = λ y. gives y ≡ None in
-      ap (λ o. best o xs) (All-head P x xs all) ∙ none_given xs (All-tail P x xs all)
+      ap (λ o. best (stronger None o) xs) (All-head P x xs all) ∙ none_given xs (All-tail P x xs all)
 
 module _ (styles : List Style) (uses : List Use) (locals : List Entry) (part : Part) (states : ℕ) (prop : Prop) where
   abbrev shared : Option Candidate

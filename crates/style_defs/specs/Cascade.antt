@@ -71,8 +71,8 @@ candidates styles uses locals part states prop =
 
 -- of the winner so far and the next candidate: the one with greater states, and of equals the next
 abbrev pub stronger : Option Candidate → Option Candidate → Option Candidate
-stronger None next = next
-stronger (Some best) None = Some best
+stronger best None = best
+stronger None (Some next) = Some next
 stronger (Some best) (Some next) = if nat_lt next.states best.states then Some best else Some next
 
 -- the candidate that wins

@@ -1,5 +1,6 @@
 //! The store.
-ghost use Rattle.std.specs.Prelude.{◌≡◌, ◌<◌, ◌^◌, IfOk, IfSome, Some, None, true, length, option_map, sum_by};
+ghost use Rattle.std.specs.Prelude.{◌≡◌, ◌<◌, ◌^◌, IfOk, IfSome, Some, None, true, length};
+ghost use Rattle.std.specs.Prelude.{option_map, sum_by};
 ghost use Rattle.std.specs.Option.{option_copied};
 ghost use Rattle.gui_base.specs.Bounded.{bounds_of};
 ghost use Rattle.gui_base.specs.Refusing.{first_of, result_of, move_tests};

@@ -52,8 +52,8 @@ abbrev pub after_all : Moment → List Said → Moment
 after_all now [] = now
 after_all now (said ∷ lines) = after_all (after now said) lines
 
--- What a line asks for: nothing, a reply after the lines that its events write, or a frame of this scene, which
--- has an outcome. The numbers are those of the line and of the frame.
+-- What a line asks for: nothing, a reply after the lines that its events write, or a frame of this scene,
+-- which has an outcome. The numbers are those of the line and of the frame.
 pub data Entry : Type 0 where
   Silent : Entry
   Replies : (number : ℕ) (lines : List ℕ) (reply : Reply) → Entry
@@ -79,7 +79,7 @@ asks_frame (Frames number frame scene) = true
 abbrev pub frame_count : List Entry → ℕ
 frame_count es = count_by asks_frame es
 
--- what the log tells of a line: its reply after the lines that its events wrote, or its frame with the outcome
+-- what the log tells of a line: its reply after the lines that its events wrote, or its frame with its outcome
 pub data Told : Type 0 where
   Replied : (number : ℕ) (lines : List ℕ) (reply : Reply) → Told
   Framed : (number frame : ℕ) (scene : Scene) (outcome : Outcome) → Told

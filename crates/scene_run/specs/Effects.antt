@@ -49,7 +49,7 @@ abbrev pub WriteFailed : Output → Output → Type 0
 WriteFailed old new =
     Rose old.log.faults new.log.faults ⊎ Rose old.panel.present_faults new.panel.present_faults
 
--- A write failed at a line: of its text for the log a prefix was written, and of the picture that it asks for.
+-- A write failed at a line: a prefix of its text for the log was written, and of the picture that it asks for.
 pub record Breaks (old new : Output) (e : Entry) : Type 0 where
   -- the outcome of its frame, where it came to one
   pub last : List Outcome
@@ -62,7 +62,8 @@ pub record Breaks (old new : Output) (e : Entry) : Type 0 where
   pub log_faults : old.log.faults ≤ new.log.faults
 
 -- These lines were answered, from this moment of a run on.
-pub record Answers (start : Moment) (old new : Output) (seen : Option Scene) (lines : List Said) : Type 0 where
+pub record Answers (start : Moment) (old new : Output) (seen : Option Scene) (lines : List Said) :
+    Type 0 where
   -- each frame line has an outcome
   pub outcomes : List Outcome
   pub each : length outcomes ≡ frame_count (entries start lines)

@@ -70,7 +70,8 @@ fn is_noted(reply: Reply) -> bool
     }
 }
 
-/// Carries out a command, which writes what its events say, and writes the reply. It tells whether there is something to note.
+/// Carries out a command, which writes what its events say, and writes the reply. It tells whether there is
+/// something to note.
 fn make<L: Sink>(gui: &mut Gui, command: Command, number: u32, log: &mut L) -> Result<bool, Failed>
     requires { IsCommand command }
     ensures machine { machine_of gui.new ≡ (step (machine_of gui.old) command).machine }

@@ -114,7 +114,8 @@ impl Runner {
     ) -> Result<(), Failed>
         requires ready { IsReady (running self.old (L.state log.old) (P.state panel.old)) 1 }
         ensures ok { OnOk result (GoesOn (running self.old (L.state log.old) (P.state panel.old))
-            (running self.new (L.state log.new) (P.state panel.new)) (cut_says (pushed self.old.cutter byte))) }
+            (running self.new (L.state log.new) (P.state panel.new))
+            (cut_says (pushed self.old.cutter byte))) }
         ensures err { OnErr result (Halts (running self.old (L.state log.old) (P.state panel.old))
             (output (L.state log.new) (P.state panel.new)) (cut_says (pushed self.old.cutter byte))) }
         ensures line { self.new.cutter ≡ pushed self.old.cutter byte }

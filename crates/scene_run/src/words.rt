@@ -47,7 +47,7 @@ fn first_setting<'a>(words: &'a [&'a str], pool: Pool) -> Option<(&'a [u8], &'a 
     ensures { MatchOption result
         (filter_map (setting_of pool) (map (λ w. w.now) words.now) ≡ [])
         (λ t. filter_map (setting_of pool) (map (λ w. w.now) words.now)
-            ≡ t.0.now ∷ filter_map (setting_of pool) (map (λ w. w.now) t.1.now)) }
+        ≡ t.0.now ∷ filter_map (setting_of pool) (map (λ w. w.now) t.1.now)) }
 {
     let mut words = words;
     while let [word, later @ ..] = words {

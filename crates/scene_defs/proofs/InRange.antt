@@ -1,13 +1,13 @@
 -- The numbers of rows.
-use Rattle.std.proofs.Common.{◌≡◌, true}
+use Rattle.std.proofs.Common.{◌≡◌, true, arith}
 use Rattle.std.proofs.lemmas.Bool.{and_parts}
-use Rattle.gui_base.specs.declared.intervals.TheConstants.{HANDLE, COORDINATE}
+use Rattle.gui_base.specs.declared.intervals.TheConstants.{HANDLE}
 use Rattle.gui_base.specs.declared.words.Prop.TheVariants.{BgColor, BgOpa}
-use Rattle.gui_base.specs.Intervals.{is_counted, is_within}
+use Rattle.gui_base.specs.Intervals.{is_counted}
 use Rattle.scene_defs.specs.declared.Change.{Change}
 use Rattle.scene_defs.specs.declared.Change.TheVariants as change
 use Rattle.scene_defs.specs.Change.{row_after}
-use Rattle.scene_defs.specs.Ranges.{is_size, is_value, is_in_range}
+use Rattle.scene_defs.specs.Ranges.{is_in_range}
 use Rattle.scene_defs.specs.Scene.{Row}
 use Rattle.scene_defs.specs.Valid.{IsOffset, IsSize, IsRow, is_local}
 
@@ -33,16 +33,8 @@ numbers_of row r =
 
 -- a change in range leaves a row in range
 pub row_in_range : (change : Change) (row : Row) → is_in_range change ≡ true → IsRow row → IsRow (row_after change row)
-row_in_range (change.Pos h x y) row e r =
-    let n = numbers_of row r in
-    let c = and_parts (is_within COORDINATE x) (is_within COORDINATE y) (and_parts (is_counted HANDLE h.0) _ e).1 in
-    rw (c.0, c.1) (rw (n.x, n.y) at r)
-row_in_range (change.Size h width height) row e r =
-    let n = numbers_of row r in
-    let c = and_parts (is_size width) (is_size height) (and_parts (is_counted HANDLE h.0) _ e).1 in
-    rw (c.0, c.1) (rw (n.width, n.height) at r)
-row_in_range (change.Local h part BgColor value) row e r =
-    let n = numbers_of row r in rw (and_parts (is_counted HANDLE h.0) (is_value BgColor value) e).1 (rw n.bg_color at r)
-row_in_range (change.Local h part BgOpa value) row e r =
-    let n = numbers_of row r in rw (and_parts (is_counted HANDLE h.0) (is_value BgOpa value) e).1 (rw n.bg_opa at r)
+row_in_range (change.Pos h x y) row e r = let n = numbers_of row r in grind (arith, e, rw (n.x, n.y) at r)
+row_in_range (change.Size h width height) row e r = let n = numbers_of row r in grind (arith, e, rw (n.width, n.height) at r)
+row_in_range (change.Local h part BgColor value) row e r = let n = numbers_of row r in grind (arith, e, rw n.bg_color at r)
+row_in_range (change.Local h part BgOpa value) row e r = let n = numbers_of row r in grind (arith, e, rw n.bg_opa at r)
 row_in_range change row e r = r

@@ -1,11 +1,11 @@
 -- A picture by its pixels.
-use Rattle.std.proofs.Common.{◌≡◌, ◌∙◌, sym, subst, ℕ, zero, suc, ◌+◌, ◌*◌, ◌/◌, ◌%◌, ◌<◌, List, [], ◌∷◌, length, length-append, arith, refl, get_or}
+use Rattle.std.proofs.Common.{◌≡◌, ◌∙◌, sym, ℕ, zero, suc, ◌+◌, ◌*◌, ◌/◌, ◌%◌, ◌<◌, List, [], ◌∷◌, length, length-append, arith, refl, get_or}
 use Rattle.std.specs.Prelude.{Some, pos}
 use Rattle.std.specs.List.{slice_get}
 use Rattle.std.proofs.lemmas.List.{same_lists}
 use Rattle.std.proofs.lemmas.Grind.{common_steps, rows}
 use Rattle.std.proofs.lemmas.Option.{get_or_from_slice_get}
-use Rattle.std.proofs.Math.Nat.{div-add-mod}
+use Rattle.std.proofs.Math.Nat.{div-add-mod, mul_comm}
 use Rattle.gui_base.specs.declared.color.Rgb565.{Rgb565}
 use Rattle.scene_defs.specs.Scene.{Scene}
 use Rattle.scene_defs.specs.Picture.{each_below, paint, picture}
@@ -18,24 +18,17 @@ pub get_or-each_below : {A : Type 0} (n : ℕ) (f : ℕ → A) (i : ℕ) (d : A)
 get_or-each_below zero f i d h = absurd (omega arith)
 get_or-each_below (suc n) f i d h = grind (arith, common_steps, get_or-each_below n f i d, length-each_below n f)
 
-wide : (k w h : ℕ) → k < w * h → k % w < w
-wide k zero h lt = absurd (omega arith)
-wide k (suc w) h lt = omega arith
-
-column : (k w h : ℕ) → k < w * h → k / w < h
-column k w h lt = grind (arith, rows)
-
 -- the colours of a whole panel are the picture where each pixel is right
 pub picture_from_pixels : (scene : Scene) (s : List Rgb565) → length s ≡ scene.limits.width * scene.limits.height →
-    ((x y : ℕ) → x < scene.limits.width → y < scene.limits.height → slice_get s (y * scene.limits.width + x) ≡ Some (paint scene (pos x) (pos y))) → s ≡ picture scene
+    ((x y : ℕ) → x < scene.limits.width → y < scene.limits.height → slice_get s (y * scene.limits.width + x) ≡ Some (paint scene (pos x) (pos y))) →
+    s ≡ picture scene
 picture_from_pixels scene s len each =
     let w = scene.limits.width in
     let h = scene.limits.height in
     same_lists s (picture scene) (len ∙ sym (length-each_below (w * h) _)) (λ k d lt.
-    let in_row : k % w < w = wide k w h (omega arith) in
-    let in_column : k / w < h = column k w h (omega arith) in
-    let place : (k / w) * w + k % w ≡ k = omega (arith, div-add-mod k w) in
-    let here : slice_get s k ≡ Some (paint scene (pos (k % w)) (pos (k / w))) =
-    subst (λ i. slice_get s i ≡ Some (paint scene (pos (k % w)) (pos (k / w)))) place (each (k % w) (k / w) in_row in_column) in
+    let in_panel : k < w * h = omega (arith, lt, len) in
+    let in_row : k % w < w = grind (arith, rows) in
+    let in_column : k / w < h = grind (arith, rows) in
+    let here : slice_get s k ≡ Some (paint scene (pos (k % w)) (pos (k / w))) = rw (mul_comm (k / w) w, div-add-mod k w) at (each (k % w) (k / w) in_row in_column) in
     get_or_from_slice_get s k (paint scene (pos (k % w)) (pos (k / w))) d here
-    ∙ sym (get_or-each_below (w * h) (λ i. paint scene (pos (i % w)) (pos (i / w))) k d (omega arith)))
+    ∙ sym (get_or-each_below (w * h) (λ i. paint scene (pos (i % w)) (pos (i / w))) k d in_panel))

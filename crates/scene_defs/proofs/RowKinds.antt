@@ -1,102 +1,74 @@
--- What holds of each row, and of the roots, as trees change.
-use Rattle.std.proofs.Common.{◌≡◌, ◌≢◌, ℕ, zero, suc, Bool, true, false, ◌&&◌, None, is_some, refl, arith}
+-- What holds of each row, and of the roots, as a weight of the trees.
+use Rattle.std.proofs.Common.{◌≡◌, ◌≢◌, ◌≤◌, ℕ, zero, suc, ◌+◌, Bool, true, false, cond, eqb, ltb, leb, ◌&&◌, refl, arith}
 use Rattle.std.proofs.lemmas.Bool.Decides.{nat_tests}
-use Rattle.gui_base.specs.Forest.{Forest, Empty, Tree, all_by, and_then, put_at, cut_by, tree_by, parent_by, with_children_by, with_row_by}
+use Rattle.gui_base.specs.Forest.{Forest, Empty, Tree, all_by, tree_by, height}
 use Rattle.scene_defs.specs.Scene.{Row, is_at, row_by}
 use Rattle.scene_defs.specs.Change.{has_screen}
-use Rattle.scene_defs.specs.Valid.{is_object, have_kinds, is_root_at}
-use Rattle.scene_defs.proofs.Distinct.{there, IsDistinct}
+use Rattle.scene_defs.specs.Valid.{is_row, is_root_row, is_object, have_kinds, is_root_at}
+use Rattle.scene_defs.proofs.Distinct.{there}
+use Rattle.scene_defs.proofs.Totals.{one_at, Weighing, weight}
 
-module _ (P : Row → Bool) where
-  pub all-and_then : (f g : Forest Row) → all_by P (and_then f g) ≡ (all_by P f && all_by P g)
-  all-and_then Empty g = refl
-  all-and_then (Tree row cs rest) g = grind (arith, all-and_then rest g)
+-- whether no row lies above
+abbrev pub is_top : ℕ → Bool
+is_top zero = true
+is_top (suc d) = false
 
-  pub all-put_at : (n : ℕ) (t f : Forest Row) → all_by P (put_at n t f) ≡ (all_by P t && all_by P f)
-  all-put_at zero t f = all-and_then t f
-  all-put_at (suc n) t Empty = grind arith
-  all-put_at (suc n) t (Tree row cs rest) = grind (arith, all-put_at n t rest)
+-- 1 for a row that is not in order
+abbrev pub fault : Weighing
+fault d row = cond (cond (is_top d) (is_root_row row) (is_object row) && is_row row) 0 1
 
-  pub all-cut : (test : Row → Bool) (f : Forest Row) → all_by P f ≡ true → all_by P (cut_by test f) ≡ true
-  all-cut test Empty a = refl
-  all-cut test (Tree row cs rest) a = grind (arith, all-cut test cs, all-cut test rest)
+both_hold : (kind row : Bool) (x y : ℕ) (kinds rows more_kinds more_rows : Bool) → eqb x 0 ≡ (kinds && rows) → eqb y 0 ≡ (more_kinds && more_rows) →
+    eqb (cond (kind && row) 0 1 + (x + y)) 0 ≡ ((kind && (kinds && more_kinds)) && (row && (rows && more_rows)))
+both_hold kind row x y kinds rows more_kinds more_rows a b = grind (arith, nat_tests, a, b)
 
-  pub all-tree : (test : Row → Bool) (f : Forest Row) → all_by P f ≡ true → all_by P (tree_by test f) ≡ true
-  all-tree test Empty a = refl
-  all-tree test (Tree row cs rest) a = grind (arith, all-tree test cs, all-tree test rest)
+pub faults-below : (d : ℕ) (f : Forest Row) → eqb (weight fault (suc d) f) 0 ≡ (all_by is_object f && all_by is_row f)
+faults-below d Empty = refl
+faults-below d (Tree row cs rest) =
+    both_hold (is_object row) (is_row row) _ _ (all_by is_object cs) (all_by is_row cs) (all_by is_object rest) (all_by is_row rest)
+    (faults-below (suc d) cs) (faults-below d rest)
 
-  pub all-with_children : (test : Row → Bool) (g : Forest Row → Forest Row) (f : Forest Row) → ((cs : Forest Row) → all_by P cs ≡ true → all_by P (g cs) ≡ true) → all_by P f ≡ true → all_by P (with_children_by test g f) ≡ true
-  all-with_children test g Empty each a = refl
-  all-with_children test g (Tree row cs rest) each a = grind (arith, each cs, all-with_children test g cs each, all-with_children test g rest each)
+pub faults : (f : Forest Row) → eqb (weight fault 0 f) 0 ≡ (have_kinds f && all_by is_row f)
+faults Empty = refl
+faults (Tree row cs rest) =
+    both_hold (is_root_row row) (is_row row) _ _ (all_by is_object cs) (all_by is_row cs) (have_kinds rest) (all_by is_row rest)
+    (faults-below 0 cs) (faults rest)
 
-  pub all-with_row : (test : Row → Bool) (set : Row → Row) (f : Forest Row) → ((row : Row) → P row ≡ true → P (set row) ≡ true) → all_by P f ≡ true → all_by P (with_row_by test set f) ≡ true
-  all-with_row test set Empty each a = refl
-  all-with_row test set (Tree row cs rest) each a = grind (arith, each row, all-with_row test set cs each, all-with_row test set rest each)
+-- 1 for the root k
+abbrev pub root_at : ℕ → Weighing
+root_at k d row = cond (is_top d) (one_at k row) 0
 
--- The kinds.
-pub kinds-and_then : (f g : Forest Row) → have_kinds (and_then f g) ≡ (have_kinds f && have_kinds g)
-kinds-and_then Empty g = refl
-kinds-and_then (Tree row cs rest) g = grind (arith, kinds-and_then rest g)
+pub roots-below : (k d : ℕ) (f : Forest Row) → weight (root_at k) (suc d) f ≡ 0
+roots-below k d Empty = refl
+roots-below k d (Tree row cs rest) = omega (arith, roots-below k (suc d) cs, roots-below k d rest)
 
-pub kinds-cut : (test : Row → Bool) (f : Forest Row) → have_kinds f ≡ true → have_kinds (cut_by test f) ≡ true
-kinds-cut test Empty a = refl
-kinds-cut test (Tree row cs rest) a = grind (arith, all-cut is_object test cs, kinds-cut test rest)
+pub roots-weight : (k : ℕ) (f : Forest Row) → ltb 0 (weight (root_at k) 0 f) ≡ is_root_at f k
+roots-weight k Empty = refl
+roots-weight k (Tree row cs rest) = grind (arith, nat_tests, roots-below k 0 cs, roots-weight k rest)
 
-pub kinds-with_children : (test : Row → Bool) (g : Forest Row → Forest Row) (f : Forest Row) → ((cs : Forest Row) → all_by is_object cs ≡ true → all_by is_object (g cs) ≡ true) → have_kinds f ≡ true → have_kinds (with_children_by test g f) ≡ true
-kinds-with_children test g Empty each a = refl
-kinds-with_children test g (Tree row cs rest) each a = grind (arith, each cs, all-with_children is_object test g cs each, kinds-with_children test g rest each)
+-- another root is not in the tree at h
+pub roots-tree : (h k d : ℕ) (f : Forest Row) → h ≢ k → weight (root_at k) d (tree_by (is_at h) f) ≡ 0
+roots-tree h k d Empty ne = refl
+roots-tree h k zero (Tree row cs rest) ne = grind (arith, nat_tests, roots-below k 0 cs, roots-tree h k zero cs, roots-tree h k zero rest)
+roots-tree h k (suc d) f ne = roots-below k d (tree_by (is_at h) f)
 
--- a row that keeps its handle and its kind
-pub record Keeps (set : Row → Row) : Type 0 where
-  pub handle : (row : Row) → (set row).handle ≡ row.handle
-  pub kind : (row : Row) → (set row).kind ≡ row.kind
+-- 1 for a row below the depth n
+abbrev pub too_low : ℕ → Weighing
+too_low n d row = cond (ltb d n) 0 1
 
-pub kinds-with_row : (test : Row → Bool) (set : Row → Row) (f : Forest Row) → Keeps set → have_kinds f ≡ true → have_kinds (with_row_by test set f) ≡ true
-kinds-with_row test set Empty keeps a = refl
-kinds-with_row test set (Tree row cs rest) keeps a =
-    let inner = all-with_row is_object test set cs (λ r o. rw (keeps.kind r) o) in
-    grind (arith, nat_tests, keeps.handle row, keeps.kind row, inner, kinds-with_row test set rest keeps)
+pub low-height : (n d : ℕ) (f : Forest Row) → d ≤ n → eqb (weight (too_low n) d f) 0 ≡ leb (height f + d) n
+low-height n d Empty fits = grind (arith, nat_tests)
+low-height n d (Tree row cs rest) fits = grind (arith, nat_tests, low-height n (suc d) cs, low-height n d rest)
 
--- what stands below something is an object, with all below it
-pub objects-tree : (h : ℕ) (f : Forest Row) → is_some (parent_by (is_at h) None f) ≡ true → have_kinds f ≡ true → all_by is_object (tree_by (is_at h) f) ≡ true
-objects-tree h Empty up a = refl
-objects-tree h (Tree row cs rest) up a = grind (arith, nat_tests, all-tree is_object (is_at h) cs, objects-tree h rest)
-
+-- A screen is a root, and no layer.
 no_screen_below : (h : ℕ) (f : Forest Row) → all_by is_object f ≡ true → has_screen (row_by (is_at h) f) ≡ false
 no_screen_below h Empty a = refl
 no_screen_below h (Tree row cs rest) a = grind (arith, nat_tests, no_screen_below h cs, no_screen_below h rest)
 
--- a screen is a root, and no layer
-pub screen_root : (h : ℕ) (f : Forest Row) → have_kinds f ≡ true → has_screen (row_by (is_at h) f) ≡ true → is_root_at f h ≡ true
+pub screen_root : (h : ℕ) (f : Forest Row) → have_kinds f ≡ true → has_screen (row_by (is_at h) f) ≡ true →
+    (is_root_at f h ≡ true) × (h ≢ 1) × (h ≢ 2)
 screen_root h Empty a e = cc
 screen_root h (Tree row cs rest) a e = grind (arith, nat_tests, no_screen_below h cs, screen_root h rest)
-
-pub no_layer : (h : ℕ) (f : Forest Row) → have_kinds f ≡ true → has_screen (row_by (is_at h) f) ≡ true → (h ≢ 1) × (h ≢ 2)
-no_layer h Empty a e = cc
-no_layer h (Tree row cs rest) a e = grind (arith, nat_tests, no_screen_below h cs, no_layer h rest)
-
--- The roots.
-pub root-and_then : (f g : Forest Row) (k : ℕ) → is_root_at f k ≡ true → is_root_at (and_then f g) k ≡ true
-root-and_then Empty g k i = cc
-root-and_then (Tree row cs rest) g k i = grind (arith, nat_tests, root-and_then rest g k)
-
-pub root-cut : (f : Forest Row) (h k : ℕ) → h ≢ k → is_root_at f k ≡ true → is_root_at (cut_by (is_at h) f) k ≡ true
-root-cut Empty h k ne i = cc
-root-cut (Tree row cs rest) h k ne i = grind (arith, nat_tests, root-cut rest h k)
-
-pub root-with_children : (test : Row → Bool) (g : Forest Row → Forest Row) (f : Forest Row) (k : ℕ) → is_root_at f k ≡ true → is_root_at (with_children_by test g f) k ≡ true
-root-with_children test g Empty k i = cc
-root-with_children test g (Tree row cs rest) k i = grind (arith, nat_tests, root-with_children test g rest k)
-
-pub root-with_row : (test : Row → Bool) (set : Row → Row) (f : Forest Row) (k : ℕ) → Keeps set → is_root_at f k ≡ true → is_root_at (with_row_by test set f) k ≡ true
-root-with_row test set Empty k keeps i = cc
-root-with_row test set (Tree row cs rest) k keeps i = grind (arith, nat_tests, keeps.handle row, root-with_row test set rest k keeps)
 
 pub root_there : (f : Forest Row) (k : ℕ) → is_root_at f k ≡ true → there f k ≡ true
 root_there Empty k i = cc
 root_there (Tree row cs rest) k i = grind (arith, nat_tests, root_there rest k)
-
--- a root has nothing above it
-pub root_alone : (f : Forest Row) (h : ℕ) → IsDistinct f → is_root_at f h ≡ true → is_some (parent_by (is_at h) None f) ≡ false
-root_alone Empty h d i = refl
-root_alone (Tree row cs rest) h d i = grind (arith, nat_tests, d.0 h, root_there rest h, root_alone rest h d.4)

@@ -1,5 +1,5 @@
 -- A change keeps a scene in order, and its slots add up.
-use Rattle.std.proofs.Common.{◌≡◌, ◌<◌, ◌≤◌, ◌⊎◌, ◌∙◌, sym, ap, ℕ, ◌+◌, ◌-◌, zero, suc, Bool, true, false, cond, eqb, Option, Some, None, is_some, refl, arith, inl, inr}
+use Rattle.std.proofs.Common.{◌≡◌, ◌<◌, ◌≤◌, ◌⊎◌, ◌∙◌, sym, ap, ℕ, ◌+◌, ◌-◌, zero, suc, Bool, true, false, cond, eqb, Option, Some, None, is_some, refl, arith, rules, inl, inr}
 use Rattle.std.specs.Prelude.{if◌then◌else◌, not, ◌&&◌, ◌||◌, ◌==◌, nat_le}
 use Rattle.std.proofs.lemmas.Bool.{not-false, ltb-false, and_parts}
 use Rattle.std.proofs.lemmas.Bool.Decides.{nat_tests}
@@ -92,18 +92,13 @@ module _ (scene : Scene) (change : Change) (v : IsValid scene) where
   edited : (g : Forest Row) → Edit scene change g → Leaves scene change (record scene { trees = g })
   edited g e =
       let f = scene.trees in
+      let once = λ (k : ℕ). let c : count (handles_of g) k ≤ 1 = omega (arith, sum_after g e (one_at k), e.once k, count-total g k) in c in
+      let root = root_after g e in
+      let active = root scene.active (grind (arith, nat_tests)) v.trees.active in
+      let low : height g ≤ MAX_DEPTH = grind (arith, nat_tests, e.sums (too_low MAX_DEPTH), e.low, low-height MAX_DEPTH 0 f, low-height MAX_DEPTH 0 g, v.trees.low) in
       let sound = and_parts _ _ (sym (faults g) ∙ grind (arith, nat_tests, faults f, e.sums fault, e.faults, v.rows.kinds, v.rows.numbers)) in
       record {
-        trees = record {
-          once = λ k. omega (arith, sum_after g e (one_at k), e.once k, count-total g k);
-          top_layer = root_after g e 1 refl v.trees.top_layer;
-          system_layer = root_after g e 2 refl v.trees.system_layer;
-          first_screen = root_after g e 3 refl v.trees.first_screen;
-          active = root_after g e scene.active (grind (arith, nat_tests)) v.trees.active;
-          above_top = v.trees.above_top;
-          above_system = v.trees.above_system;
-          low = grind (arith, nat_tests, e.sums (too_low MAX_DEPTH), e.low, low-height MAX_DEPTH 0 f, low-height MAX_DEPTH 0 g, v.trees.low);
-        };
+        trees = assumption (once, v.trees, root 1 refl v.trees.top_layer, root 2 refl v.trees.system_layer, root 3 refl v.trees.first_screen, active, low);
         rows = record { kinds = sound.0; numbers = sound.1 };
         objects = omega (arith, sum_after g e one, e.objects, size-total f, size-total g);
         entries = omega (arith, sum_after g e entry_count, e.entries, entries-total f, entries-total g);
@@ -261,22 +256,7 @@ row_left scene change h v set on fits =
 loaded : (scene : Scene) (h : Handle) → IsValid scene → is_screen scene h.0 ≡ true → Leaves scene (change.Load h) (record scene { active = h.0 })
 loaded scene h v screen =
     let root = screen_root h.0 scene.trees v.rows.kinds screen in
-    record {
-      trees = record {
-        once = v.trees.once;
-        top_layer = v.trees.top_layer;
-        system_layer = v.trees.system_layer;
-        first_screen = v.trees.first_screen;
-        active = root.0;
-        above_top = root.1;
-        above_system = root.2;
-        low = v.trees.low;
-      };
-      rows = v.rows;
-      objects = omega arith;
-      entries = omega arith;
-      handles = λ k. omega arith;
-    }
+    record { trees = assumption (v.trees, root); rows = v.rows; objects = omega arith; entries = omega arith; handles = λ k. omega arith }
 
 leaves : (scene : Scene) (change : Change) → IsValid scene → is_in_range change ≡ true → IsChange change → Fail (tests scene change) →
     Leaves scene change (scene_after scene change)
@@ -359,16 +339,7 @@ first_once h = grind (arith, nat_tests)
 
 pub first_is_valid : FirstIsValid
 first_is_valid limits room = record {
-  trees = record {
-    once = first_once;
-    top_layer = refl;
-    system_layer = refl;
-    first_screen = refl;
-    active = refl;
-    above_top = λ e. absurd (omega arith);
-    above_system = λ e. absurd (omega arith);
-    low = omega arith;
-  };
+  trees = search (rules, first_once);
   rows = record { kinds = refl; numbers = refl };
   pools = record { objects = room; entries = omega arith };
 }

@@ -50,9 +50,7 @@ removed_sum scene (change.Delete h) = λ w. total w (tree_below scene h.0)
 removed_sum scene change = λ w. 0
 
 -- The rows that a change takes away and those that it brings, as they weigh, and why the trees are still in order.
-record Edit (scene : Scene) (change : Change) (g : Forest Row) : Type 0 where
-  gone : Weighing → ℕ
-  come : Weighing → ℕ
+record Edit (scene : Scene) (change : Change) (g : Forest Row) (gone come : Weighing → ℕ) : Type 0 where
   sums : (w : Weighing) → weight w 0 g + gone w ≡ come w + weight w 0 scene.trees
   once : (k : ℕ) → come (λ d. one_at k) + total (one_at k) scene.trees ≤ gone (λ d. one_at k) + 1
   roots : (k : ℕ) → stays scene k ≡ true → gone (root_at k) ≤ come (root_at k)
@@ -83,27 +81,28 @@ module _ (scene : Scene) (change : Change) (v : IsValid scene) where
   once_at : (k : ℕ) → total (one_at k) scene.trees ≤ 1
   once_at k = omega (arith, v.trees.once k, count-total scene.trees k)
 
-  sum_after : (g : Forest Row) (e : Edit scene change g) (w : Row → ℕ) → total w g + e.gone (λ d. w) ≡ e.come (λ d. w) + total w scene.trees
-  sum_after g e w = omega (arith, e.sums (λ d. w), weight-total w 0 g, weight-total w 0 scene.trees)
+  module _ (g : Forest Row) (gone come : Weighing → ℕ) (e : Edit scene change g gone come) where
+    sum_after : (w : Row → ℕ) → total w g + gone (λ d. w) ≡ come (λ d. w) + total w scene.trees
+    sum_after w = omega (arith, e.sums (λ d. w), weight-total w 0 g, weight-total w 0 scene.trees)
 
-  root_after : (g : Forest Row) → Edit scene change g → (k : ℕ) → stays scene k ≡ true → is_root_at scene.trees k ≡ true → is_root_at g k ≡ true
-  root_after g e k stay root = grind (arith, nat_tests, e.sums (root_at k), e.roots k stay, roots-weight k scene.trees, roots-weight k g)
+    root_after : (k : ℕ) → stays scene k ≡ true → is_root_at scene.trees k ≡ true → is_root_at g k ≡ true
+    root_after k stay root = grind (arith, nat_tests, e.sums (root_at k), e.roots k stay, roots-weight k scene.trees, roots-weight k g)
 
-  edited : (g : Forest Row) → Edit scene change g → Leaves scene change (record scene { trees = g })
-  edited g e =
-      let f = scene.trees in
-      let once = λ (k : ℕ). let c : count (handles_of g) k ≤ 1 = omega (arith, sum_after g e (one_at k), e.once k, count-total g k) in c in
-      let root = root_after g e in
-      let active = root scene.active (grind (arith, nat_tests)) v.trees.active in
-      let low : height g ≤ MAX_DEPTH = grind (arith, nat_tests, e.sums (too_low MAX_DEPTH), e.low, low-height MAX_DEPTH 0 f, low-height MAX_DEPTH 0 g, v.trees.low) in
-      let sound = and_parts _ _ (sym (faults g) ∙ grind (arith, nat_tests, faults f, e.sums fault, e.faults, v.rows.kinds, v.rows.numbers)) in
-      record {
-        trees = assumption (once, v.trees, root 1 refl v.trees.top_layer, root 2 refl v.trees.system_layer, root 3 refl v.trees.first_screen, active, low);
-        rows = record { kinds = sound.0; numbers = sound.1 };
-        objects = omega (arith, sum_after g e one, e.objects, size-total f, size-total g);
-        entries = omega (arith, sum_after g e entry_count, e.entries, entries-total f, entries-total g);
-        handles = λ k. omega (arith, sum_after g e (one_at k), e.handles k, count-total g k, count-total f k);
-      }
+    edited : Leaves scene change (record scene { trees = g })
+    edited =
+        let f = scene.trees in
+        let once = λ (k : ℕ). let c : count (handles_of g) k ≤ 1 = omega (arith, sum_after (one_at k), e.once k, count-total g k) in c in
+        let root = root_after in
+        let active = root scene.active (grind (arith, nat_tests)) v.trees.active in
+        let low : height g ≤ MAX_DEPTH = grind (arith, nat_tests, e.sums (too_low MAX_DEPTH), e.low, low-height MAX_DEPTH 0 f, low-height MAX_DEPTH 0 g, v.trees.low) in
+        let sound = and_parts _ _ (sym (faults g) ∙ grind (arith, nat_tests, faults f, e.sums fault, e.faults, v.rows.kinds, v.rows.numbers)) in
+        record {
+          trees = assumption (once, v.trees, root 1 refl v.trees.top_layer, root 2 refl v.trees.system_layer, root 3 refl v.trees.first_screen, active, low);
+          rows = record { kinds = sound.0; numbers = sound.1 };
+          objects = omega (arith, sum_after one, e.objects, size-total f, size-total g);
+          entries = omega (arith, sum_after entry_count, e.entries, entries-total f, entries-total g);
+          handles = λ k. omega (arith, sum_after (one_at k), e.handles k, count-total g k, count-total f k);
+        }
 
   -- one row more, at a depth
   added : (g : Forest Row) (n d : ℕ) (kind : Kind) → ((w : Weighing) → weight w 0 g ≡ weight w d (leaf (new_row n kind)) + weight w 0 scene.trees) →
@@ -111,18 +110,13 @@ module _ (scene : Scene) (change : Change) (v : IsValid scene) where
       ((w : Row → ℕ) → added_sum scene change w ≡ w (new_row n kind) + removed_sum scene change w) →
       need_of scene change Objects ≡ freed_by scene change Objects + 1 → need_of scene change Entries ≡ freed_by scene change Entries →
       Leaves scene change (record scene { trees = g })
-  added g n d kind sums fits new off low rows objects entries = edited g (record {
-    gone = λ w. 0;
-    come = λ w. w d (new_row n kind);
-    sums = λ w. omega (arith, sums w);
-    once = λ k. grind (arith, nat_tests, count-off scene.trees n (sym (has-handles scene.trees n) ∙ off), count-total scene.trees k, once_at k);
-    roots = λ k stay. omega arith;
-    faults = omega (arith, new_row-in n d kind fits new);
-    low = grind (arith, nat_tests, low);
-    handles = λ k. omega (arith, rows (one_at k));
-    objects = omega arith;
-    entries = omega arith;
-  })
+  added g n d kind sums fits new off low rows objects entries =
+      let count = count-total scene.trees in
+      let absent = count-off scene.trees n (sym (has-handles scene.trees n) ∙ off) in
+      let once = λ (k : ℕ). let o : one_at k (new_row n kind) + total (one_at k) scene.trees ≤ 0 + 1 = grind (arith, nat_tests, absent, count k, once_at k) in o in
+      let sound = new_row-in n d kind fits new in
+      let shallow : too_low MAX_DEPTH d (new_row n kind) ≡ 0 = grind (arith, nat_tests, low) in
+      edited g (λ w. 0) (λ w. w d (new_row n kind)) (search rules)
 
   -- the tree at h below p
   moved : (h p : ℕ) (g : Forest Row → Forest Row) → Joins (tree_below scene h) g → is_some (parent_row scene h) ≡ true →
@@ -142,18 +136,11 @@ module _ (scene : Scene) (change : Change) (v : IsValid scene) where
       let out = λ (w : Weighing). weight-cut w 0 (suc old) h f distinct (omega arith) in
       let put = λ (w : Weighing). weight-with_children w t g joins 0 (suc new) p left left_once on (omega arith) in
       let same = λ (w : Weighing) (each : (d : ℕ) (row : Row) → w (suc d) row ≡ w 1 row). weight-below w each old t ∙ sym (weight-below w each new t) in
-      edited (with_children_by (is_at p) g left) (record {
-        gone = λ w. weight w (suc old) t;
-        come = λ w. weight w (suc new) t;
-        sums = λ w. omega (arith, out w, put w);
-        once = λ k. omega (arith, same (λ d. one_at k) (λ d row. refl), once_at k);
-        roots = λ k stay. omega (arith, same (root_at k) (λ d row. refl));
-        faults = omega (arith, same fault (λ d row. refl));
-        low = grind (arith, nat_tests, low-height MAX_DEPTH (suc new) t, depth-cut (is_at h) f p distinct, new-is, deep);
-        handles = λ k. omega (arith, same (λ d. one_at k) (λ d row. refl), rows (one_at k));
-        objects = omega (arith, same (λ d. one) (λ d row. refl), objects);
-        entries = omega (arith, same (λ d. entry_count) (λ d row. refl), entries);
-      })
+      let level = λ (w : Row → ℕ). same (λ d. w) (λ d row. refl) in
+      let roots = λ (k : ℕ). same (root_at k) (λ d row. refl) in
+      let faults = same fault (λ d row. refl) in
+      let low : weight (too_low MAX_DEPTH) (suc new) t ≡ 0 = grind (arith, nat_tests, low-height MAX_DEPTH (suc new) t, depth-cut (is_at h) f p distinct, new-is, deep) in
+      edited (with_children_by (is_at p) g left) (λ w. weight w (suc old) t) (λ w. weight w (suc new) t) (search (rules, once_at, level one, level entry_count, rows))
 
   -- the tree at h elsewhere below its own parent, where it has room
   moved_beside : (h : ℕ) (g : Forest Row → Forest Row) (after : Option Row → Forest Row) → Joins (tree_below scene h) g →
@@ -175,18 +162,11 @@ cut_out scene h v on out =
     let t = tree_below scene h.0 in
     let e = depth_by (is_at h.0) f - 1 in
     let at : depth_by (is_at h.0) f ≡ suc e = omega (arith, depth-there f h.0 on) in
-    edited scene (change.Delete h) v (without f h.0) (record {
-      gone = λ w. weight w e t;
-      come = λ w. 0;
-      sums = λ w. omega (arith, weight-cut w 0 e h.0 f (distinct_once f v.trees.once) (omega arith));
-      once = λ k. omega (arith, once_at scene (change.Delete h) v k);
-      roots = λ k stay. omega (arith, roots-tree h.0 k e f (grind (arith, nat_tests, out, stay)));
-      faults = omega arith;
-      low = omega arith;
-      handles = λ k. omega (arith, weight-total (one_at k) e t);
-      objects = omega (arith, weight-total one e t, size-total t);
-      entries = omega (arith, weight-total entry_count e t, entries-total t);
-    })
+    let cut = λ (w : Weighing). weight-cut w 0 e h.0 f (distinct_once f v.trees.once) (omega arith) in
+    let once = once_at scene (change.Delete h) v in
+    let roots = λ (k : ℕ) (stay : stays scene k ≡ true). roots-tree h.0 k e f (grind (arith, nat_tests, out, stay)) in
+    let sums = λ (w : Row → ℕ). weight-total w e t in
+    edited scene (change.Delete h) v (without f h.0) (λ w. weight w e t) (λ w. 0) (search (rules, sums, size-total t, entries-total t))
 
 -- One row.
 -- one entry more where the property is not set yet
@@ -240,18 +220,12 @@ row_left scene change h v set on fits =
     let e = depth_by (is_at h.0) f - 1 in
     let at : depth_by (is_at h.0) f ≡ suc e = omega (arith, depth-there f h.0 on) in
     let r = found (row_by (is_at h.0) f) (row_there f h.0 on) in
-    edited scene change v _ (record {
-      gone = λ w. w e r.0;
-      come = λ w. w e (new r.0);
-      sums = λ w. weight-with_row w 0 e h.0 new r.0 f (distinct_once f v.trees.once) r.1 (omega arith);
-      once = λ k. omega (arith, (row_kept change r.0 e k fits).0, once_at scene change v k);
-      roots = λ k stay. rw (row_kept change r.0 e k fits).0 (omega arith);
-      faults = (row_kept change r.0 e 0 fits).1;
-      low = omega arith;
-      handles = λ k. let none = set_sums scene change h (one_at k) set in omega (arith, (row_kept change r.0 e k fits).0, none.0, none.1);
-      objects = omega (arith, slots.0, slots.1);
-      entries = omega (arith, needs scene change h r.0 set r.1, slots.2);
-    })
+    let sums = λ (w : Weighing). weight-with_row w 0 e h.0 new r.0 f (distinct_once f v.trees.once) r.1 (omega arith) in
+    let once = once_at scene change v in
+    let rows = λ (k : ℕ). set_sums scene change h (one_at k) set in
+    let kept = λ (k : ℕ). row_kept change r.0 e k fits in
+    let need = needs scene change h r.0 set r.1 in
+    edited scene change v _ (λ w. w e r.0) (λ w. w e (new r.0)) (search (rules, kept, rows))
 
 loaded : (scene : Scene) (h : Handle) → IsValid scene → is_screen scene h.0 ≡ true → Leaves scene (change.Load h) (record scene { active = h.0 })
 loaded scene h v screen =

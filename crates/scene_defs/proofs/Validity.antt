@@ -229,8 +229,7 @@ row_left scene change h v set on fits =
 
 loaded : (scene : Scene) (h : Handle) → IsValid scene → is_screen scene h.0 ≡ true → Leaves scene (change.Load h) (record scene { active = h.0 })
 loaded scene h v screen =
-    let root = screen_root h.0 scene.trees v.rows.kinds screen in
-    record { trees = assumption (v.trees, root); rows = v.rows; objects = omega arith; entries = omega arith; handles = λ k. omega arith }
+    let root = screen_root h.0 scene.trees v.rows.kinds screen in search (rules, v, root)
 
 leaves : (scene : Scene) (change : Change) → IsValid scene → is_in_range change ≡ true → IsChange change → Fail (tests scene change) →
     Leaves scene change (scene_after scene change)
@@ -281,14 +280,9 @@ pub after_valid : (scene : Scene) (change : Change) → is_in_range change ≡ t
 after_valid scene change fits c e v =
     let l = after_leaves scene change fits c e v in
     let same = after_keeps scene change in
-    record {
-      trees = l.trees;
-      rows = l.rows;
-      pools = record {
-        objects = omega (arith, l.objects, v.pools.objects, room_in_range scene change Objects e, ap (λ (b : Bounds). b.objects) same);
-        entries = omega (arith, l.entries, v.pools.entries, room_in_range scene change Entries e, ap (λ (b : Bounds). b.entries) same);
-      };
-    }
+    let objects = room_in_range scene change Objects e in
+    let entries = room_in_range scene change Entries e in
+    search (rules, l, ap (λ (b : Bounds). b.objects) same, ap (λ (b : Bounds). b.entries) same)
 
 pub change_keeps_valid : ChangeKeepsValid
 change_keeps_valid scene change v c = by (answer_of scene change) refl where
@@ -312,11 +306,7 @@ first_once : (h : ℕ) → cond (eqb 1 h) 1 0 + (0 + (cond (eqb 2 h) 1 0 + (0 + 
 first_once h = grind (arith, nat_tests)
 
 pub first_is_valid : FirstIsValid
-first_is_valid limits room = record {
-  trees = search (rules, first_once);
-  rows = record { kinds = refl; numbers = refl };
-  pools = record { objects = room; entries = omega arith };
-}
+first_is_valid limits room = search (rules, first_once)
 
 pub valid_is_showable : ValidIsShowable
-valid_is_showable scene v = record { once = v.trees.once; above_top = v.trees.above_top; above_system = v.trees.above_system }
+valid_is_showable scene v = assumption v.trees

@@ -18,18 +18,9 @@ use Rattle.scene_run.specs.Effects.{Output, output, PanelEffects, Effects, Break
 use Rattle.scene_run.proofs.Known.{AppendsPrefix-nothing}
 use Rattle.scene_run.proofs.Going.{PanelKeeps-self}
 
--- a fact of each outcome from another one of it
-pub on_ok : {T E P Q : Type 0} (r : Result T E) → (P → Q) → OnOk r P → OnOk r Q
-on_ok (Ok x) f p = f p
-on_ok (Err e) f p = tt
-
 pub on_err : {T E P : Type 0} (r : Result T E) → P → OnErr r P
 on_err (Ok x) p = tt
 on_err (Err e) p = p
-
-pub err_on : {T E P Q : Type 0} (r : Result T E) → (P → Q) → OnErr r P → OnErr r Q
-err_on (Ok x) f p = tt
-err_on (Err e) f p = f p
 
 -- a frame came to an outcome, and the log took its line
 pub effects_frame : (a b : SinkState) (p q : PanelState) (n k : ℕ) (scene : Scene) (outcome : Outcome) (seen : Option Scene) → PanelEffects p q seen (Framed n k scene outcome ∷ []) →

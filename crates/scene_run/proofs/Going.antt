@@ -51,7 +51,7 @@ PanelEffects-more a b c seen ts us h k = record {
   };
 }
 
-Effects-more : (a b c : Output) (seen : Option Scene) (ts us : List Told) → Effects a b seen ts → Effects b c (last_done seen ts) us → Effects a c seen (ts ++ us)
+pub Effects-more : (a b c : Output) (seen : Option Scene) (ts us : List Told) → Effects a b seen ts → Effects b c (last_done seen ts) us → Effects a c seen (ts ++ us)
 Effects-more a b c seen ts us h k = record {
   panel = PanelEffects-more a.panel b.panel c.panel seen ts us h.panel k.panel;
   log = subst (Appends a.log.held c.log.held) (sym (flat_map-append log_lines ts us)) (Appends-more a.log.held b.log.held c.log.held _ _ h.log k.log);
@@ -59,10 +59,10 @@ Effects-more a b c seen ts us h k = record {
 }
 
 -- a panel with the sizes of a later moment has those of an earlier one, since no line changes the limits
-same_sizes : (start next : Moment) (lines : List Said) (panel : PanelState) → next ≡ after_all start lines → HasSizes panel next.machine.scene.limits → HasSizes panel start.machine.scene.limits
+pub same_sizes : (start next : Moment) (lines : List Said) (panel : PanelState) → next ≡ after_all start lines → HasSizes panel next.machine.scene.limits → HasSizes panel start.machine.scene.limits
 same_sizes start next lines panel e sizes = subst (HasSizes panel) (ap (λ (m : Moment). m.machine.scene.limits) e ∙ after_all-limits start lines) sizes
 
-Answers-more : (start next : Moment) (a b c : Output) (seen : Option Scene) (xs ys : List Said) → next ≡ after_all start xs →
+unfoldable pub Answers-more : (start next : Moment) (a b c : Output) (seen : Option Scene) (xs ys : List Said) → next ≡ after_all start xs →
     (h : Answers start a b seen xs) → Answers next b c (last_done seen (told (entries start xs) h.outcomes)) ys → Answers start a c seen (xs ++ ys)
 Answers-more start next a b c seen xs ys e h k = record {
   outcomes = h.outcomes ++ k.outcomes;
@@ -117,27 +117,25 @@ or_assoc : (a b c : Bool) → ((a || b) || c) ≡ (a || (b || c))
 or_assoc true b c = refl
 or_assoc false b c = refl
 
-goes_more : (a b c : Running) (seen : Option Scene) (xs ys : List Said) → IfSome seen (ShowsScene a.output.panel) → GoesOn a b xs → GoesOn b c ys → Goes a c seen (xs ++ ys)
+pub goes_on_more : (a b c : Running) (xs ys all : List Said) → xs ++ ys ≡ all → GoesOn a b xs → GoesOn b c ys → GoesOn a c all
 unfolding Answers-more
-goes_more a b c seen xs ys shown first then =
-    let h : Goes a b seen xs = first.from seen shown in
-    let seen' : Option Scene = last_done seen (told (entries a.moment xs) h.answers.outcomes) in
-    let k : Goes b c seen' ys = then.from seen' h.answers.effects.panel.shown in
-    let ts : List Told = told (entries a.moment xs) h.answers.outcomes in
-    let us : List Told = told (entries b.moment ys) k.answers.outcomes in
-    record {
-      answers = Answers-more a.moment b.moment a.output b.output c.output seen xs ys h.moment h.answers k.answers;
-      moment = k.moment ∙ (ap (λ (m : Moment). after_all m ys) h.moment ∙ sym (after_all-append a.moment xs ys));
-      noted_is = k.noted_is ∙ (ap (λ (n : Bool). n || noted us) h.noted_is ∙ (or_assoc a.noted (noted ts) (noted us)
-          ∙ ap (λ (n : Bool). a.noted || n) (sym (list_any-append notes ts us) ∙ ap noted (sym (told_more a.moment b.moment xs ys h.answers.outcomes k.answers.outcomes h.moment h.answers.each)))));
-    }
-
-pub goes_on_more : (a b c : Running) (xs ys : List Said) → GoesOn a b xs → GoesOn b c ys → GoesOn a c (xs ++ ys)
-goes_on_more a b c xs ys first then = record { from = λ seen shown. goes_more a b c seen xs ys shown first then }
+goes_on_more a b c xs ys all e first then = subst (GoesOn a c) e (record {
+  from = λ seen shown.
+      let h = first.from seen shown in
+      let k = then.from _ h.answers.effects.panel.shown in
+      let ts = told (entries a.moment xs) h.answers.outcomes in
+      let us = told (entries b.moment ys) k.answers.outcomes in
+      record {
+        answers = Answers-more a.moment b.moment a.output b.output c.output seen xs ys h.moment h.answers k.answers;
+        moment = k.moment ∙ (ap (λ (m : Moment). after_all m ys) h.moment ∙ sym (after_all-append a.moment xs ys));
+        noted_is = k.noted_is ∙ (ap (λ (n : Bool). n || noted us) h.noted_is ∙ (or_assoc a.noted (noted ts) (noted us)
+            ∙ ap (λ (n : Bool). a.noted || n) (sym (list_any-append notes ts us) ∙ ap noted (sym (told_more a.moment b.moment xs ys h.answers.outcomes k.answers.outcomes h.moment h.answers.each)))));
+      };
+})
 
 -- a write failed at a line after those
-pub halts_more : (a b : Running) (c : Output) (xs ys : List Said) → GoesOn a b xs → Halts b c ys → Halts a c (xs ++ ys)
-halts_more a b c xs ys first then = record {
+pub halts_more : (a b : Running) (c : Output) (xs ys all : List Said) → xs ++ ys ≡ all → GoesOn a b xs → Halts b c ys → Halts a c all
+halts_more a b c xs ys all e first then = record {
   from = λ seen shown.
       let h = first.from seen shown in
       let k = then.from _ h.answers.effects.panel.shown in
@@ -145,7 +143,7 @@ halts_more a b c xs ys first then = record {
         answered = xs ++ k.answered;
         said = k.said;
         unreached = k.unreached;
-        lines_are = append_assoc xs k.answered (k.said ∷ k.unreached) ∙ ap (λ (t : List Said). xs ++ t) k.lines_are;
+        lines_are = append_assoc xs k.answered (k.said ∷ k.unreached) ∙ (ap (λ (t : List Said). xs ++ t) k.lines_are ∙ e);
         between = k.between;
         answers = Answers-more a.moment b.moment a.output b.output k.between seen xs k.answered h.moment h.answers k.answers;
         breaks = subst (λ (m : Moment). Breaks k.between c (entry m k.said)) (ap (λ (m : Moment). after_all m k.answered) h.moment ∙ sym (after_all-append a.moment xs k.answered)) k.breaks;
@@ -154,15 +152,15 @@ halts_more a b c xs ys first then = record {
 }
 
 -- more lines, which were not reached, change nothing of it
-pub halts_on : (a : Running) (c : Output) (lines more : List Said) → Halts a c lines → Halts a c (lines ++ more)
-halts_on a c lines more h = record {
+pub halts_on : (a : Running) (c : Output) (lines more all : List Said) → lines ++ more ≡ all → Halts a c lines → Halts a c all
+halts_on a c lines more all e h = record {
   from = λ seen shown.
       let k = h.from seen shown in
       record {
         answered = k.answered;
         said = k.said;
         unreached = k.unreached ++ more;
-        lines_are = sym (append_assoc k.answered (k.said ∷ k.unreached) more) ∙ ap (λ (t : List Said). t ++ more) k.lines_are;
+        lines_are = sym (append_assoc k.answered (k.said ∷ k.unreached) more) ∙ (ap (λ (t : List Said). t ++ more) k.lines_are ∙ e);
         between = k.between;
         answers = k.answers;
         breaks = k.breaks;

@@ -82,48 +82,43 @@ gone_more first old mid source output r s room count piece within many fits is h
       taken = h.taken ++ piece;
       source = Consumes-more old.source.left mid.source.left source.left h.taken piece h.source consumes;
       many = omega (arith, length-append h.taken piece, h.many);
-      goes = subst (GoesOn (first_run first old.output) (run_of s output)) (said_more r.cutter h.taken piece h.line) (goes_on_more (first_run first old.output) (run_of r mid.output) (run_of s output) _ _ h.goes on);
+      goes = goes_on_more _ _ _ _ _ _ (said_more r.cutter h.taken piece h.line) h.goes on;
       line = ap begun (line ∙ ap (fold pushed r.cutter) whole) ∙ begun_more r.cutter h.taken piece h.line;
-      ready = ready_on (run_of r mid.output) (run_of s output) (said_by r.cutter piece) (room + 1) ((room - count) + 1) h.ready on (omega (arith, few_said r.cutter piece));
+      ready = ready_on _ _ _ (room + 1) ((room - count) + 1) h.ready on (omega (arith, few_said r.cutter piece));
     }
 
 -- more was read than may be taken
 pub runs_long : (first : Machine) (old mid : Outside) (source : SourceState) (output : Output) (r s : Runner) (room : ℕ) (piece within : List ℕ) → room < length piece → within ≡ take room piece →
     Gone first old mid r room → Consumes mid.source.left source.left piece → GoesOn (run_of r mid.output) (run_of s output) (said_by r.cutter within) → Runs first old (outside source output) TooLong
 runs_long first old mid source output r s room piece within long is h consumes goes =
-    let on : GoesOn (first_run first old.output) (run_of s output) (says_cut (take max_script (h.taken ++ piece))) =
-    subst (GoesOn (first_run first old.output) (run_of s output)) (said_within r h.taken piece within room h.line h.many is)
-    (goes_on_more (first_run first old.output) (run_of r mid.output) (run_of s output) _ _ h.goes goes) in
+    let all = goes_on_more _ _ _ _ _ _ (said_within r h.taken piece within room h.line h.many is) h.goes goes in
     record {
       taken = h.taken ++ piece;
       source = Consumes-more old.source.left mid.source.left source.left h.taken piece h.source consumes;
-      ended = (omega (arith, length-append h.taken piece, h.many), (on.from None tt).answers);
+      ended = (omega (arith, length-append h.taken piece, h.many), (all.from None tt).answers);
     }
 
-whole_longer : (run : Running) (now : Output) (taken : List ℕ) (left : Option (List ℕ)) → Halts run now (says_cut taken) → Halts run now (says (end_of left) taken)
-whole_longer run now taken None h = halts_on run now (says_cut taken) (open_says (rest_of taken)) h
-whole_longer run now taken (Some []) h = halts_on run now (says_cut taken) (open_says (rest_of taken)) h
-whole_longer run now taken (Some (b ∷ bytes)) h = h
+longer : (run : Running) (now : Output) (taken : List ℕ) (left : Option (List ℕ)) → Halts run now (says_cut taken) → Halts run now (says (end_of left) taken)
+longer run now taken None h = halts_on run now _ (open_says (rest_of taken)) _ refl h
+longer run now taken (Some []) h = halts_on run now _ (open_says (rest_of taken)) _ refl h
+longer run now taken (Some (b ∷ bytes)) h = h
 
 halts_by : (run : Running) (now : Output) (taken : List ℕ) (left : Option (List ℕ)) (long : Bool) → nat_lt max_script (length taken) ≡ long → Halts run now (says_cut (take max_script taken)) →
     Halts run now (says (end_reached left taken) taken)
 halts_by run now taken left true e h = rw e h
 halts_by run now taken left false e h =
     let few : length taken ≤ max_script = grind (arith, nat_tests) in
-    rw e (whole_longer run now taken left (subst (λ (bytes : List ℕ). Halts run now (says_cut bytes)) (all_taken taken max_script few) h))
+    rw e (longer run now taken left (subst (λ (bytes : List ℕ). Halts run now (says_cut bytes)) (all_taken taken max_script few) h))
 
 -- a write failed
 pub runs_broken : (first : Machine) (old mid : Outside) (source : SourceState) (output : Output) (r : Runner) (room : ℕ) (piece within : List ℕ) → within ≡ take room piece →
     Gone first old mid r room → Consumes mid.source.left source.left piece → Halts (run_of r mid.output) output (said_by r.cutter within) → Runs first old (outside source output) WriteFault
 runs_broken first old mid source output r room piece within is h consumes halts =
-    let all : Halts (first_run first old.output) output (says_cut (take max_script (h.taken ++ piece))) =
-    subst (Halts (first_run first old.output) output) (said_within r h.taken piece within room h.line h.many is)
-    (halts_more (first_run first old.output) (run_of r mid.output) output _ _ h.goes halts) in
-    let here = halts_by (first_run first old.output) output (h.taken ++ piece) source.left _ refl all in
+    let all = halts_by _ output (h.taken ++ piece) source.left _ refl (halts_more _ _ _ _ _ _ (said_within r h.taken piece within room h.line h.many is) h.goes halts) in
     record {
       taken = h.taken ++ piece;
       source = Consumes-more old.source.left mid.source.left source.left h.taken piece h.source consumes;
-      ended = here.from None tt;
+      ended = all.from None tt;
     }
 
 consumes_kept : (a b c : Option (List ℕ)) (bytes : List ℕ) → Consumes a b bytes → KeepsBytes b c → Consumes a c bytes
@@ -153,8 +148,7 @@ ended_noting first old new taken false h = h
 pub runs_whole : (first : Machine) (old mid : Outside) (source : SourceState) (output : Output) (r s : Runner) (room : ℕ) → Gone first old mid r room → Consumes mid.source.left source.left [] → IsAtEnd source.left →
     GoesOn (run_of r mid.output) (run_of s output) (cut_says (finished r.cutter)) → Runs first old (outside source output) (if s.noted then Noted else Done)
 runs_whole first old mid source output r s room h consumes end goes =
-    let all : GoesOn (first_run first old.output) (run_of s output) (says Whole h.taken) =
-    subst (GoesOn (first_run first old.output) (run_of s output)) (said_last r.cutter h.taken h.line) (goes_on_more (first_run first old.output) (run_of r mid.output) (run_of s output) _ _ h.goes goes) in
+    let all = goes_on_more _ _ _ _ _ _ (said_last r.cutter h.taken h.line) h.goes goes in
     let whole = all.from None tt in
     record {
       taken = h.taken;
@@ -171,8 +165,7 @@ pub runs_broken_last : (first : Machine) (old mid : Outside) (source : SourceSta
     Halts (run_of r mid.output) output (cut_says (finished r.cutter)) → Runs first old (outside source output) WriteFault
 runs_broken_last first old mid source output r room h consumes end halts =
     let short : nat_lt max_script (length h.taken) ≡ false = grind (arith, nat_tests, h.many) in
-    let all : Halts (first_run first old.output) output (says Whole h.taken) =
-    subst (Halts (first_run first old.output) output) (said_last r.cutter h.taken h.line) (halts_more (first_run first old.output) (run_of r mid.output) output _ _ h.goes halts) in
+    let all = halts_more _ _ _ _ _ _ (said_last r.cutter h.taken h.line) h.goes halts in
     record {
       taken = h.taken;
       source = source_done first old mid source r room h consumes;

@@ -29,21 +29,3 @@ Consumes-nothing (Some a) = refl
 -- nothing is a prefix of anything
 pub AppendsPrefix-nothing : (a : Option (List ℕ)) (bytes : List ℕ) → AppendsPrefix a a bytes
 AppendsPrefix-nothing a bytes = record { prefix = []; rest = bytes; whole = refl; grows = Appends-nothing a }
-
--- a prefix of a front is one of the whole
-pub AppendsPrefix-front : (a b : Option (List ℕ)) (front more : List ℕ) → AppendsPrefix a b front → AppendsPrefix a b (front ++ more)
-AppendsPrefix-front a b front more h = record {
-  prefix = h.prefix;
-  rest = h.rest ++ more;
-  whole = sym (append_assoc h.prefix h.rest more) ∙ ap (λ (t : List ℕ). t ++ more) h.whole;
-  grows = h.grows;
-}
-
--- a front, and then a prefix of what follows it
-pub AppendsPrefix-after : (a b c : Option (List ℕ)) (front more : List ℕ) → Appends a b front → AppendsPrefix b c more → AppendsPrefix a c (front ++ more)
-AppendsPrefix-after a b c front more h k = record {
-  prefix = front ++ k.prefix;
-  rest = k.rest;
-  whole = append_assoc front k.prefix k.rest ∙ ap (λ (t : List ℕ). front ++ t) k.whole;
-  grows = Appends-more a b c front k.prefix h k.grows;
-}

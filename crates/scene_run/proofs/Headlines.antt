@@ -89,5 +89,9 @@ headline_given words limits first source log panel opened new w h l status e f o
     let start = first_machine limits in
     let r : Runs start (outside source log opened) new status = subst (λ (m : Machine). Runs m (outside source log opened) new status) f runs in
     subst (λ (ws : Option Bounds). Headline ws (outside source log panel) new status) e
-    (headline_by limits (outside source log panel) new status (record { taken = r.taken; source = r.source; ended = ended_since start source (output log panel) (output log opened) new r.taken status
-    (λ c lines a. (answers_since (first_moment start) log panel opened c w h l opens sizes lines a, refl)) r.ended }))
+    (headline_by limits (outside source log panel) new status (record {
+      taken = r.taken;
+      source = r.source;
+      ended = ended_since start source (output log panel) (output log opened) new r.taken status
+          (λ c lines a. (answers_since (first_moment start) log panel opened c w h l opens sizes lines a, refl)) r.ended;
+    }))

@@ -83,7 +83,8 @@ module _ (scene : Scene) (change : Change) where
   pub one_short : (pool : Pool) → ((p : Pool) → (p ≡ pool) ⊎ (need_of scene change p ≡ 0)) →
       first_short scene change POOLS ≡ (if lacks scene pool (need_of scene change pool) then Some pool else None)
   one_short pool only = by (first_short scene change POOLS) refl where
-    by : (short : Option Pool) → first_short scene change POOLS ≡ short → short ≡ (if lacks scene pool (need_of scene change pool) then Some pool else None)
+    by : (short : Option Pool) → first_short scene change POOLS ≡ short →
+        short ≡ (if lacks scene pool (need_of scene change pool) then Some pool else None)
     by None e = let room = pool-room pool (have_room POOLS e) in grind (arith, nat_tests, room)
     by (Some p) e = grind (arith, nat_tests, only p, short-is POOLS p e)
 

@@ -60,4 +60,5 @@ count-roots Empty a k one two = omega arith
 count-roots (Tree row cs rest) a k one two = grind (arith, nat_tests, count-roots rest a k one two)
 
 pub distinct-three : (f : Forest Row) (a : ℕ) → StandsOnce (handles_of f) → a ≢ 1 → a ≢ 2 → IsDistinct (three f a)
-distinct-three f a once one two = distinct_once (three f a) (λ k. grind (arith, once k, count-roots f a k one two, count-and_then (root_tree f a), count-and_then (root_tree f 1)))
+distinct-three f a once one two = distinct_once (three f a) (λ k.
+    grind (arith, once k, count-roots f a k one two, count-and_then (root_tree f a), count-and_then (root_tree f 1)))

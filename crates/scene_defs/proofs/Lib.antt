@@ -1,7 +1,6 @@
 pub mod Changes
 pub mod Distinct
 pub mod Handles
-pub mod Heights
 pub mod InRange
 pub mod Pictures
 pub mod RowKinds

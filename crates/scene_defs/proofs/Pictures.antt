@@ -29,6 +29,7 @@ picture_from_pixels scene s len each =
     let in_panel : k < w * h = omega (arith, lt, len) in
     let in_row : k % w < w = grind (arith, rows) in
     let in_column : k / w < h = grind (arith, rows) in
-    let here : slice_get s k ≡ Some (paint scene (pos (k % w)) (pos (k / w))) = rw (mul_comm (k / w) w, div-add-mod k w) at (each (k % w) (k / w) in_row in_column) in
+    let here : slice_get s k ≡ Some (paint scene (pos (k % w)) (pos (k / w))) =
+    rw (mul_comm (k / w) w, div-add-mod k w) at (each (k % w) (k / w) in_row in_column) in
     get_or_from_slice_get s k (paint scene (pos (k % w)) (pos (k / w))) d here
     ∙ sym (get_or-each_below (w * h) (λ i. paint scene (pos (i % w)) (pos (i / w))) k d in_panel))

@@ -31,7 +31,8 @@ module _ (w : Row → ℕ) where
   -- what is cut out, and what is left
   pub total-parts : (f : Forest Row) (h : ℕ) → IsDistinct f → total w (cut_by (is_at h) f) + total w (tree_by (is_at h) f) ≡ total w f
   total-parts Empty h d = refl
-  total-parts (Tree row cs rest) h d = grind (arith, nat_tests, d.0 h, d.2, cut-off cs h, cut-off rest h, total-parts cs h d.3, total-parts rest h d.4)
+  total-parts (Tree row cs rest) h d =
+      grind (arith, nat_tests, d.0 h, d.2, cut-off cs h, cut-off rest h, total-parts cs h d.3, total-parts rest h d.4)
 
   -- one row of all
   pub total-row : (f : Forest Row) (h : ℕ) (r : Row) → row_by (is_at h) f ≡ Some r → w r ≤ total w f

@@ -12,7 +12,7 @@ use Rattle.gui_base.specs.declared.refusal.Refusal.{Refusal}
 use Rattle.gui_base.specs.declared.words.Kind.{Kind}
 use Rattle.gui_base.specs.declared.words.Kind.TheVariants.{Screen, Obj}
 use Rattle.gui_base.specs.declared.words.Prop.TheVariants.{BgColor, BgOpa}
-use Rattle.gui_base.specs.Forest.{Forest, Empty, Tree, and_then, leaf, size, count, depth_by, height, with_children_by, has, parent_of}
+use Rattle.gui_base.specs.Forest.{Forest, Empty, Tree, and_then, leaf, size, count, StandsOnce, depth_by, height, with_children_by, has, parent_of}
 use Rattle.gui_base.specs.Intervals.{is_counted}
 use Rattle.gui_base.specs.Limits.{Bounds}
 use Rattle.scene_defs.specs.declared.Change.{Change}
@@ -25,9 +25,8 @@ use Rattle.scene_defs.specs.Valid.{is_row, is_root_at, AreTrees, AreRows, FitPoo
 use Rattle.scene_defs.proofs.Changes.{Fail, tests-fail, range_done, room_in_range, after_keeps}
 use Rattle.scene_defs.proofs.Distinct.{there, IsDistinct, distinct_once, count-off}
 use Rattle.scene_defs.proofs.Handles.{has-handles, depth-handles, parent-handles, below-handles, height-handles}
-use Rattle.scene_defs.proofs.Heights.{depth-height, depth-there, depth-below, depth-cut, parent-depth, there-cut, parent-left}
 use Rattle.scene_defs.proofs.InRange.{row_in_range}
-use Rattle.scene_defs.proofs.RowKinds.{is_top, fault, faults, root_at, roots-weight, roots-tree, too_low, low-height, screen_root}
+use Rattle.scene_defs.proofs.RowKinds.{is_top, fault, faults, root_at, roots-weight, roots-tree, too_low, low-height, screen_root, depth-height, depth-there, depth-below, depth-cut, parent-depth, there-cut, parent-left}
 use Rattle.scene_defs.proofs.Totals.{total, total-cut, one, one_at, size-total, entries-total, count-total, Weighing, weight, Joins, weight-total, weight-below, weight-and_then, weight-put_at, weight-cut, weight-with_children, weight-with_row}
 
 -- a new screen, or an object below a row
@@ -67,7 +66,8 @@ pub record Leaves (scene : Scene) (change : Change) (after : Scene) : Type 0 whe
   pub objects : size after.trees + freed_by scene change Objects ≡ need_of scene change Objects + size scene.trees
   pub entries : entries_of after.trees + freed_by scene change Entries ≡ need_of scene change Entries + entries_of scene.trees
   -- how often a handle stands
-  pub handles : (k : ℕ) → count (handles_of after.trees) k + removed_sum scene change (one_at k) ≡ added_sum scene change (one_at k) + count (handles_of scene.trees) k
+  pub handles : (k : ℕ) →
+      count (handles_of after.trees) k + removed_sum scene change (one_at k) ≡ added_sum scene change (one_at k) + count (handles_of scene.trees) k
 
 -- what is there
 found : {A : Type 0} (o : Option A) → is_some o ≡ true → (a : A) × (o ≡ Some a)
@@ -91,13 +91,16 @@ module _ (scene : Scene) (change : Change) (v : IsValid scene) where
     edited : Leaves scene change (record scene { trees = g })
     edited =
         let f = scene.trees in
-        let once = λ (k : ℕ). let c : count (handles_of g) k ≤ 1 = omega (arith, sum_after (one_at k), e.once k, count-total g k) in c in
-        let root = root_after in
-        let active = root scene.active (grind (arith, nat_tests)) v.trees.active in
-        let low : height g ≤ MAX_DEPTH = grind (arith, nat_tests, e.sums (too_low MAX_DEPTH), e.low, low-height MAX_DEPTH 0 f, low-height MAX_DEPTH 0 g, v.trees.low) in
+        let once : StandsOnce (handles_of g) = λ k. omega (arith, sum_after (one_at k), e.once k, count-total g k) in
+        let top = root_after 1 refl v.trees.top_layer in
+        let system = root_after 2 refl v.trees.system_layer in
+        let first = root_after 3 refl v.trees.first_screen in
+        let active = root_after scene.active (grind (arith, nat_tests)) v.trees.active in
+        let heights = low-height MAX_DEPTH 0 in
+        let low : height g ≤ MAX_DEPTH = grind (arith, nat_tests, e.sums (too_low MAX_DEPTH), e.low, heights f, heights g, v.trees.low) in
         let sound = and_parts _ _ (sym (faults g) ∙ grind (arith, nat_tests, faults f, e.sums fault, e.faults, v.rows.kinds, v.rows.numbers)) in
         record {
-          trees = assumption (once, v.trees, root 1 refl v.trees.top_layer, root 2 refl v.trees.system_layer, root 3 refl v.trees.first_screen, active, low);
+          trees = assumption (v.trees, once, top, system, first, active, low);
           rows = record { kinds = sound.0; numbers = sound.1 };
           objects = omega (arith, sum_after one, e.objects, size-total f, size-total g);
           entries = omega (arith, sum_after entry_count, e.entries, entries-total f, entries-total g);
@@ -111,9 +114,9 @@ module _ (scene : Scene) (change : Change) (v : IsValid scene) where
       need_of scene change Objects ≡ freed_by scene change Objects + 1 → need_of scene change Entries ≡ freed_by scene change Entries →
       Leaves scene change (record scene { trees = g })
   added g n d kind sums fits new off low rows objects entries =
-      let count = count-total scene.trees in
       let absent = count-off scene.trees n (sym (has-handles scene.trees n) ∙ off) in
-      let once = λ (k : ℕ). let o : one_at k (new_row n kind) + total (one_at k) scene.trees ≤ 0 + 1 = grind (arith, nat_tests, absent, count k, once_at k) in o in
+      let once : (k : ℕ) → one_at k (new_row n kind) + total (one_at k) scene.trees ≤ 0 + 1 =
+      λ k. grind (arith, nat_tests, absent, count-total scene.trees k, once_at k) in
       let sound = new_row-in n d kind fits new in
       let shallow : too_low MAX_DEPTH d (new_row n kind) ≡ 0 = grind (arith, nat_tests, low) in
       edited g (λ w. 0) (λ w. w d (new_row n kind)) (search rules)
@@ -135,12 +138,14 @@ module _ (scene : Scene) (change : Change) (v : IsValid scene) where
       let new-is : depth_by (is_at p) left ≡ suc new = omega (arith, depth-there left p on) in
       let out = λ (w : Weighing). weight-cut w 0 (suc old) h f distinct (omega arith) in
       let put = λ (w : Weighing). weight-with_children w t g joins 0 (suc new) p left left_once on (omega arith) in
-      let same = λ (w : Weighing) (each : (d : ℕ) (row : Row) → w (suc d) row ≡ w 1 row). weight-below w each old t ∙ sym (weight-below w each new t) in
+      let same = λ (w : Weighing) (flat : (d : ℕ) (row : Row) → w (suc d) row ≡ w 1 row). weight-below w flat old t ∙ sym (weight-below w flat new t) in
       let level = λ (w : Row → ℕ). same (λ d. w) (λ d row. refl) in
       let roots = λ (k : ℕ). same (root_at k) (λ d row. refl) in
       let faults = same fault (λ d row. refl) in
-      let low : weight (too_low MAX_DEPTH) (suc new) t ≡ 0 = grind (arith, nat_tests, low-height MAX_DEPTH (suc new) t, depth-cut (is_at h) f p distinct, new-is, deep) in
-      edited (with_children_by (is_at p) g left) (λ w. weight w (suc old) t) (λ w. weight w (suc new) t) (search (rules, once_at, level one, level entry_count, rows))
+      let above = depth-cut (is_at h) f p distinct in
+      let low : weight (too_low MAX_DEPTH) (suc new) t ≡ 0 = grind (arith, nat_tests, low-height MAX_DEPTH (suc new) t, above, new-is, deep) in
+      edited (with_children_by (is_at p) g left) (λ w. weight w (suc old) t) (λ w. weight w (suc new) t)
+      (search (rules, once_at, level one, level entry_count, rows))
 
   -- the tree at h elsewhere below its own parent, where it has room
   moved_beside : (h : ℕ) (g : Forest Row → Forest Row) (after : Option Row → Forest Row) → Joins (tree_below scene h) g →
@@ -244,7 +249,7 @@ leaves scene (change.New n p kind) v fits c t =
     let at : depth_by (is_at p.0) f ≡ suc d = omega (arith, depth-there f p.0 on) in
     let low : suc d < MAX_DEPTH = grind (arith, nat_tests, t.1.1.0, at, depth-handles f p.0, depth-height (is_at p.0) f, v.trees.low) in
     added scene (change.New n p kind) v (with_object f n.0 p.0 kind) n.0 (suc d) kind
-    (λ w. weight-with_children w new (λ cs. and_then cs new) (λ w. weight-and_then w new) 0 (suc d) p.0 f (distinct_once f v.trees.once) on (omega arith))
+    (λ w. weight-with_children w new _ (λ w. weight-and_then w new) 0 (suc d) p.0 f (distinct_once f v.trees.once) on (omega arith))
     (and_parts _ _ fits).0 c t.1.0 low (λ w. omega arith) refl refl
 leaves scene (change.Delete h) v fits c t =
     cut_out scene h v (sym (has-handles scene.trees h.0) ∙ not-false _ t.0) (grind (arith, nat_tests, t.1.0, t.1.1.0))
@@ -291,7 +296,8 @@ change_keeps_valid scene change v c = by (answer_of scene change) refl where
   by (Some refusal) e = v
 
 adds_up : (scene : Scene) (change : Change) (pool : Pool) → Leaves scene change (scene_after scene change) →
-    need_of scene change pool ≤ spare scene pool → FitPools scene → spare (scene_after scene change) pool + need_of scene change pool ≡ spare scene pool + freed_by scene change pool
+    need_of scene change pool ≤ spare scene pool → FitPools scene →
+    spare (scene_after scene change) pool + need_of scene change pool ≡ spare scene pool + freed_by scene change pool
 adds_up scene change Objects l room fit = omega (arith, l.objects, fit.objects, room, ap (λ (b : Bounds). b.objects) (after_keeps scene change))
 adds_up scene change Entries l room fit = omega (arith, l.entries, fit.entries, room, ap (λ (b : Bounds). b.entries) (after_keeps scene change))
 adds_up scene (change.Screen n) pool l room fit = refl

@@ -15,14 +15,9 @@ use Rattle.scene_defs.specs.Picture.{Item, Seen, panel_of, placed, place_in, pla
 use Rattle.scene_defs.specs.Walk.{clipped, seen_row, walked, ShownByWalk, NothingBelowNothing, IsSeenInside, WalkedInside, ShownInside}
 use Rattle.scene_defs.proofs.Distinct.{there, IsDistinct, distinct_once, other_than, there-and_then, there_from_root, distinct-three}
 
--- nothing is seen of what has no clip
-clipped-none : (spot : Rect) (row : Row) → clipped None spot row ≡ None
-clipped-none spot row = grind (arith, nat_tests)
-
 pub walked-none : NothingBelowNothing
 walked-none panel parent Empty = refl
-walked-none panel parent (Tree row cs rest) =
-    rw (clipped-none (placed panel parent row) row, walked-none panel (placed panel parent row) cs, walked-none panel parent rest) refl
+walked-none panel parent (Tree row cs rest) = grind (arith, walked-none panel (placed panel parent row) cs, walked-none panel parent rest)
 
 -- What is found of k in a list of trees.
 module _ (panel parent : Rect) where
@@ -59,7 +54,8 @@ abbrev is_seen : Seen → Bool
 is_seen s = is_some s.visible
 
 seen_alone : (area : Option Rect) (place : Rect) (row : Row) (more : List Seen) →
-    filter is_seen (record { handle = row.handle; visible = area; items = items_of place row } ∷ more) ≡ seen_row area place row ++ filter is_seen more
+    filter is_seen (record { handle = row.handle; visible = area; items = items_of place row } ∷ more)
+    ≡ seen_row area place row ++ filter is_seen more
 seen_alone None place row more = refl
 seen_alone (Some v) place row more = refl
 
@@ -145,7 +141,8 @@ module _ (area : Rect) where
   row_inside None spot row more inside later = later
   row_inside (Some v) spot row more inside later = All-cons (IsSeenInside area) _ more inside later
 
-  walk_inside : (panel : Rect) (clip : Option Rect) (parent : Rect) (f : Forest Row) → IfSome clip (Covers area) → AllInside (walked panel clip parent f)
+  walk_inside : (panel : Rect) (clip : Option Rect) (parent : Rect) (f : Forest Row) → IfSome clip (Covers area) →
+      AllInside (walked panel clip parent f)
   walk_inside panel clip parent Empty covers = All-nil (IsSeenInside area)
   walk_inside panel clip parent (Tree row cs rest) covers =
       let p = placed panel parent row in

@@ -65,7 +65,7 @@ module _ (scene : Scene) (change : Change) where
 
   have_room : (ps : List Pool) → first_short scene change ps ≡ None → HaveRoom ps
   have_room [] e = tt
-  have_room (p ∷ ps) e = (grind (arith, nat_tests, e), have_room ps (grind (arith, nat_tests, e)))
+  have_room (p ∷ ps) e = grind (arith, nat_tests, e, have_room ps)
 
   pool-room : (pool : Pool) → HaveRoom POOLS → need_of scene change pool ≤ spare scene pool
   pool-room Objects r = r.0
@@ -131,7 +131,7 @@ Fail (t ∷ ts) = (t.0 ≡ false) × Fail ts
 
 pub tests-fail : (ts : List Test) (short : Option Pool) → first_of ts (option_map Full short) ≡ None → Fail ts
 tests-fail [] short e = tt
-tests-fail (t ∷ ts) short e = (grind (arith, e), tests-fail ts short (grind (arith, e)))
+tests-fail (t ∷ ts) short e = grind (arith, e, tests-fail ts short)
 
 pub sets_row_alone : SetsRowAlone
 sets_row_alone scene (change.Screen n) h e = cc

@@ -31,20 +31,14 @@ module _ (panel parent : Rect) where
 
   of_two : (f g : Forest Row) (k : ℕ) → Same (and_then f g) (if there f k then f else g) k
   of_two Empty g k = (refl, refl)
-  of_two (Tree row cs rest) g k = (grind (arith, nat_tests, (of_two rest g k).0), grind (arith, nat_tests, (of_two rest g k).1))
+  of_two (Tree row cs rest) g k = grind (arith, nat_tests, of_two rest g k)
 
   of_both : (f g whole : Forest Row) → IsPart whole f → IsPart whole g → IsPart whole (and_then f g)
-  of_both f g whole first second k i =
-      let two = of_two f g k in
-      let either = there-and_then f g k in
-      (grind (arith, nat_tests, i, two, either, first k, second k), grind (arith, nat_tests, i, two, either, first k, second k))
+  of_both f g whole first second k i = grind (arith, nat_tests, i, of_two f g k, there-and_then f g k, first k, second k)
 
   of_root : (f : Forest Row) (a : ℕ) → IsDistinct f → IsPart f (root_tree f a)
   of_root Empty a d k i = (refl, refl)
-  of_root (Tree row cs rest) a d k i =
-      let later = of_root rest a d.4 k in
-      let inner = there_from_root rest a k in
-      (grind (arith, nat_tests, i, d.0 k, d.2, later, inner), grind (arith, nat_tests, i, d.0 k, d.2, later, inner))
+  of_root (Tree row cs rest) a d k i = grind (arith, nat_tests, i, d.0 k, d.2, of_root rest a d.4 k, there_from_root rest a k)
 
 -- an object as it is found by its handle
 abbrev found : (ℕ → Option Rect) → (ℕ → Option Rect) → (ℕ → Option Row) → ℕ → Seen
@@ -61,10 +55,9 @@ seen_alone (Some v) place row more = refl
 
 module _ (panel : Rect) (area at : ℕ → Option Rect) (look : ℕ → Option Row) where
   -- what is found by the handles of a forest agrees with it
-  record Agrees (parent : Rect) (clip : Option Rect) (f : Forest Row) : Type 0 where
-    areas : (k : ℕ) → there f k ≡ true → area k ≡ visible_in at clip f k
-    places : (k : ℕ) → there f k ≡ true → at k ≡ place_in panel parent f k
-    rows : (k : ℕ) → there f k ≡ true → look k ≡ row_by (is_at k) f
+  abbrev Agrees : Rect → Option Rect → Forest Row → Type 0
+  Agrees parent clip f =
+      (k : ℕ) → there f k ≡ true → (area k ≡ visible_in at clip f k) × (at k ≡ place_in panel parent f k) × (look k ≡ row_by (is_at k) f)
 
   found_by_walk : (parent : Rect) (clip : Option Rect) (f : Forest Row) → IsDistinct f → Agrees parent clip f →
       filter is_seen (map (found area at look) (preorder (handles_of f))) ≡ walked panel clip parent f
@@ -72,23 +65,13 @@ module _ (panel : Rect) (area at : ℕ → Option Rect) (look : ℕ → Option R
   found_by_walk parent clip (Tree row cs rest) d agrees =
       let h = row.handle in
       let p = placed panel parent row in
-      let spot : at h ≡ Some p = grind (arith, nat_tests, agrees.places h) in
-      let shape : area h ≡ seen_of at clip row = grind (arith, nat_tests, agrees.areas h) in
-      let line : look h ≡ Some row = grind (arith, nat_tests, agrees.rows h) in
+      let here : (area h ≡ seen_of at clip row) × (at h ≡ Some p) × (look h ≡ Some row) = grind (arith, nat_tests, agrees h) in
       let v = clipped clip p row in
-      let below : Agrees p v cs = record {
-        areas = λ k i. agrees.areas k (rw i (grind arith)) ∙ rw (other_than row cs k d.1 i, i) (rw spot refl);
-        places = λ k i. grind (arith, nat_tests, i, agrees.places k, d.1);
-        rows = λ k i. grind (arith, nat_tests, i, agrees.rows k, d.1);
-      } in
-      let beside : Agrees parent clip rest = record {
-        areas = λ k i. grind (arith, nat_tests, i, agrees.areas k, d.0 k, d.2);
-        places = λ k i. grind (arith, nat_tests, i, agrees.places k, d.0 k, d.2);
-        rows = λ k i. grind (arith, nat_tests, i, agrees.rows k, d.0 k, d.2);
-      } in
+      let below : Agrees p v cs = λ k i. grind (arith, nat_tests, i, agrees k, d.1, here) in
+      let beside : Agrees parent clip rest = λ k i. grind (arith, nat_tests, i, agrees k, d.0 k, d.2) in
       let inner = found_by_walk p v cs d.3 below in
       let later = found_by_walk parent clip rest d.4 beside in
-      rw (shape, line, spot) (seen_alone v p row (map (found area at look) (preorder (handles_of cs) ++ preorder (handles_of rest)))
+      rw (here.0, here.1, here.2) (seen_alone v p row (map (found area at look) (preorder (handles_of cs) ++ preorder (handles_of rest)))
       ∙ simp (map-append, filter-append, inner, later))
 
 pub shown_by_walk : ShownByWalk
@@ -100,7 +83,7 @@ shown_by_walk scene showable =
     let part = of_both panel panel _ _ f (root scene.active) (of_both panel panel _ _ f (root 1) (root 2)) in
     found_by_walk panel (visible scene) (place scene) (λ h. row_by (is_at h) f) panel (Some panel) (shown_trees scene)
     (distinct-three f scene.active showable.once showable.above_top showable.above_system)
-    (record { areas = λ k i. refl; places = λ k i. (part k i).0; rows = λ k i. (part k i).1 })
+    (λ k i. (refl, (part k i).0, (part k i).1))
 
 -- What is seen lies inside the clip.
 either : {A : Type 0} (P : A → Type 0) (c : Bool) {a b : A} → P a → P b → P (if c then a else b)

@@ -26,13 +26,11 @@ count-off (Tree row cs rest) k off = grind (arith, nat_tests, count-off cs k, co
 
 pub distinct_once : (f : Forest Row) → StandsOnce (handles_of f) → IsDistinct f
 distinct_once Empty once = tt
-distinct_once (Tree row cs rest) once = (
-  λ k i. grind (arith, nat_tests, once k, count-there cs k, count-there rest k),
-  grind (arith, nat_tests, once row.handle, count-there cs row.handle),
-  grind (arith, nat_tests, once row.handle, count-there rest row.handle),
-  distinct_once cs (λ k. omega (arith, once k)),
-  distinct_once rest (λ k. omega (arith, once k)),
-)
+distinct_once (Tree row cs rest) once =
+    let below = distinct_once cs (λ k. omega (arith, once k)) in
+    let beside = distinct_once rest (λ k. omega (arith, once k)) in
+    let apart = λ (k : ℕ). let o : count (handles_of (Tree row cs rest)) k ≤ 1 = once k in o in
+    grind (arith, nat_tests, apart, count-there cs, count-there rest, below, beside)
 
 pub other_than : (row : Row) (f : Forest Row) (k : ℕ) → there f row.handle ≡ false → there f k ≡ true → is_at k row ≡ false
 other_than row f k out i = grind (arith, nat_tests)

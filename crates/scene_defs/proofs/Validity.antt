@@ -92,15 +92,12 @@ module _ (scene : Scene) (change : Change) (v : IsValid scene) where
     edited =
         let f = scene.trees in
         let once : StandsOnce (handles_of g) = λ k. omega (arith, sum_after (one_at k), e.once k, count-total g k) in
-        let top = root_after 1 refl v.trees.top_layer in
-        let system = root_after 2 refl v.trees.system_layer in
-        let first = root_after 3 refl v.trees.first_screen in
         let active = root_after scene.active (grind (arith, nat_tests)) v.trees.active in
         let heights = low-height MAX_DEPTH 0 in
         let low : height g ≤ MAX_DEPTH = grind (arith, nat_tests, e.sums (too_low MAX_DEPTH), e.low, heights f, heights g, v.trees.low) in
         let sound = and_parts _ _ (sym (faults g) ∙ grind (arith, nat_tests, faults f, e.sums fault, e.faults, v.rows.kinds, v.rows.numbers)) in
         record {
-          trees = assumption (v.trees, once, top, system, first, active, low);
+          trees = search (rules, root_after, v.trees);
           rows = record { kinds = sound.0; numbers = sound.1 };
           objects = omega (arith, sum_after one, e.objects, size-total f, size-total g);
           entries = omega (arith, sum_after entry_count, e.entries, entries-total f, entries-total g);

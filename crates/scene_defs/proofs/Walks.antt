@@ -13,7 +13,7 @@ use Rattle.gui_base.proofs.Areas.{has-common}
 use Rattle.scene_defs.specs.Scene.{Row, Scene, is_at, is_on, handles_of, row_by}
 use Rattle.scene_defs.specs.Picture.{Item, Seen, panel_of, placed, place_in, place, met, seen_of, visible_in, visible, root_tree, shown_trees, items_of, items_at, items, order, seen}
 use Rattle.scene_defs.specs.Walk.{clipped, seen_row, walked, ShownByWalk, NothingBelowNothing, IsSeenInside, WalkedInside, ShownInside}
-use Rattle.scene_defs.proofs.Distinct.{there, IsDistinct, distinct_once, other_than, there-and_then, there_from_root, distinct-three}
+use Rattle.scene_defs.proofs.Distinct.{there, IsDistinct, distinct_once, there-and_then, there_from_root, distinct-three}
 
 pub walked-none : NothingBelowNothing
 walked-none panel parent Empty = refl

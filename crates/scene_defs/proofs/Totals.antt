@@ -58,11 +58,11 @@ pub count-total : (f : Forest Row) (k : ℕ) → count (handles_of f) k ≡ tota
 count-total Empty k = refl
 count-total (Tree row cs rest) k = rw (count-total cs k, count-total rest k) refl
 
--- What a row weighs where so many rows lie above it.
+-- what a row weighs, by how many rows lie above it
 abbrev pub Weighing : Type 0
 Weighing = ℕ → Row → ℕ
 
--- what trees weigh where so many rows lie above their roots
+-- the sum of what the rows weigh, where d rows lie above the roots
 abbrev pub weight : Weighing → ℕ → Forest Row → ℕ
 weight w d Empty = 0
 weight w d (Tree row cs rest) = w d row + (weight w (suc d) cs + weight w d rest)
@@ -71,7 +71,7 @@ pub weight-total : (w : Row → ℕ) (d : ℕ) (f : Forest Row) → weight (λ d
 weight-total w d Empty = refl
 weight-total w d (Tree row cs rest) = rw (weight-total w (suc d) cs, weight-total w d rest) refl
 
--- below a root, by a weighing that tells roots alone apart
+-- below a root, where only roots weigh otherwise
 pub weight-below : (w : Weighing) → ((d : ℕ) (row : Row) → w (suc d) row ≡ w 1 row) → (d : ℕ) (f : Forest Row) → weight w (suc d) f ≡ total (w 1) f
 weight-below w each d Empty = refl
 weight-below w each d (Tree row cs rest) = rw (each d row, weight-below w each (suc d) cs, weight-below w each d rest) refl
@@ -90,14 +90,14 @@ module _ (w : Weighing) where
   weight-put_at (suc n) t d Empty = omega arith
   weight-put_at (suc n) t d (Tree row cs rest) = omega (arith, weight-put_at n t d rest)
 
-  -- what is cut out, and what is left
+  -- what is cut out, which e rows lie above, and what is left
   pub weight-cut : (d e h : ℕ) (f : Forest Row) → IsDistinct f → d + depth_by (is_at h) f ≡ suc e →
       weight w d (cut_by (is_at h) f) + weight w e (tree_by (is_at h) f) ≡ weight w d f
   weight-cut d e h Empty o at = refl
   weight-cut d e h (Tree row cs rest) o at =
       grind (arith, nat_tests, at, o.0 h, o.2, cut-off cs h, cut-off rest h, weight-cut (suc d) e h cs o.3, weight-cut d e h rest o.4)
 
-  -- more children of p
+  -- more children of p, which e rows lie above
   pub weight-with_children : (t : Forest Row) (g : Forest Row → Forest Row) → Joins t g → (d e p : ℕ) (f : Forest Row) → IsDistinct f →
       there f p ≡ true → d + depth_by (is_at p) f ≡ e → weight w d (with_children_by (is_at p) g f) ≡ weight w e t + weight w d f
   weight-with_children t g joins d e p Empty o i at = cc
@@ -106,7 +106,7 @@ module _ (w : Weighing) where
       let beside = weight-with_children t g joins d e p rest o.4 in
       grind (arith, nat_tests, at, o.0 p, joins w e cs, with_children-off cs p g, with_children-off rest p g, below, beside)
 
-  -- another row at h
+  -- another row at h, which e rows lie above
   pub weight-with_row : (d e h : ℕ) (set : Row → Row) (r : Row) (f : Forest Row) → IsDistinct f → row_by (is_at h) f ≡ Some r →
       d + depth_by (is_at h) f ≡ suc e → weight w d (with_row_by (is_at h) set f) + w e r ≡ w e (set r) + weight w d f
   weight-with_row d e h set r Empty o is at = cc

@@ -48,7 +48,7 @@ abbrev pub removed_sum : Scene → Change → (Row → ℕ) → ℕ
 removed_sum scene (change.Delete h) = λ w. total w (tree_below scene h.0)
 removed_sum scene change = λ w. 0
 
--- The rows that a change takes away and those that it brings, as they weigh, and why the trees are still in order.
+-- What the rows weigh that a change takes away, and those that it brings, and why the trees stay in order.
 record Edit (scene : Scene) (change : Change) (g : Forest Row) (gone come : Weighing → ℕ) : Type 0 where
   sums : (w : Weighing) → weight w 0 g + gone w ≡ come w + weight w 0 scene.trees
   once : (k : ℕ) → come (λ d. one_at k) + total (one_at k) scene.trees ≤ gone (λ d. one_at k) + 1
@@ -69,7 +69,7 @@ pub record Leaves (scene : Scene) (change : Change) (after : Scene) : Type 0 whe
   pub handles : (k : ℕ) →
       count (handles_of after.trees) k + removed_sum scene change (one_at k) ≡ added_sum scene change (one_at k) + count (handles_of scene.trees) k
 
--- what is there
+-- the value of an option that has one
 found : {A : Type 0} (o : Option A) → is_some o ≡ true → (a : A) × (o ≡ Some a)
 found None i = cc
 found (Some a) i = (a, refl)
@@ -135,7 +135,8 @@ module _ (scene : Scene) (change : Change) (v : IsValid scene) where
       let new-is : depth_by (is_at p) left ≡ suc new = omega (arith, depth-there left p on) in
       let out = λ (w : Weighing). weight-cut w 0 (suc old) h f distinct (omega arith) in
       let put = λ (w : Weighing). weight-with_children w t g joins 0 (suc new) p left left_once on (omega arith) in
-      let same = λ (w : Weighing) (flat : (d : ℕ) (row : Row) → w (suc d) row ≡ w 1 row). weight-below w flat old t ∙ sym (weight-below w flat new t) in
+      let same = λ (w : Weighing) (flat : (d : ℕ) (row : Row) → w (suc d) row ≡ w 1 row).
+      weight-below w flat old t ∙ sym (weight-below w flat new t) in
       let level = λ (w : Row → ℕ). same (λ d. w) (λ d row. refl) in
       let roots = λ (k : ℕ). same (root_at k) (λ d row. refl) in
       let faults = same fault (λ d row. refl) in

@@ -16,7 +16,6 @@ use Rattle.gui_edge.specs.Sink.{SinkState, AppendsPrefix}
 use Rattle.gui_edge.specs.Panel.{PanelState}
 use Rattle.scene_run.specs.Effects.{Output, output, PanelEffects, Effects, Breaks, FrameBroke}
 use Rattle.scene_run.proofs.Known.{AppendsPrefix-nothing}
-use Rattle.scene_run.proofs.Going.{PanelKeeps-self}
 
 pub on_err : {T E P : Type 0} (r : Result T E) → P → OnErr r P
 on_err (Ok x) p = tt
@@ -38,38 +37,32 @@ breaks_show log p q n k scene broke = record {
   one = omega arith;
   log = AppendsPrefix-nothing log.held [];
   frames = broke.frames;
-  faults = omega (arith, broke.keeps.flush_faults);
+  faults = omega (arith, broke.faults);
   cause = inr broke.cause;
-  keeps = broke.keeps;
-  log_faults = omega arith;
 }
 
 -- the log did not take the lines of a reply whole
-pub breaks_reply : (a b : SinkState) (p : PanelState) (n : ℕ) (lines : List ℕ) (reply : Reply) → AppendsPrefix a.held b.held (log_lines (Replied n lines reply)) → a.faults ≤ b.faults → Rose a.faults b.faults →
+pub breaks_reply : (a b : SinkState) (p : PanelState) (n : ℕ) (lines : List ℕ) (reply : Reply) → AppendsPrefix a.held b.held (log_lines (Replied n lines reply)) → Rose a.faults b.faults →
     Breaks (output a p) (output b p) (Replies n lines reply)
-breaks_reply a b p n lines reply prefix later rose = record {
+breaks_reply a b p n lines reply prefix rose = record {
   last = [];
   one = omega arith;
   log = subst (AppendsPrefix a.held b.held) (sym (append-nil (log_lines (Replied n lines reply)))) prefix;
   frames = λ t. AppendsPrefix-nothing p.frames [];
   faults = omega arith;
   cause = inl rose;
-  keeps = PanelKeeps-self p;
-  log_faults = later;
 }
 
 -- nor the line of a frame
 pub breaks_frame : (a b : SinkState) (p q : PanelState) (n k : ℕ) (scene : Scene) (outcome : Outcome) → PanelEffects p q None (Framed n k scene outcome ∷ []) →
-    AppendsPrefix a.held b.held (frame_line n k outcome) → a.faults ≤ b.faults → Rose a.faults b.faults → Breaks (output a p) (output b q) (Frames n k scene)
-breaks_frame a b p q n k scene outcome shown prefix later rose = record {
+    AppendsPrefix a.held b.held (frame_line n k outcome) → Rose a.faults b.faults → Breaks (output a p) (output b q) (Frames n k scene)
+breaks_frame a b p q n k scene outcome shown prefix rose = record {
   last = outcome ∷ [];
   one = omega arith;
   log = subst (AppendsPrefix a.held b.held) (sym (append-nil (frame_line n k outcome))) prefix;
   frames = λ t. file outcome (shown.frames t);
   faults = shown.faults;
   cause = inl rose;
-  keeps = shown.keeps;
-  log_faults = later;
 }
   where
     file : (o : Outcome) → Appends p.frames q.frames (frame_files (Framed n k scene o ∷ [])) → AppendsPrefix p.frames q.frames (frame_file scene)

@@ -58,8 +58,6 @@ pub record Breaks (old new : Output) (e : Entry) : Type 0 where
   pub frames : IsSome old.panel.shows → AppendsPrefix old.panel.frames new.panel.frames (file_asked e)
   pub faults : old.panel.flush_faults + fault_count (told (e ∷ []) last) ≤ new.panel.flush_faults
   pub cause : WriteFailed old new
-  pub keeps : PanelKeeps old.panel new.panel
-  pub log_faults : old.log.faults ≤ new.log.faults
 
 -- These lines were answered, from this moment of a run on.
 pub record Answers (start : Moment) (old new : Output) (seen : Option Scene) (lines : List Said) :
@@ -87,5 +85,5 @@ pub record Halted (start : Moment) (old new : Output) (seen : Option Scene) (lin
 -- a frame could not be presented whole
 pub record FrameBroke (old new : PanelState) (scene : Scene) : Type 0 where
   pub frames : IsSome old.shows → AppendsPrefix old.frames new.frames (frame_file scene)
+  pub faults : old.flush_faults ≤ new.flush_faults
   pub cause : Rose old.present_faults new.present_faults
-  pub keeps : PanelKeeps old new

@@ -169,7 +169,7 @@ pub fn answer<L: Sink, P: Panel>(
                 let outcome = show(gui, panel)?;
                 log.put(frame_text(number, frame, outcome).as_slice())?;
                 end.outcome = Some(outcome);
-                end.noted = matches!(outcome, Outcome::Fault);
+                end.noted = outcome == Outcome::Fault;
                 Ok(end)
             }
         },

@@ -5,7 +5,7 @@ use Rattle.scene_run.proofs.answer.answer.Goals as goal
 pub returns-in_err-end-in-Make-clause-err : goal.returns-in_err-end-in-Make-clause-err
 returns-in_err-end-in-Make-clause-err g c =
     on_err c.from_residual.result (rw (c.in-Ok.is, c.in-Make.is)
-    (breaks_reply _ _ _ _ _ _ c.in_err-end-in-Make.ensures.err c.in_err-end-in-Make.ensures.cause.later c.in_err-end-in-Make.ensures.cause.failed))
+    (breaks_reply _ _ _ _ _ _ c.in_err-end-in-Make.ensures.err c.in_err-end-in-Make.ensures.cause.failed))
 
 pub returns-in_err-outcome-in-Frame-clause-err : goal.returns-in_err-outcome-in-Frame-clause-err
 returns-in_err-outcome-in-Frame-clause-err g c =
@@ -14,17 +14,13 @@ returns-in_err-outcome-in-Frame-clause-err g c =
 pub returns-in_err-put-in-Frame-clause-err : goal.returns-in_err-put-in-Frame-clause-err
 returns-in_err-put-in-Frame-clause-err g c =
     on_err c.from_residual-in_err-put-in-Frame.result (rw (c.in-Ok.is, c.in-Frame.is)
-    (breaks_frame _ _ _ _ _ _ _ _ (c.in_ok-outcome-in-Frame.ensures.ok _ _ None) (rw (← c.frame_text.ensures, ← c.as_slice.ensures.value) c.in_err-put-in-Frame.ensures.err) c.in_err-put-in-Frame.ensures.cause.later c.in_err-put-in-Frame.ensures.cause.failed))
+    (breaks_frame _ _ _ _ _ _ _ _ (c.in_ok-outcome-in-Frame.ensures.ok _ _ None) (rw (← c.frame_text.ensures, ← c.as_slice.ensures.value) c.in_err-put-in-Frame.ensures.err) c.in_err-put-in-Frame.ensures.cause.failed))
 
 pub returns-in_err-put-in-Err-clause-err : goal.returns-in_err-put-in-Err-clause-err
 returns-in_err-put-in-Err-clause-err g c =
     on_err c.from_residual-in_err-put-in-Err.result (rw c.in-Err.is
-    (breaks_reply _ _ _ _ [] _ (rw (← c.from.ensures, ← c.reply_text.ensures, ← c.as_slice-in-Err.ensures.value) c.in_err-put-in-Err.ensures.err) c.in_err-put-in-Err.ensures.cause.later c.in_err-put-in-Err.ensures.cause.failed))
+    (breaks_reply _ _ _ _ [] _ (rw (← c.from.ensures, ← c.reply_text.ensures, ← c.as_slice-in-Err.ensures.value) c.in_err-put-in-Err.ensures.err) c.in_err-put-in-Err.ensures.cause.failed))
 
-pub returns-in-Fault-clause-ok : goal.returns-in-Fault-clause-ok
-returns-in-Fault-clause-ok g c = rw (c.in-Ok.is, c.in-Frame.is)
-    (λ seen shown. effects_frame _ _ _ _ _ _ _ _ seen (c.in_ok-outcome-in-Frame.ensures.ok _ _ seen) (rw (← c.frame_text.ensures, ← c.as_slice.ensures.value) c.in_ok-put-in-Frame.ensures.ok) c.in_ok-put-in-Frame.ensures.cause.later)
-
-pub returns-in_default-clause-ok : goal.returns-in_default-clause-ok
-returns-in_default-clause-ok g c = rw (c.in-Ok.is, c.in-Frame.is)
+pub returns-in_ok-put-in-Frame-clause-ok : goal.returns-in_ok-put-in-Frame-clause-ok
+returns-in_ok-put-in-Frame-clause-ok g c = rw (c.in-Ok.is, c.in-Frame.is)
     (λ seen shown. effects_frame _ _ _ _ _ _ _ _ seen (c.in_ok-outcome-in-Frame.ensures.ok _ _ seen) (rw (← c.frame_text.ensures, ← c.as_slice.ensures.value) c.in_ok-put-in-Frame.ensures.ok) c.in_ok-put-in-Frame.ensures.cause.later)

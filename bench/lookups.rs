@@ -1,5 +1,6 @@
-//! The same work as `lookups.txt`, in plain Rust over vectors: the entries and the uses of each object, and
-//! the settings of each style.
+//! The same work as `lookups.txt`, in plain Rust over vectors: `lookups LAYOUT ENTRIES TURNS`. With the layout
+//! `slots` all lists share one vector of slots, each of which names the next, as they do in the library. With
+//! `rows` each list is a vector of its own, which takes memory as it grows.
 
 #[derive(Clone, Copy, PartialEq)]
 #[allow(dead_code)]
@@ -27,56 +28,85 @@ struct Use {
     selector: Selector,
 }
 
-struct Setting {
-    prop: u8,
-    value: i32,
+/// A list of values for each owner.
+trait Lists<T> {
+    fn with_room(owners: usize, slots: usize) -> Self;
+
+    fn push(&mut self, owner: usize, value: T);
+
+    fn of<'a>(&'a self, owner: usize) -> impl Iterator<Item = &'a T>
+    where
+        T: 'a;
 }
 
-struct Styles {
-    settings: Vec<Option<Vec<Setting>>>,
-    locals: Vec<Vec<Entry>>,
-    uses: Vec<Vec<Use>>,
+struct Rows<T>(Vec<Vec<T>>);
+
+impl<T> Lists<T> for Rows<T> {
+    fn with_room(owners: usize, _slots: usize) -> Self {
+        Rows((0..owners).map(|_| Vec::new()).collect())
+    }
+
+    fn push(&mut self, owner: usize, value: T) {
+        self.0[owner].push(value);
+    }
+
+    fn of<'a>(&'a self, owner: usize) -> impl Iterator<Item = &'a T>
+    where
+        T: 'a,
+    {
+        self.0[owner].iter()
+    }
+}
+
+const NOWHERE: u32 = u32::MAX;
+
+struct Slots<T> {
+    firsts: Vec<u32>,
+    slots: Vec<(T, u32)>,
+}
+
+impl<T> Lists<T> for Slots<T> {
+    fn with_room(owners: usize, slots: usize) -> Self {
+        Slots { firsts: vec![NOWHERE; owners], slots: Vec::with_capacity(slots) }
+    }
+
+    fn push(&mut self, owner: usize, value: T) {
+        let slot = self.slots.len() as u32;
+        self.slots.push((value, NOWHERE));
+        if self.firsts[owner] == NOWHERE {
+            self.firsts[owner] = slot;
+            return;
+        }
+        let mut last = self.firsts[owner] as usize;
+        while self.slots[last].1 != NOWHERE {
+            last = self.slots[last].1 as usize;
+        }
+        self.slots[last].1 = slot;
+    }
+
+    fn of<'a>(&'a self, owner: usize) -> impl Iterator<Item = &'a T>
+    where
+        T: 'a,
+    {
+        let mut at = self.firsts[owner];
+        std::iter::from_fn(move || {
+            let (value, next) = self.slots.get(at as usize)?;
+            at = *next;
+            Some(value)
+        })
+    }
+}
+
+/// The owner of what style 0 sets. Objects are the owners before it.
+const FIRST_STYLE: usize = 10_000;
+
+struct Styles<E, U> {
+    entries: E,
+    uses: U,
 }
 
 fn applies(selector: Selector, part: Part, states: u16) -> bool {
     selector.part == part && selector.states & states == selector.states
-}
-
-impl Styles {
-    fn set_local(&mut self, h: u16, selector: Selector, prop: u8, value: i32) {
-        let entries = &mut self.locals[h as usize];
-        match entries.iter_mut().find(|e| e.prop == prop && e.selector == selector) {
-            Some(entry) => entry.value = value,
-            None => entries.push(Entry { selector, prop, value }),
-        }
-    }
-
-    #[inline(never)]
-    fn lookup(&self, h: u16, part: Part, states: u16, prop: u8) -> Option<i32> {
-        let mut best: Option<(u16, i32)> = None;
-        for used in &self.uses[h as usize] {
-            if !applies(used.selector, part, states) {
-                continue;
-            }
-            let Some(settings) = &self.settings[used.style as usize] else {
-                continue;
-            };
-            if let Some(setting) = settings.iter().find(|s| s.prop == prop) {
-                if best.is_none_or(|(states, _)| used.selector.states >= states) {
-                    best = Some((used.selector.states, setting.value));
-                }
-            }
-        }
-        for entry in &self.locals[h as usize] {
-            if entry.prop == prop
-                && applies(entry.selector, part, states)
-                && best.is_none_or(|(states, _)| entry.selector.states >= states)
-            {
-                best = Some((entry.selector.states, entry.value));
-            }
-        }
-        best.map(|(_, value)| value)
-    }
 }
 
 fn main_in(states: u32) -> Selector {
@@ -87,32 +117,74 @@ fn prop(i: u32) -> u8 {
     (i % 19) as u8
 }
 
+fn entry(states: u32, i: u32, value: i32) -> Entry {
+    Entry { selector: main_in(states), prop: prop(i), value }
+}
+
+impl<E: Lists<Entry>, U: Lists<Use>> Styles<E, U> {
+    /// Two styles of five properties each, which object 10 uses; its entries; and those of 1,000 others.
+    fn filled(entries: u32) -> Self {
+        let mut styles = Styles { entries: E::with_room(11_000, 20_000), uses: U::with_room(10_000, 512) };
+        for id in [1u16, 2] {
+            for i in 0..5 {
+                styles.entries.push(FIRST_STYLE + id as usize, entry(0, i, id.into()));
+            }
+            styles.uses.push(10, Use { style: id, selector: main_in(0) });
+        }
+        for i in 0..10 {
+            for h in 100..1100 {
+                styles.entries.push(h, entry(0, i, 7));
+            }
+        }
+        for i in 0..entries {
+            styles.entries.push(10, entry(i / 19, i, (i % 1000) as i32));
+        }
+        styles
+    }
+
+    #[inline(never)]
+    fn lookup(&self, h: u16, part: Part, states: u16, prop: u8) -> Option<i32> {
+        let mut best: Option<(u16, i32)> = None;
+        for used in self.uses.of(h as usize) {
+            if !applies(used.selector, part, states) {
+                continue;
+            }
+            let set = self.entries.of(FIRST_STYLE + used.style as usize).find(|e| e.prop == prop);
+            let Some(set) = set else {
+                continue;
+            };
+            if best.is_none_or(|(states, _)| used.selector.states >= states) {
+                best = Some((used.selector.states, set.value));
+            }
+        }
+        for entry in self.entries.of(h as usize) {
+            if entry.prop == prop
+                && applies(entry.selector, part, states)
+                && best.is_none_or(|(states, _)| entry.selector.states >= states)
+            {
+                best = Some((entry.selector.states, entry.value));
+            }
+        }
+        best.map(|(_, value)| value)
+    }
+
+    fn sum(&self, turns: u32) -> i64 {
+        let mut sum = 0i64;
+        for i in 0..turns {
+            if let Some(value) = self.lookup(10, Part::Main, (i % 8) as u16, prop(i)) {
+                sum = sum.wrapping_add(value.into());
+            }
+        }
+        sum
+    }
+}
+
 fn main() {
-    let numbers: Vec<u32> = std::env::args().skip(1).map(|word| word.parse().unwrap()).collect();
-    let (entries, turns) = (numbers[0], numbers[1]);
-    let mut styles = Styles {
-        settings: (0..1000).map(|_| None).collect(),
-        locals: (0..10_000).map(|_| Vec::new()).collect(),
-        uses: (0..10_000).map(|_| Vec::new()).collect(),
+    let words: Vec<String> = std::env::args().collect();
+    let (entries, turns) = (words[2].parse().unwrap(), words[3].parse().unwrap());
+    let sum = match words[1].as_str() {
+        "slots" => Styles::<Slots<Entry>, Slots<Use>>::filled(entries).sum(turns),
+        _ => Styles::<Rows<Entry>, Rows<Use>>::filled(entries).sum(turns),
     };
-    for id in [1u16, 2] {
-        let settings = (0..5).map(|i| Setting { prop: prop(i), value: i32::from(id) });
-        styles.settings[id as usize] = Some(settings.collect());
-        styles.uses[10].push(Use { style: id, selector: main_in(0) });
-    }
-    for i in 0..10 {
-        for h in 100..1100 {
-            styles.set_local(h, main_in(i / 19), prop(i), 7);
-        }
-    }
-    for i in 0..entries {
-        styles.set_local(10, main_in(i / 19), prop(i), (i % 1000) as i32);
-    }
-    let mut sum = 0i64;
-    for i in 0..turns {
-        if let Some(value) = styles.lookup(10, Part::Main, (i % 8) as u16, prop(i)) {
-            sum = sum.wrapping_add(value as i64);
-        }
-    }
     println!("{sum}");
 }

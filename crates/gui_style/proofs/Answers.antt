@@ -10,9 +10,9 @@ use Rattle.style_defs.specs.declared.Entry.{Entry}
 use Rattle.style_defs.specs.declared.Setting.{Setting}
 use Rattle.style_defs.specs.declared.Use.{Use}
 use Rattle.style_defs.specs.Cascade.{has_style, sets, settings_of}
-use Rattle.style_defs.specs.Firsts.{first_by, place_by, put_by, drop_by}
+use Rattle.style_defs.specs.Firsts.{first_by, place_by, put_by}
 use Rattle.style_defs.proofs.Places.{HasNone, HasAt, has_none, has_at}
-use Rattle.gui_style.specs.Styles.{Styles, Answer, locals_of, uses_of, is_for, is_use, an_entry, a_setting, has_local, has_use, has_setting, full_answer, with_settings, style_prop_answer, with_prop, unset_prop_answer, without_prop, add_style_answer, remove_style_answer, without_use, set_local_answer, with_local, unset_local_answer, without_local}
+use Rattle.gui_style.specs.Styles.{Styles, locals_of, uses_of, is_for, is_use, an_entry, a_setting, has_local, has_setting, full_answer, with_settings, style_prop_answer, with_prop, unset_prop_answer, add_style_answer, remove_style_answer, without_use, set_local_answer, with_local, unset_local_answer, without_local}
 
 shifted : (o : Option ℕ) → is_some (option_map suc o) ≡ is_some o
 shifted None = refl

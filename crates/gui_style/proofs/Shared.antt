@@ -1,5 +1,5 @@
 -- The shared styles, by their numbers.
-use Rattle.std.proofs.Common.{◌≡◌, ℕ, ◌+◌, ◌<◌, Bool, false, eqb, ltb, is_some, List, [], ◌∷◌, map, length, set, Option, Some, None, inl, inr, refl, sym, ap, ◌∙◌, arith}
+use Rattle.std.proofs.Common.{◌≡◌, ℕ, ◌+◌, ◌<◌, false, eqb, ltb, is_some, List, [], ◌∷◌, map, length, set, Option, Some, None, inl, inr, refl, sym, ap, ◌∙◌, arith}
 use Rattle.std.proofs.lemmas.Bool.{cases_Bool, eqb-true}
 use Rattle.gui_pool.specs.Lists.{Lists, list_of}
 use Rattle.gui_pool.specs.Table.{Table, value_at}

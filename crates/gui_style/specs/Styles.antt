@@ -15,7 +15,7 @@ use Rattle.style_defs.specs.declared.Entry.{Entry}
 use Rattle.style_defs.specs.declared.Setting.{Setting}
 use Rattle.style_defs.specs.declared.Use.{Use}
 use Rattle.style_defs.specs.Cascade.{Style, is_numbered, has_style, sets, settings_of, of_entry, of_use}
-use Rattle.style_defs.specs.Cascade.{winning}
+use Rattle.style_defs.specs.Cascade.{selector_of, winning}
 use Rattle.style_defs.specs.Firsts.{first_by, put_by, drop_by}
 use Rattle.style_defs.specs.Words.{same_prop, same_selector}
 
@@ -53,14 +53,15 @@ module _ (s : Styles) (h : ℕ) (part : Part) (states : ℕ) (prop : Prop) where
 
 -- whether an entry sets the property for the selector
 abbrev pub is_for : Selector → Prop → Entry → Bool
-is_for selector prop entry = same_prop entry.prop prop && same_selector entry.selector selector
+is_for selector prop entry = same_prop entry.prop prop && same_selector (selector_of entry) selector
 
 -- whether two uses are the same
 abbrev pub is_use : Use → Use → Bool
 is_use u v = (v.style == u.style) && same_selector v.selector u.selector
 
 abbrev pub an_entry : Selector → Prop → ℤ → Entry
-an_entry selector prop value = record { selector = selector; prop = prop; value = value }
+an_entry selector prop value =
+    record { part = selector.part; prop = prop; states = selector.states; value = value }
 
 abbrev pub a_use : ℕ → Selector → Use
 a_use number selector = record { style = number; selector = selector }
@@ -158,8 +159,8 @@ set_local_answer s h selector prop =
 abbrev pub with_local : Styles → ℕ → Entry → Styles
 with_local s h entry =
     record s {
-      locals = slice_set s.locals h (put_by (is_for entry.selector entry.prop) entry (locals_of s h));
-      spare_entries = s.spare_entries - (if has_local s h entry.selector entry.prop then 0 else 1);
+      locals = slice_set s.locals h (put_by (is_for (selector_of entry) entry.prop) entry (locals_of s h));
+      spare_entries = s.spare_entries - (if has_local s h (selector_of entry) entry.prop then 0 else 1);
     }
 
 abbrev pub unset_local_answer : Styles → ℕ → Selector → Prop → Answer

@@ -27,9 +27,9 @@ pub(crate) fn stronger(best: Option<Candidate>, next: Candidate) -> Candidate
 pub(crate) fn given_by(entry: &Entry, part: Part, states: u16, prop: Prop) -> Option<Candidate>
     ensures { result ≡ of_entry part states prop entry.now }
 {
-    if entry.prop.number() == prop.number() && applies(entry.selector, part, states) {
+    if entry.prop.number() == prop.number() && applies(entry.selector(), part, states) {
         Some(Candidate {
-            states: entry.selector.states,
+            states: entry.states,
             value: entry.value,
         })
     } else {
@@ -48,7 +48,7 @@ fn same_selector(a: Selector, b: Selector) -> bool
 pub(crate) fn is_for(entry: &Entry, selector: Selector, prop: Prop) -> bool
     ensures { result ≡ is_for selector prop entry.now }
 {
-    entry.prop.number() == prop.number() && same_selector(entry.selector, selector)
+    entry.prop.number() == prop.number() && same_selector(entry.selector(), selector)
 }
 
 /// Whether two uses are the same.

@@ -40,7 +40,7 @@ const NO_SELECTOR: Selector = Selector {
 /// and how many more of each fit. Any handle and any number of a style may be given: what nothing was done to
 /// has no entries and uses no style.
 ///
-/// A style takes 20 to 24 bytes, an entry 32 to 36 and a use 28 to 32. Handles and numbers take no memory.
+/// A style takes 20 to 24 bytes, an entry 28 to 32 and a use 28 to 32. Handles and numbers take no memory.
 ///
 /// A call takes time by the number of entries or uses of the object or the style that it names, and a look-up
 /// by those of the object and of the styles that it uses. Others are passed over where they share a bucket.
@@ -79,8 +79,9 @@ fn entry_of(selector: Selector, prop: Prop, value: i32) -> Entry
     ensures { result ≡ an_entry selector prop value }
 {
     Entry {
-        selector,
+        part: selector.part,
         prop,
+        states: selector.states,
         value,
     }
 }
@@ -396,8 +397,8 @@ impl Styles {
         let mut best = None;
         let mut uses = self.uses.of(h.0 as u32);
         while let Some(used) = uses.next() {
-            if let Some(next) = self.shared_by(used, part, states, prop) {
-                best = Some(stronger(best, next));
+            if let Some(given) = self.shared_by(used, part, states, prop) {
+                best = Some(stronger(best, given));
             }
         }
         best
@@ -417,8 +418,8 @@ impl Styles {
         let mut best = shared;
         let mut entries = self.entries.of(h.0 as u32);
         while let Some(entry) = entries.next() {
-            if let Some(next) = given_by(entry, part, states, prop) {
-                best = Some(stronger(best, next));
+            if let Some(local) = given_by(entry, part, states, prop) {
+                best = Some(stronger(best, local));
             }
         }
         best

@@ -1,5 +1,5 @@
 -- The fold of a cascade finds its winner, and nothing else.
-use Rattle.std.proofs.Common.{◌≡◌, ◌⊎◌, ◌<◌, ◌≤◌, ℕ, ltb, List, [], ◌∷◌, ◌++◌, map, Option, Some, None, fold, inl, inr, refl, sym, ap, ◌∙◌, subst, arith}
+use Rattle.std.proofs.Common.{◌≡◌, ◌⊎◌, ◌<◌, ◌≤◌, ℕ, ltb, List, [], ◌∷◌, map, Option, Some, None, fold, inl, inr, refl, sym, ap, ◌∙◌, subst, arith}
 use Rattle.std.specs.List.{All}
 use Rattle.std.proofs.lemmas.Bool.{cases_Bool, ltb-true, ltb-false, lt-ltb, le-ltb}
 use Rattle.std.proofs.lemmas.List.{map-append}
@@ -12,7 +12,7 @@ use Rattle.style_defs.specs.declared.Candidate.{Candidate}
 use Rattle.style_defs.specs.declared.Entry.{Entry}
 use Rattle.style_defs.specs.declared.Use.{Use}
 use Rattle.style_defs.specs.Cascade.{Style, of_use, of_entry, stronger, winner}
-use Rattle.style_defs.specs.Laws.{IsAtMost, IsBelow, GivesGreatest, IsLocalWinner, IsSharedWinner, IsWinner, NoneApplies, WinnerIsGreatest, NoneWinsOfNone}
+use Rattle.style_defs.specs.Laws.{IsAtMost, IsBelow, GivesGreatest, IsWinner, NoneApplies, WinnerIsGreatest, NoneWinsOfNone}
 
 cases_given : (o : Option Candidate) → (o ≡ None) ⊎ ((d : Candidate) × (o ≡ Some d))
 cases_given None = inl refl

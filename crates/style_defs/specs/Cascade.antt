@@ -50,10 +50,15 @@ applies part states selector = same_part selector.part part && is_subset selecto
 abbrev pub candidate : Selector → ℤ → Candidate
 candidate selector value = record { states = selector.states; value = value }
 
+-- what a local entry is set for
+abbrev pub selector_of : Entry → Selector
+selector_of e = record { part = e.part; states = e.states }
+
 -- what a local entry gives a property of a part, for an object in these states
 abbrev pub of_entry : Part → ℕ → Prop → Entry → Option Candidate
 of_entry part states prop e =
-    if same_prop e.prop prop && applies part states e.selector then Some (candidate e.selector e.value)
+    if same_prop e.prop prop && applies part states (selector_of e) then
+    Some (candidate (selector_of e) e.value)
     else None
 
 -- the same of a style that is used

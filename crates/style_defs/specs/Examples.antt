@@ -25,7 +25,8 @@ abbrev uses_on : ℕ → Selector → Use
 uses_on number selector = record { style = number; selector = selector }
 
 abbrev local_opa : Selector → ℕ → Entry
-local_opa selector opa = record { selector = selector; prop = BgOpa; value = pos opa }
+local_opa selector opa =
+    record { part = selector.part; prop = BgOpa; states = selector.states; value = pos opa }
 
 -- the styles 1 and 2 set an opacity of 10 and 20
 abbrev two_styles : List Style

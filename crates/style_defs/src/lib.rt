@@ -2,6 +2,8 @@
 //! of an object, and which of those wins.
 #![tactic(auto)]
 
+ghost use Rattle.std.specs.Prelude.{◌≡◌};
+
 pub mod laws;
 pub mod words;
 
@@ -15,13 +17,29 @@ pub struct Setting {
     pub value: i32,
 }
 
-/// A property that is set locally, at an object.
+/// A property that is set locally, at an object. It takes 8 bytes.
 #[derive(Clone, Copy, Debug, Drop)]
 pub struct Entry {
-    pub selector: Selector,
+    pub part: Part,
     pub prop: Prop,
+    /// A bit for each state, as [`STATES`] says.
+    pub states: u16,
     /// In the range of the property.
     pub value: i32,
+}
+
+impl Entry {
+    ghost use Rattle.style_defs.specs.Cascade.{selector_of};
+
+    /// What the property is set for.
+    pub fn selector(&self) -> Selector
+        ensures { result ≡ selector_of self.now }
+    {
+        Selector {
+            part: self.part,
+            states: self.states,
+        }
+    }
 }
 
 /// A shared style that is added to an object.

@@ -1,4 +1,4 @@
-use Rattle.std.proofs.Common.{◌<◌, sym, ap, ◌∙◌, rules}
+use Rattle.std.proofs.Common.{◌<◌, ap, ◌∙◌, rules}
 use Rattle.gui_pool.specs.Lists.{cleared}
 use Rattle.gui_style.specs.Kept.{styles_of}
 use Rattle.gui_style.proofs.Views.{all_forgotten}

@@ -109,7 +109,8 @@ impl Styles {
         ensures spare_styles { IfOk result (λ s. s.spare_styles ≡ styles) }
         ensures spare_entries { IfOk result (λ s. s.spare_entries ≡ entries) }
         ensures spare_uses { IfOk result (λ s. s.spare_uses ≡ uses) }
-        ensures handles { IfOk result (λ s. (length s.locals ≡ 65536) × (length s.uses ≡ 65536)) }
+        ensures locals { IfOk result (λ s. length s.locals ≡ 65536) }
+        ensures uses { IfOk result (λ s. length s.uses ≡ 65536) }
     {
         let Ok(made) = Table::open(alloc, NUMBERS, styles) else {
             return Err(NoMemory);

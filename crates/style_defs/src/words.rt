@@ -40,11 +40,13 @@ pub enum Prop {
     BorderOpa,
     /// The width of the border, from 0 to 100. 0 where none is set.
     BorderWidth,
-    /// The space between the border and what is inside, from 0 to 1000, as the other three. 0 where none is
-    /// set.
+    /// The space between the upper border and what is inside, from 0 to 1000. 0 where none is set.
     PadTop,
+    /// The space above the lower border, from 0 to 1000. 0 where none is set.
     PadBottom,
+    /// The space after the left border, from 0 to 1000. 0 where none is set.
     PadLeft,
+    /// The space before the right border, from 0 to 1000. 0 where none is set.
     PadRight,
     /// The space between two rows of children, from 0 to 1000. 0 where none is set.
     PadRow,

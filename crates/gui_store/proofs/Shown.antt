@@ -1,8 +1,7 @@
 -- What a forest of handles shows with the rows of a table.
-use Rattle.std.proofs.Common.{◌≡◌, ◌<◌, ◌∙◌, sym, ap, ℕ, Bool, true, false, cond, if◌then◌else◌, List, ◌++◌, length, Option, Some, None, unwrap_or, refl, arith, inl, inr, eqb}
+use Rattle.std.proofs.Common.{◌≡◌, ◌<◌, ◌∙◌, sym, ℕ, Bool, true, false, cond, if◌then◌else◌, List, ◌++◌, length, Some, None, refl, arith, eqb}
 use Rattle.std.specs.List.{sum_by}
-use Rattle.std.proofs.lemmas.Bool.{both_ways}
-use Rattle.std.proofs.lemmas.Bool.Decides.{nat_tests, eqb_tells}
+use Rattle.std.proofs.lemmas.Bool.Decides.{nat_tests}
 use Rattle.std.proofs.lemmas.List.{get_or-set_same, get_or-set_other}
 use Rattle.std.proofs.lemmas.List.Sums.{sum_by-cons, sum_by-append}
 use Rattle.gui_base.specs.Forest.{Forest, Empty, Tree, all_by, map_forest, has, preorder, with_row_by}
@@ -12,7 +11,7 @@ use Rattle.gui_pool.specs.Table.{Table, value_inserted, value_replaced}
 use Rattle.gui_tree.specs.Handles.{numbers}
 use Rattle.scene_defs.specs.Scene.{Row as SceneRow, is_at, handles_of, row_by, entries_of}
 use Rattle.gui_store.specs.declared.row.Row.{Row}
-use Rattle.gui_store.specs.Rows.{blank, row_of, row_in, entries_in, rows_without}
+use Rattle.gui_store.specs.Rows.{row_of, row_in, entries_in, rows_without}
 use Rattle.gui_store.proofs.Rows.{times, without-other}
 
 abbrev pub shown : Table Row → Forest ℕ → Forest SceneRow
@@ -25,18 +24,12 @@ module _ (rows : Table Row) where
 
   pub shown-row : (f : Forest ℕ) (h : ℕ) → row_by (is_at h) (shown rows f) ≡ (if has f h then Some (row_in rows h) else None)
   shown-row Empty h = refl
-  shown-row (Tree k cs rest) h = elim (eqb_tells k h) [
-    | inl is ↦ rw is.0 (ap (λ (j : ℕ). Some (row_in rows j)) is.1)
-    | inr isnt ↦ rw (isnt.0, map-has_by (row_in rows) (is_at h) cs) (grind (arith, nat_tests, shown-row cs h, shown-row rest h))
-  ]
+  shown-row (Tree k cs rest) h = grind (arith, nat_tests, map-has_by (row_in rows) (is_at h) cs, shown-row cs h, shown-row rest h)
 
   -- a test that each row passes
   pub shown-all : (P : SceneRow → Bool) (f : Forest ℕ) (h : ℕ) → all_by P (shown rows f) ≡ true → has f h ≡ true → P (row_in rows h) ≡ true
   shown-all P Empty h a i = cc
-  shown-all P (Tree k cs rest) h a i = elim (eqb_tells k h) [
-    | inl is ↦ ap (λ (j : ℕ). P (row_in rows j)) (sym is.1) ∙ grind (arith, a)
-    | inr isnt ↦ grind (arith, nat_tests, a, i, isnt.0, shown-all P cs h, shown-all P rest h)
-  ]
+  shown-all P (Tree k cs rest) h a i = grind (arith, nat_tests, a, i, shown-all P cs h, shown-all P rest h)
 
   -- the entries of listed handles
   pub sum-preorder : (f : Forest ℕ) → sum_by (entries_in rows) (preorder f) ≡ entries_of (shown rows f)
@@ -48,18 +41,14 @@ module _ (rows : Table Row) where
 
   -- a row that is written where no handle of the forest reads it
   pub shown-aside : (f : Forest ℕ) (h : ℕ) (row : Row) → has f h ≡ false → shown (value_inserted rows h row) f ≡ shown rows f
-  shown-aside f h row off =
-      map-agree (row_in (value_inserted rows h row)) (row_in rows) f (λ k on. ap (λ (o : Option Row). row_of k (unwrap_or o blank)) (get_or-set_other rows.values h k (Some row) None (λ same. both_ways _ off (ap (has f) (sym same) ∙ on))))
+  shown-aside f h row off = map-agree _ _ f (λ k on. grind (arith, off, on, get_or-set_other rows.values h k (Some row) None))
 
   -- rows that are taken out of handles that are not in the forest
   pub shown-without : (f : Forest ℕ) (hs : List Handle) → ((k : ℕ) → has f k ≡ true → times (numbers hs) k ≡ 0) → shown (rows_without rows hs) f ≡ shown rows f
-  shown-without f hs none = map-agree (row_in (rows_without rows hs)) (row_in rows) f (λ k on. ap (λ (o : Option Row). row_of k (unwrap_or o blank)) (without-other rows hs k (none k on)))
+  shown-without f hs none = map-agree _ _ f (λ k on. grind (arith, without-other rows hs k (none k on)))
 
   -- another row at h
   pub shown-set : (f : Forest ℕ) (h : ℕ) (row : Row) (set : SceneRow → SceneRow) → h < length rows.values → row_of h row ≡ set (row_in rows h) → shown (value_replaced rows h row) f ≡ with_row_by (is_at h) set (shown rows f)
   shown-set f h row set within e =
-      map-agree (row_in (value_replaced rows h row)) (λ k. cond (eqb k h) (set (row_in rows k)) (row_in rows k)) f (λ k on. elim (eqb_tells k h) [
-        | inl is ↦ rw is.0 (ap (row_in (value_replaced rows h row)) is.1 ∙ ap (λ (o : Option Row). row_of h (unwrap_or o blank)) (get_or-set_same rows.values h (Some row) None within) ∙ e ∙ ap (λ (j : ℕ). set (row_in rows j)) (sym is.1))
-        | inr isnt ↦ rw isnt.0 (ap (λ (o : Option Row). row_of k (unwrap_or o blank)) (get_or-set_other rows.values h k (Some row) None isnt.1))
-      ])
+      map-agree _ (λ k. cond (eqb k h) (set (row_in rows k)) (row_in rows k)) f (λ k on. grind (arith, nat_tests, e, get_or-set_same rows.values h (Some row) None within, get_or-set_other rows.values h k (Some row) None))
       ∙ sym (map-set (row_in rows) set h (is_at h) (λ k. refl) f)

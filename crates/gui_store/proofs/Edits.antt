@@ -1,5 +1,5 @@
 -- The parts of a store after each change that is done.
-use Rattle.std.proofs.Common.{◌≡◌, ◌<◌, ◌≤◌, ◌⊎◌, ◌∙◌, sym, ap, subst, ℕ, zero, suc, ◌+◌, ◌-◌, Bool, true, false, length, slice_set, List, Option, Some, None, option_map, is_some, ◌||◌, refl, arith, length-set, nat_lt, nat_le, nat_eq, ◌&&◌, eqb-true, unwrap_or, not, ◌++◌, inl, inr, [], ◌∷◌, cond, eqb}
+use Rattle.std.proofs.Common.{◌≡◌, ◌<◌, ◌≤◌, ◌∙◌, sym, ap, subst, ℕ, zero, suc, ◌+◌, ◌-◌, Bool, true, false, length, slice_set, List, Option, Some, None, option_map, refl, arith, length-set, nat_lt, nat_eq, eqb-true, ◌++◌, [], ◌∷◌, cond, eqb}
 use Rattle.std.specs.List.{sum_by}
 use Rattle.std.specs.Prelude.{if◌then◌else◌}
 use Rattle.std.proofs.lemmas.Bool.Decides.{nat_tests}
@@ -7,40 +7,39 @@ use Rattle.std.proofs.lemmas.List.{get_or-set_same}
 use Rattle.std.proofs.lemmas.List.Sums.{sum_by-cons}
 use Rattle.gui_base.specs.declared.pools.TheConstants.{POOLS}
 use Rattle.gui_base.specs.declared.Handle.{Handle}
-use Rattle.gui_base.specs.declared.limits.Pool.{Pool}
 use Rattle.gui_base.specs.declared.limits.Pool.TheVariants.{Objects, Entries}
 use Rattle.gui_base.specs.declared.refusal.Refusal.{Refusal}
 use Rattle.gui_base.specs.declared.refusal.Refusal.TheVariants.{Full}
 use Rattle.gui_base.specs.declared.refusal.Refusal.TheVariants as refusal
 use Rattle.gui_base.specs.declared.words.Kind.{Kind}
 use Rattle.gui_base.specs.declared.words.Kind.TheVariants.{Screen, Layer}
-use Rattle.gui_base.specs.Forest.{Forest, Empty, Tree, and_then, leaf, put_at, has, size, count, preorder, moved_last, cut, cut_by, tree_at, parent_of, with_children_by}
+use Rattle.gui_base.specs.Forest.{Forest, Empty, Tree, and_then, leaf, put_at, has, size, count, preorder, cut, cut_by, tree_at, parent_of, with_children_by}
 use Rattle.gui_base.specs.Limits.{Bounds}
 use Rattle.gui_base.specs.Refusing.{first_of, result_of, root_tests, child_tests, removal_tests, move_tests, parent_tests, Place}
 use Rattle.gui_base.proofs.Forests.{map-and_then, map-size, map-cut_by, map-tree_by, map-parent_by, map-added_by, map-moved_by, map-moved_last_by}
 use Rattle.gui_base.proofs.Visits.{count-has}
 use Rattle.gui_pool.specs.Table.{Table, value_at, value_inserted, value_replaced}
 use Rattle.gui_tree.specs.Handles.{numbers}
-use Rattle.gui_tree.specs.Trees.{Trees, opened, add_root_answer, add_answer, remove_answer, move_answer, set_parent_answer, with_root, with_child, at_index, below, moved_below, without as without_tree}
+use Rattle.gui_tree.specs.Trees.{full_answer, Trees, opened, add_root_answer, add_answer, remove_answer, move_answer, set_parent_answer, with_root, with_child, at_index, below, moved_below, without as without_tree}
 use Rattle.scene_defs.specs.declared.Change.{Change}
 use Rattle.scene_defs.specs.declared.Change.TheVariants as change
-use Rattle.scene_defs.specs.Scene.{Row as SceneRow, Scene, is_at, handles_of, entry_count, entries_of, new_row, first_scene}
-use Rattle.scene_defs.specs.Change.{is_screen_kind, answer_in_range, tests, first_short, scene_after, tree_below, parent_row, at_index_below, last_below, row_after, row_set, lacks, need_of, freed_by}
+use Rattle.scene_defs.specs.Scene.{is_there, Row as SceneRow, Scene, is_at, handles_of, entry_count, entries_of, new_row, first_scene}
+use Rattle.scene_defs.specs.Change.{is_screen_kind, answer_in_range, tests, first_short, scene_after, tree_below, parent_row, at_index_below, last_below, row_after, row_set, need_of, freed_by}
 use Rattle.scene_defs.specs.Valid.{IsValid, is_root_at}
 use Rattle.scene_defs.proofs.Changes.{tests-fail, room_in_range, none_short, one_short, first-then, first-some, sets_row_alone}
-use Rattle.scene_defs.proofs.Totals.{total, total-cut, total-parts, total-row, one, one_at, size-total, entries-total, count-total}
+use Rattle.scene_defs.proofs.Totals.{total, total-cut, total-parts, total-row, one, one_at, size-total, entries-total}
 use Rattle.scene_defs.proofs.Handles.{has-handles}
 use Rattle.scene_defs.proofs.RowKinds.{root_there}
 use Rattle.scene_defs.proofs.Distinct.{distinct_once}
 use Rattle.scene_defs.proofs.Validity.{added_sum, removed_sum, first_is_valid, needs, set_slots, set_sums, set_only}
 use Rattle.gui_store.specs.declared.row.Row.{Row}
-use Rattle.gui_store.specs.Rows.{blank, row_of, row_in, entries_in, HaveRows, rows_without}
+use Rattle.gui_store.specs.Rows.{row_of, row_in, entries_in, HaveRows, rows_without}
 use Rattle.gui_store.specs.Removed.{removed_after}
 use Rattle.gui_store.specs.Parts.{Parts, scene_in, AreKept}
 use Rattle.gui_store.proofs.Rows.{row_count, times, times-preorder, length-preorder, value-set, inserted-count, replaced-count, have-rows, without-count, without-spare, without-handles}
-use Rattle.gui_store.proofs.Shown.{shown, shown-handles, shown-aside, shown-set, shown-without, sum-preorder}
+use Rattle.gui_store.proofs.Shown.{shown, shown-handles, shown-count, shown-aside, shown-set, shown-without, sum-preorder}
 use Rattle.gui_store.proofs.RowTests.{passed_there}
-use Rattle.gui_store.proofs.Kept.{there-is, size-is, row-is, read-at, within, vacant, counted, growth-answer, edit-answer, Fine}
+use Rattle.gui_store.proofs.Kept.{there-is, size-is, row-is, read-at, within, vacant, counted, tree-answer, Fine}
 
 -- With an index past the last tree, it is put last.
 put_at-last : {A : Type 0} (n : ℕ) (t f : Forest A) → size f ≤ n → put_at n t f ≡ and_then f t
@@ -63,45 +62,30 @@ sum-numbers f [] = refl
 sum-numbers f (h ∷ hs) = let a = sum_by-cons (λ (x : Handle). f x.0) h hs in let b = sum_by-cons f h.0 (numbers hs) in omega (arith, a, b, sum-numbers f hs)
 
 module _ (p : Parts) (k : AreKept p) where
-  -- the row of a new object
-  written : (n : ℕ) (row : Row) (kind : Kind) → n < length p.rows.values → row_of n row ≡ new_row n kind → row_in (value_inserted p.rows n row) n ≡ new_row n kind
-  written n row kind within is = ap (λ (o : Option Row). row_of n (unwrap_or o blank)) (get_or-set_same p.rows.values n (Some row) None within) ∙ is
-
-  -- a slot is left where one is taken
-  one_left : (change : Change) → need_of (scene_in p) change Objects ≡ 1 → answer_in_range (scene_in p) change ≡ None → 1 ≤ p.tree.spare
-  one_left change one e = let a = room_in_range (scene_in p) change Objects e in omega (arith, one, size-is p, k.objects)
-
   -- what each edit of the tree answers
   pub screen-answer : (n : Handle) → result_of (answer_in_range (scene_in p) (change.Screen n)) ≡ add_root_answer p.tree n.0
-  screen-answer n = growth-answer p k (change.Screen n) (λ f. root_tests f n.0) refl refl objects where
-    objects : (q : Pool) → (q ≡ Objects) ⊎ (need_of (scene_in p) (change.Screen n) q ≡ 0)
-    objects Objects = inl refl
-    objects q = inr refl
+  screen-answer n = tree-answer p k (change.Screen n) (λ f. root_tests f n.0) (full_answer p.tree) refl refl (grind (arith, nat_tests))
 
   pub object-answer : (n q : Handle) (kind : Kind) → result_of (answer_in_range (scene_in p) (change.New n q kind)) ≡ add_answer p.tree n.0 q.0
-  object-answer n q kind = growth-answer p k (change.New n q kind) (λ f. child_tests f n.0 q.0) refl refl objects where
-    objects : (r : Pool) → (r ≡ Objects) ⊎ (need_of (scene_in p) (change.New n q kind) r ≡ 0)
-    objects Objects = inl refl
-    objects r = inr refl
+  object-answer n q kind = tree-answer p k (change.New n q kind) (λ f. child_tests f n.0 q.0) (full_answer p.tree) refl refl (grind (arith, nat_tests))
 
-  pub delete-answer : (h : Handle) → nat_eq h.0 p.active ≡ false → result_of (answer_in_range (scene_in p) (change.Delete h)) ≡ remove_answer p.tree h.0
-  delete-answer h other = edit-answer p k (change.Delete h) (λ f. removal_tests f h.0 ++ (nat_eq h.0 p.active, Place) ∷ []) refl (λ q. refl) ∙ rw other refl
+  pub delete-answer : (h : Handle) → nat_eq h.0 p.active ≡ false →
+      result_of (answer_in_range (scene_in p) (change.Delete h)) ≡ remove_answer p.tree h.0
+  delete-answer h other =
+      tree-answer p k (change.Delete h) (λ f. removal_tests f h.0 ++ (nat_eq h.0 p.active, Place) ∷ []) None refl refl (grind (arith, nat_tests))
+      ∙ rw other refl
 
   pub delete-active : (h : Handle) → nat_eq h.0 p.active ≡ true → answer_in_range (scene_in p) (change.Delete h) ≡ Some refusal.Place
   delete-active h same =
-      let active : h.0 ≡ p.active = eqb-true _ _ same in
-      let on : has (handles_of (scene_in p).trees) h.0 ≡ true = has-handles (scene_in p).trees h.0 ∙ root_there (scene_in p).trees h.0 (ap (is_root_at (scene_in p).trees) active ∙ k.valid.trees.active) in
-      rw (on, same) (either (nat_le 1 h.0 && nat_le h.0 3))
-    where
-      either : (b : Bool) → (if b then Some refusal.Place else Some refusal.Place) ≡ Some refusal.Place
-      either true = refl
-      either false = refl
+      let root = ap (is_root_at (scene_in p).trees) (eqb-true _ _ same) ∙ k.valid.trees.active in
+      let on = has-handles (scene_in p).trees h.0 ∙ root_there (scene_in p).trees h.0 root in rw (on, same) (grind arith)
 
-  pub move-answer : (change : Change) (h : ℕ) → tests (scene_in p) change ≡ move_tests (handles_of (scene_in p).trees) h → ((q : Pool) → need_of (scene_in p) change q ≡ 0) → result_of (answer_in_range (scene_in p) change) ≡ move_answer p.tree h
-  move-answer change h e none = edit-answer p k change (λ f. move_tests f h) e none
+  pub move-answer : (change : Change) (h : ℕ) → tests (scene_in p) change ≡ move_tests (handles_of (scene_in p).trees) h →
+      row_set change ≡ None → need_of (scene_in p) change Objects ≡ 0 → result_of (answer_in_range (scene_in p) change) ≡ move_answer p.tree h
+  move-answer change h e set none = tree-answer p k change (λ f. move_tests f h) None set e (grind (arith, nat_tests, none))
 
   pub parent-answer : (h q : Handle) → result_of (answer_in_range (scene_in p) (change.Parent h q)) ≡ set_parent_answer p.tree h.0 q.0
-  parent-answer h q = edit-answer p k (change.Parent h q) (λ f. parent_tests f h.0 q.0) refl (λ q. refl)
+  parent-answer h q = tree-answer p k (change.Parent h q) (λ f. parent_tests f h.0 q.0) None refl refl (grind (arith, nat_tests))
 
   pub load-absent : (h : Handle) → has p.tree.forest h.0 ≡ false → answer_in_range (scene_in p) (change.Load h) ≡ Some refusal.Unknown
   load-absent h off = rw (there-is p h.0 ∙ off) refl
@@ -109,62 +93,52 @@ module _ (p : Parts) (k : AreKept p) where
   pub load-answer : (h : Handle) (b : Bool) → has p.tree.forest h.0 ≡ true → is_screen_kind (row_in p.rows h.0).kind ≡ b → answer_in_range (scene_in p) (change.Load h) ≡ (if b then None else Some refusal.Kind)
   load-answer h b on is =
       let none = none_short (scene_in p) (change.Load h) POOLS (λ q. refl) in
-      rw (there-is p h.0 ∙ on, row-is p h.0 on, is) (by b none)
-    where
-      by : (b : Bool) → first_short (scene_in p) (change.Load h) POOLS ≡ None → (if not b then Some refusal.Kind else option_map Full (first_short (scene_in p) (change.Load h) POOLS)) ≡ (if b then None else Some refusal.Kind)
-      by true none = rw none refl
-      by false none = refl
+      rw (there-is p h.0 ∙ on, row-is p h.0 on, is) (grind (arith, none))
 
-  -- a handle that may be given a row
-  record IsVacant (n : ℕ) : Type 0 where
-    pub off : has p.tree.forest n ≡ false
-    pub within : n < length p.rows.values
-    pub vacant : value_at p.rows n ≡ None
+  with_trees : {f g : Forest SceneRow} → f ≡ g → record (scene_in p) { trees = f } ≡ record (scene_in p) { trees = g }
+  with_trees e = ap (λ (t : Forest SceneRow). record (scene_in p) { trees = t }) e
 
-  is_vacant : (n : ℕ) → n < 10000 → has p.tree.forest n ≡ false → IsVacant n
-  is_vacant n fits off = record { off = off; within = omega (arith, fits, k.handles); vacant = vacant p k n off }
+  -- one object more, whose handle may be given a row
+  grown_by : (change : Change) (n : ℕ) (row : Row) (kind : Kind) (g : Forest ℕ) → answer_in_range (scene_in p) change ≡ None →
+      n < 10000 → row_of n row ≡ new_row n kind → is_there (scene_in p) n ≡ false →
+      ((rows : Table Row) → shown rows p.tree.forest ≡ (scene_in p).trees → row_in rows n ≡ new_row n kind →
+      record (scene_in p) { trees = shown rows g } ≡ scene_after (scene_in p) change) →
+      ((w : SceneRow → ℕ) → added_sum (scene_in p) change w ≡ w (new_row n kind) + removed_sum (scene_in p) change w) →
+      need_of (scene_in p) change Objects ≡ freed_by (scene_in p) change Objects + 1 →
+      need_of (scene_in p) change Entries ≡ freed_by (scene_in p) change Entries →
+      p.tree.removed ≡ removed_after p.tree.removed (scene_in p) change →
+      Fine p change (record p { tree = record p.tree { forest = g; spare = p.tree.spare - 1 }; rows = value_inserted p.rows n row })
+  grown_by change n row kind g e fits is absent shows sums objects entries removed =
+      let off = sym (there-is p n) ∙ absent in
+      let within : n < length p.rows.values = omega (arith, fits, k.handles) in
+      let new : row_in (value_inserted p.rows n row) n ≡ new_row n kind = grind (arith, is, get_or-set_same p.rows.values n (Some row) None within) in
+      record {
+        shows = shows (value_inserted p.rows n row) (shown-aside p.rows p.tree.forest n row off) new;
+        handles = length-set p.rows.values n (Some row) ∙ k.handles;
+        rows = λ h. omega (arith, sums (one_at h), inserted-count p.rows n h row within (vacant p k n off));
+        room = omega (arith, k.room);
+        slots = omega (arith, objects, room_in_range (scene_in p) change Objects e, size-is p, k.objects);
+        entries = omega (arith, entries);
+        removed = removed;
+      }
 
-  screen-vacant : (n : Handle) → n.0 < 10000 → answer_in_range (scene_in p) (change.Screen n) ≡ None → IsVacant n.0
-  screen-vacant n fits e =
-      let t = tests-fail (tests (scene_in p) (change.Screen n)) (first_short (scene_in p) (change.Screen n) POOLS) e in
-      is_vacant n.0 fits (sym (there-is p n.0) ∙ t.0)
-
-  object-vacant : (n q : Handle) (kind : Kind) → n.0 < 10000 → answer_in_range (scene_in p) (change.New n q kind) ≡ None → IsVacant n.0
-  object-vacant n q kind fits e =
-      let t = tests-fail (tests (scene_in p) (change.New n q kind)) (first_short (scene_in p) (change.New n q kind) POOLS) e in
-      is_vacant n.0 fits (sym (there-is p n.0) ∙ t.1.0)
-
-  pub fine-screen : (n : Handle) (row : Row) → n.0 < 10000 → row_of n.0 row ≡ new_row n.0 Screen → answer_in_range (scene_in p) (change.Screen n) ≡ None → Fine p (change.Screen n) (record p { tree = with_root p.tree n.0; rows = value_inserted p.rows n.0 row })
+  pub fine-screen : (n : Handle) (row : Row) → n.0 < 10000 → row_of n.0 row ≡ new_row n.0 Screen →
+      answer_in_range (scene_in p) (change.Screen n) ≡ None →
+      Fine p (change.Screen n) (record p { tree = with_root p.tree n.0; rows = value_inserted p.rows n.0 row })
   fine-screen n row fits is e =
-      let f = p.tree.forest in
-      let rows = value_inserted p.rows n.0 row in
-      let v = screen-vacant n fits e in
-      let left = one_left (change.Screen n) refl e in
-      record {
-        shows = ap (λ (t : Forest SceneRow). record (scene_in p) { trees = t }) (map-and_then (row_in rows) f (leaf n.0) ∙ rw (shown-aside p.rows f n.0 row v.off, written n.0 row Screen v.within is) refl);
-        handles = length-set p.rows.values n.0 (Some row) ∙ k.handles;
-        rows = λ h. omega (arith, inserted-count p.rows n.0 h row v.within v.vacant);
-        room = omega (arith, k.room);
-        slots = omega (arith, left);
-        entries = omega arith;
-        removed = refl;
-      }
+      let t = tests-fail (tests (scene_in p) (change.Screen n)) (first_short (scene_in p) (change.Screen n) POOLS) e in
+      let shows = λ (rows : Table Row). map-and_then (row_in rows) p.tree.forest (leaf n.0) in
+      grown_by (change.Screen n) n.0 row Screen (with_root p.tree n.0).forest e fits is t.0
+      (λ rows same new. rw (shows rows, same, new) refl) (λ w. omega arith) refl refl refl
 
-  pub fine-object : (n q : Handle) (kind : Kind) (row : Row) → n.0 < 10000 → row_of n.0 row ≡ new_row n.0 kind → answer_in_range (scene_in p) (change.New n q kind) ≡ None → Fine p (change.New n q kind) (record p { tree = with_child p.tree q.0 n.0; rows = value_inserted p.rows n.0 row })
+  pub fine-object : (n q : Handle) (kind : Kind) (row : Row) → n.0 < 10000 → row_of n.0 row ≡ new_row n.0 kind →
+      answer_in_range (scene_in p) (change.New n q kind) ≡ None →
+      Fine p (change.New n q kind) (record p { tree = with_child p.tree q.0 n.0; rows = value_inserted p.rows n.0 row })
   fine-object n q kind row fits is e =
-      let f = p.tree.forest in
-      let rows = value_inserted p.rows n.0 row in
-      let v = object-vacant n q kind fits e in
-      let left = one_left (change.New n q kind) refl e in
-      record {
-        shows = ap (λ (t : Forest SceneRow). record (scene_in p) { trees = t }) (map-added_by (row_in rows) (is_at q.0) (is_at q.0) n.0 f ∙ rw (shown-aside p.rows f n.0 row v.off, written n.0 row kind v.within is) refl);
-        handles = length-set p.rows.values n.0 (Some row) ∙ k.handles;
-        rows = λ h. omega (arith, inserted-count p.rows n.0 h row v.within v.vacant);
-        room = omega (arith, k.room);
-        slots = omega (arith, left);
-        entries = omega arith;
-        removed = refl;
-      }
+      let t = tests-fail (tests (scene_in p) (change.New n q kind)) (first_short (scene_in p) (change.New n q kind) POOLS) e in
+      let shows = λ (rows : Table Row). map-added_by (row_in rows) (is_at q.0) (is_at q.0) n.0 p.tree.forest in
+      grown_by (change.New n q kind) n.0 row kind (with_child p.tree q.0 n.0).forest e fits is t.1.0
+      (λ rows same new. rw (shows rows, same, new) refl) (λ w. omega arith) refl refl refl
 
   tree-is : (h : ℕ) → shown p.rows (tree_at p.tree.forest h) ≡ tree_below (scene_in p) h
   tree-is h = map-tree_by (row_in p.rows) (is_at h) p.tree.forest
@@ -184,42 +158,25 @@ module _ (p : Parts) (k : AreKept p) where
     listed-sum = sum-numbers (entries_in p.rows) hs ∙ ap (sum_by (entries_in p.rows)) listed ∙ freed-is h.0
 
     listed-times : (j : ℕ) → times (numbers hs) j ≡ total (one_at j) (tree_below (scene_in p) h.0)
-    listed-times j =
-        ap (λ (xs : List ℕ). times xs j) listed ∙ times-preorder (tree_at p.tree.forest h.0) j
-        ∙ ap (λ (f : Forest ℕ). count f j) (sym (shown-handles p.rows (tree_at p.tree.forest h.0)))
-        ∙ count-total (shown p.rows (tree_at p.tree.forest h.0)) j ∙ ap (total (one_at j)) (tree-is h.0)
+    listed-times j = rw (listed, times-preorder (tree_at p.tree.forest h.0) j, ← tree-is h.0) (shown-count p.rows (tree_at p.tree.forest h.0) j)
 
     -- those that are left and those that are listed
     parts : (j : ℕ) → count (cut p.tree.forest h.0) j + times (numbers hs) j ≡ row_count p.rows j
     parts j =
-        let left = ap (λ (f : Forest ℕ). count f j) (shown-handles p.rows (cut p.tree.forest h.0)) in
         let cut-is = ap (total (one_at j)) (map-cut_by (row_in p.rows) (is_at h.0) p.tree.forest) in
-        let all = ap (λ (f : Forest ℕ). count f j) (shown-handles p.rows p.tree.forest) in
-        omega (
-          arith,
-          left,
-          cut-is,
-          all,
-          count-total (shown p.rows (cut p.tree.forest h.0)) j,
-          count-total (scene_in p).trees j,
-          total-parts (one_at j) (scene_in p).trees h.0 (distinct_once (scene_in p).trees k.valid.trees.once),
-          listed-times j,
-          counted p k j,
-        )
+        let all = total-parts (one_at j) (scene_in p).trees h.0 (distinct_once (scene_in p).trees k.valid.trees.once) in
+        omega (arith, cut-is, all, shown-count p.rows (cut p.tree.forest h.0) j, shown-count p.rows p.tree.forest j, listed-times j, counted p k j)
 
     pub listed-rows : HaveRows p.rows hs
-    listed-rows = have-rows p.rows hs (λ j. let a = parts j in omega arith)
+    listed-rows = have-rows p.rows hs (λ j. omega (arith, parts j))
 
     -- what is left has its rows
     aside : (j : ℕ) → has (cut p.tree.forest h.0) j ≡ true → times (numbers hs) j ≡ 0
-    aside j on = let a = told (value_at p.rows j) in omega (arith, parts j, count-has (cut p.tree.forest h.0) j on, a) where
-      told : (o : Option Row) → cond (is_some o) 1 0 ≤ 1
-      told None = omega arith
-      told (Some row) = omega arith
+    aside j on = grind (arith, nat_tests, parts j, count-has (cut p.tree.forest h.0) j on)
 
     pub fine-delete : (n : ℕ) → n ≡ entries_of (tree_below (scene_in p) h.0) → Fine p (change.Delete h) (record p { tree = without_tree p.tree h.0; rows = rows_without p.rows hs; entries = p.entries - n })
     fine-delete n is = record {
-      shows = ap (λ (t : Forest SceneRow). record (scene_in p) { trees = t }) (shown-without p.rows (cut p.tree.forest h.0) hs aside ∙ map-cut_by (row_in p.rows) (is_at h.0) p.tree.forest);
+      shows = with_trees (shown-without p.rows (cut p.tree.forest h.0) hs aside ∙ map-cut_by (row_in p.rows) (is_at h.0) p.tree.forest);
       handles = without-handles p.rows hs ∙ k.handles;
       rows = λ j. omega (arith, without-count p.rows hs j listed-rows, listed-times j);
       room = let a = ap (λ (xs : List ℕ). length xs) listed in omega (arith, without-spare p.rows hs, a, length-preorder (tree_at p.tree.forest h.0), k.room);
@@ -234,8 +191,8 @@ module _ (p : Parts) (k : AreKept p) where
 
   pub fine-parent : (h q : Handle) → Fine p (change.Parent h q) (record p { tree = below p.tree h.0 q.0 })
   fine-parent h q =
-      moved (change.Parent h q) (moved_last p.tree.forest h.0 q.0)
-      (ap (λ (t : Forest SceneRow). record (scene_in p) { trees = t }) (map-moved_last_by (row_in p.rows) (is_at h.0) (is_at q.0) p.tree.forest)) (λ w. refl) refl refl refl
+      let shows = map-moved_last_by (row_in p.rows) (is_at h.0) (is_at q.0) p.tree.forest in
+      moved (change.Parent h q) (below p.tree h.0 q.0).forest (with_trees shows) (λ w. refl) refl refl refl
 
   -- a tree that goes to an index below the same parent
   index-shows : (h n : ℕ) → shown p.rows (moved_below (parent_of p.tree.forest h) p.tree.forest h n) ≡ at_index_below (parent_row (scene_in p) h) (scene_in p).trees h n
@@ -245,12 +202,10 @@ module _ (p : Parts) (k : AreKept p) where
     by (Some q) = map-moved_by (row_in p.rows) (is_at h) (is_at q) n p.tree.forest
 
   pub fine-index : (h : Handle) (n : ℕ) → Fine p (change.Index h n) (record p { tree = at_index p.tree h.0 n })
-  fine-index h n =
-      moved (change.Index h n) (moved_below (parent_of p.tree.forest h.0) p.tree.forest h.0 n) (ap (λ (t : Forest SceneRow). record (scene_in p) { trees = t }) (index-shows h.0 n)) (λ w. refl) refl refl refl
+  fine-index h n = moved (change.Index h n) (at_index p.tree h.0 n).forest (with_trees (index-shows h.0 n)) (λ w. refl) refl refl refl
 
   pub fine-back : (h : Handle) → Fine p (change.Back h) (record p { tree = at_index p.tree h.0 0 })
-  fine-back h =
-      moved (change.Back h) (moved_below (parent_of p.tree.forest h.0) p.tree.forest h.0 0) (ap (λ (t : Forest SceneRow). record (scene_in p) { trees = t }) (index-shows h.0 0)) (λ w. refl) refl refl refl
+  fine-back h = moved (change.Back h) (at_index p.tree h.0 0).forest (with_trees (index-shows h.0 0)) (λ w. refl) refl refl refl
 
   -- an index past so many is the last
   last-shows : (h n : ℕ) → p.limits.objects ≤ n → (o : Option SceneRow) → at_index_below o (scene_in p).trees h n ≡ last_below o (scene_in p).trees h
@@ -262,8 +217,8 @@ module _ (p : Parts) (k : AreKept p) where
 
   pub fine-front : (h : Handle) (n : ℕ) → p.limits.objects ≤ n → Fine p (change.Front h) (record p { tree = at_index p.tree h.0 n })
   fine-front h n few =
-      moved (change.Front h) (moved_below (parent_of p.tree.forest h.0) p.tree.forest h.0 n)
-      (ap (λ (t : Forest SceneRow). record (scene_in p) { trees = t }) (index-shows h.0 n ∙ last-shows h.0 n few (parent_row (scene_in p) h.0))) (λ w. refl) refl refl refl
+      let shows = index-shows h.0 n ∙ last-shows h.0 n few (parent_row (scene_in p) h.0) in
+      moved (change.Front h) (at_index p.tree h.0 n).forest (with_trees shows) (λ w. refl) refl refl refl
 
   pub fine-load : (h : Handle) → Fine p (change.Load h) (record p { active = h.0 })
   fine-load h = record { shows = refl; handles = k.handles; rows = λ j. omega arith; room = k.room; slots = refl; entries = omega arith; removed = refl }
@@ -303,7 +258,7 @@ module _ (p : Parts) (k : AreKept p) where
         let slots = set_slots (scene_in p) change h r.set in
         record {
           shows =
-              ap (λ (t : Forest SceneRow). record (scene_in p) { trees = t }) (shown-set p.rows p.tree.forest h.0 row (row_after change) (within p k h.0 r.on) r.is)
+              with_trees (shown-set p.rows p.tree.forest h.0 row (row_after change) (within p k h.0 r.on) r.is)
               ∙ sym (sets_row_alone (scene_in p) change h r.set);
           handles = length-set p.rows.values h.0 (Some row) ∙ k.handles;
           rows = λ j. let sums = set_sums (scene_in p) change h (one_at j) r.set in omega (arith, sums.0, sums.1, replaced-count p.rows h.0 j row (k.rows h.0 ∙ r.on));
@@ -318,18 +273,9 @@ module _ (p : Parts) (k : AreKept p) where
     pub row-answer : (b : Bool) → nat_lt p.limits.entries n ≡ b → answer_in_range (scene_in p) change ≡ (if b then Some (Full Entries) else None)
     row-answer b over =
         let a = needs (scene_in p) change h (row_in p.rows h.0) r.set (row-is p h.0 r.on) in
-        let c = ap entry_count r.is in
-        let d = r.count in
-        let e = k.entries in
-        let f = k.valid.pools.entries in
-        let short : lacks (scene_in p) Entries (need_of (scene_in p) change Entries) ≡ b = grind (arith, nat_tests) in
+        let short = one_short (scene_in p) change Entries (set_only (scene_in p) change h r.set) in
         first-then (tests (scene_in p) change) (option_map Full (first_short (scene_in p) change POOLS)) r.passed
-        ∙ ap (option_map Full) (one_short (scene_in p) change Entries (set_only (scene_in p) change h r.set) ∙ ap (λ (t : Bool). if t then Some Entries else None) short)
-        ∙ full b
-      where
-        full : (b : Bool) → option_map Full (if b then Some Entries else None) ≡ (if b then Some (Full Entries) else None)
-        full true = refl
-        full false = refl
+        ∙ grind (arith, nat_tests, over, short, a, ap entry_count r.is, r.count, k.entries, k.valid.pools.entries)
 
   pub row-refused : (change : Change) (x : Refusal) → first_of (tests (scene_in p) change) None ≡ Some x → answer_in_range (scene_in p) change ≡ Some x
   row-refused change x e = first-some (tests (scene_in p) change) (option_map Full (first_short (scene_in p) change POOLS)) x e
@@ -346,27 +292,19 @@ module _ (tree : Trees) (limits : Bounds) (room : 3 ≤ limits.objects) (new : t
   first-value h =
       let one = length-set t.values 1 (Some a) in
       let two = length-set (slice_set t.values 1 (Some a)) 2 (Some b) in
-      value-set (slice_set (slice_set t.values 1 (Some a)) 2 (Some b)) 3 h (Some c) (omega (arith, keys, one, two))
-      ∙ ap (λ (o : Option Row). cond (eqb 3 h) (Some c) o) (value-set (slice_set t.values 1 (Some a)) 2 h (Some b) (omega (arith, keys, one))
-      ∙ ap (λ (o : Option Row). cond (eqb 2 h) (Some b) o) (value-set t.values 1 h (Some a) (omega (arith, keys)) ∙ ap (λ (o : Option Row). cond (eqb 1 h) (Some a) o) (empty h)))
-
-  row-first : (h : ℕ) (r : Row) → value_at first_rows h ≡ Some r → row_in first_rows h ≡ row_of h r
-  row-first h r e = ap (λ (o : Option Row). row_of h (unwrap_or o blank)) e
+      let third = value-set (slice_set (slice_set t.values 1 (Some a)) 2 (Some b)) 3 h (Some c) (omega (arith, keys, one, two)) in
+      let second = value-set (slice_set t.values 1 (Some a)) 2 h (Some b) (omega (arith, keys, one)) in
+      let first = value-set t.values 1 h (Some a) (omega (arith, keys)) in rw (third, second, first, empty h) refl
 
   pub first-shows : scene_in first_parts ≡ first_scene limits
-  first-shows = rw (new, row-first 1 a (first-value 1) ∙ top 1, row-first 2 b (first-value 2) ∙ system 2, row-first 3 c (first-value 3) ∙ screen 3) refl
+  first-shows = rw (new, first-value 1, first-value 2, first-value 3, top 1, system 2, screen 3) refl
 
   pub first-kept : AreKept first_parts
   first-kept = record {
     valid = subst (λ (s : Scene). IsValid s) (sym first-shows) (first_is_valid limits room);
-    handles = length-set (slice_set (slice_set t.values 1 (Some a)) 2 (Some b)) 3 (Some c) ∙ length-set (slice_set t.values 1 (Some a)) 2 (Some b) ∙ length-set t.values 1 (Some a) ∙ keys;
-    rows = λ h. ap (λ (o : Option Row). is_some o) (first-value h) ∙ told (eqb 1 h) (eqb 2 h) (eqb 3 h) ∙ ap (λ (x : Trees). has x.forest h) (sym new);
+    handles = simp length-set keys;
+    rows = λ h. rw (new, first-value h) (grind (arith, nat_tests));
     room = let e = ap (λ (x : Trees). x.spare) new in omega (arith, e, spare);
     objects = let e : size tree.forest + tree.spare ≡ 3 + (limits.objects - 3) = ap (λ (t : Trees). size t.forest + t.spare) new in omega arith;
     entries = sym (ap (λ (s : Scene). entries_of s.trees) first-shows);
-  } where
-    told : (x y z : Bool) → is_some (cond z (Some c) (cond y (Some b) (cond x (Some a) None))) ≡ (x || (false || (y || (false || (z || (false || false))))))
-    told x y true = grind (arith)
-    told x true false = grind (arith)
-    told true false false = refl
-    told false false false = refl
+  }

@@ -1,5 +1,5 @@
 -- What the parts of a store answer, and that a change keeps them in order.
-use Rattle.std.proofs.Common.{◌≡◌, ◌<◌, ◌⊎◌, ◌∙◌, sym, ap, subst, ℕ, ◌+◌, Bool, true, false, length, Option, unwrap_or, Some, None, is_some, option_map, Ok, Err, List, refl, arith, nat_eq}
+use Rattle.std.proofs.Common.{nat_lt, inl, inr, ◌≡◌, ◌<◌, ◌⊎◌, ◌∙◌, sym, ap, subst, ℕ, ◌+◌, true, false, length, Option, unwrap_or, Some, None, is_some, option_map, Ok, Err, List, refl, arith}
 use Rattle.std.specs.Prelude.{if◌then◌else◌, OnOk, OnErr}
 use Rattle.std.proofs.lemmas.Bool.Decides.{nat_tests}
 use Rattle.gui_base.specs.declared.pools.TheConstants.{POOLS}
@@ -13,13 +13,14 @@ use Rattle.gui_base.specs.Limits.{Bounds}
 use Rattle.gui_base.specs.Refusing.{Test, first_of, result_of}
 use Rattle.gui_base.proofs.Forests.{map-size}
 use Rattle.gui_pool.specs.Table.{Table, value_at}
-use Rattle.gui_tree.specs.Trees.{Trees, Answer, full_answer}
+use Rattle.gui_tree.specs.Trees.{Trees, Answer}
 use Rattle.scene_defs.specs.declared.Change.{Change}
+use Rattle.scene_defs.specs.declared.Change.TheVariants as change
 use Rattle.scene_defs.specs.Ranges.{is_in_range}
-use Rattle.scene_defs.specs.Scene.{Row as SceneRow, Scene, is_there, handles_of, row_at, entries_of}
-use Rattle.scene_defs.specs.Change.{answer_in_range, scene_after, tests, first_short, need_of, freed_by, lacks}
+use Rattle.scene_defs.specs.Scene.{Scene, is_there, handles_of, row_at, entries_of}
+use Rattle.scene_defs.specs.Change.{row_set, answer_in_range, scene_after, tests, first_short, need_of, freed_by}
 use Rattle.scene_defs.specs.Valid.{IsValid, IsChange, IsRow, is_row}
-use Rattle.scene_defs.proofs.Changes.{after_keeps, none_short, one_short}
+use Rattle.scene_defs.proofs.Changes.{after_keeps, one_short}
 use Rattle.scene_defs.proofs.Totals.{one_at}
 use Rattle.scene_defs.proofs.Validity.{added_sum, removed_sum, after_leaves, after_valid}
 use Rattle.gui_store.specs.declared.row.Row.{Row}
@@ -44,9 +45,6 @@ module _ (p : Parts) where
   pub row-is : (h : ℕ) → has p.tree.forest h ≡ true → row_at (scene_in p) h ≡ Some (row_in p.rows h)
   row-is h on = shown-row p.rows p.tree.forest h ∙ rw on refl
 
-  pub row-none : (h : ℕ) → has p.tree.forest h ≡ false → row_at (scene_in p) h ≡ None
-  row-none h off = shown-row p.rows p.tree.forest h ∙ rw off refl
-
 module _ (p : Parts) (k : AreKept p) where
   pub in_range : (h : ℕ) → has p.tree.forest h ≡ true → IsRow (row_in p.rows h)
   in_range h on = shown-all p.rows is_row p.tree.forest h k.valid.rows.numbers on
@@ -65,37 +63,29 @@ module _ (p : Parts) (k : AreKept p) where
   read-at h row e = ap (λ (o : Option Row). row_of h (unwrap_or o blank)) e
 
   pub read-row : (h : ℕ) (o : Option Row) → o ≡ value_at p.rows h → option_map (row_of h) o ≡ row_at (scene_in p) h
-  read-row h None e = sym (row-none p h (read-off h e))
-  read-row h (Some row) e = ap (λ (r : SceneRow). Some r) (read-at h row e) ∙ sym (row-is p h (read-on h row e))
+  read-row h o e = grind (arith, e, k.rows h, shown-row p.rows p.tree.forest h)
 
   -- a row where the forest has its handle
   pub vacant : (h : ℕ) → has p.tree.forest h ≡ false → value_at p.rows h ≡ None
-  vacant h off = none_of (value_at p.rows h) (k.rows h ∙ off) where
-    none_of : (o : Option Row) → is_some o ≡ false → o ≡ None
-    none_of None e = refl
-    none_of (Some row) e = cc
+  vacant h off = grind (arith, off, k.rows h)
 
   pub counted : (h : ℕ) → row_count p.rows h ≡ count p.tree.forest h
   counted h = let once = ap (λ (f : Forest ℕ). count f h) (forest-is p) in told-count p.tree.forest h (value_at p.rows h) (omega (arith, once, k.valid.trees.once h)) (k.rows h)
 
-  no-room : lacks (scene_in p) Objects 1 ≡ nat_eq p.tree.spare 0
-  no-room = let a = size-is p in let b = k.objects in grind (arith, nat_tests)
+  -- An edit of the tree takes slots of objects alone, and answers what the tree does.
+  only_objects : (change : Change) → row_set change ≡ None → (q : Pool) → (q ≡ Objects) ⊎ (need_of (scene_in p) change q ≡ 0)
+  only_objects change none Objects = inl refl
+  only_objects (change.Local h part prop value) none q = cc
+  only_objects change none q = inr refl
 
-  -- An edit of the tree answers what the tree does: where it takes no slot, and where it takes one of an object.
-  pub edit-answer : (change : Change) (ts : Forest ℕ → List Test) → tests (scene_in p) change ≡ ts (handles_of (scene_in p).trees) → ((q : Pool) → need_of (scene_in p) change q ≡ 0) → result_of (answer_in_range (scene_in p) change) ≡ result_of (first_of (ts p.tree.forest) None)
-  edit-answer change ts e none =
-      ap (λ (l : List Test). result_of (first_of l (option_map Full (first_short (scene_in p) change POOLS)))) (e ∙ ap ts (forest-is p))
-      ∙ ap (λ (o : Option Pool). result_of (first_of (ts p.tree.forest) (option_map Full o))) (none_short (scene_in p) change POOLS none)
-
-  pub growth-answer : (change : Change) (ts : Forest ℕ → List Test) → tests (scene_in p) change ≡ ts (handles_of (scene_in p).trees) → need_of (scene_in p) change Objects ≡ 1 → ((q : Pool) → (q ≡ Objects) ⊎ (need_of (scene_in p) change q ≡ 0)) → result_of (answer_in_range (scene_in p) change) ≡ result_of (first_of (ts p.tree.forest) (full_answer p.tree))
-  growth-answer change ts e one only =
-      ap (λ (l : List Test). result_of (first_of l (option_map Full (first_short (scene_in p) change POOLS)))) (e ∙ ap ts (forest-is p))
-      ∙ ap (λ (o : Option Refusal). result_of (first_of (ts p.tree.forest) o))
-      (ap (option_map Full) (one_short (scene_in p) change Objects only ∙ rw (one, no-room) refl) ∙ full (nat_eq p.tree.spare 0))
-    where
-      full : (b : Bool) → option_map Full (if b then Some Objects else None) ≡ (if b then Some (Full Objects) else None)
-      full true = refl
-      full false = refl
+  pub tree-answer : (change : Change) (ts : Forest ℕ → List Test) (later : Option Refusal) → row_set change ≡ None →
+      tests (scene_in p) change ≡ ts (handles_of (scene_in p).trees) →
+      later ≡ (if nat_lt p.tree.spare (need_of (scene_in p) change Objects) then Some (Full Objects) else None) →
+      result_of (answer_in_range (scene_in p) change) ≡ result_of (first_of (ts p.tree.forest) later)
+  tree-answer change ts later none e is =
+      let same : option_map Full (first_short (scene_in p) change POOLS) ≡ later =
+      grind (arith, nat_tests, one_short (scene_in p) change Objects (only_objects change none), is, size-is p, k.objects) in
+      rw (e, forest-is p, same) refl
 
 pub err-some : (o : Option Refusal) (x : Refusal) → result_of o ≡ Err x → o ≡ Some x
 err-some None x e = cc
@@ -163,9 +153,6 @@ module _ (p : Parts) (k : AreKept p) (change : Change) where
         let is : t ≡ p.tree = subst (λ (x : Answer). OnErr x (t ≡ p.tree)) (sym a) err in
         subst (λ (x : Answer). Left p change (record p { tree = t }) x) a (subst (λ (x : Trees). Left p change (record p { tree = x }) (Err y)) (sym is) (record { kept = k; is = refused y e }))
 
-    pub answered : (t u : Trees) (r : Answer) → result_of (answer_in_range (scene_in p) change) ≡ r → OnOk r (t ≡ u) → OnErr r (t ≡ p.tree) → (answer_in_range (scene_in p) change ≡ None → Fine p change (record p { tree = u })) → Left p change (record p { tree = t }) r
-    answered t u r a ok err fine = by_answer (answer_in_range (scene_in p) change) refl t u r a ok err fine
-
     -- a call of the tree that is done, and a row that is written then
     pub grown : (t u : Trees) (r : Answer) (rows : Table Row) (n : ℕ) (v : Unit {0}) → result_of (answer_in_range (scene_in p) change) ≡ r → r ≡ Ok v → OnOk r (t ≡ u) → (answer_in_range (scene_in p) change ≡ None → Fine p change (record p { tree = u; rows = rows; entries = n })) → Left p change (record p { tree = t; rows = rows; entries = n }) (Ok tt)
     grown t u r rows n v a e ok fine =
@@ -176,4 +163,4 @@ module _ (p : Parts) (k : AreKept p) (change : Change) where
 -- a call of the tree that answers as a change does which was read as another name for it
 pub edited : (p : Parts) (k : AreKept p) (asked change : Change) → asked ≡ change → is_in_range asked ≡ true → IsChange change → (t u : Trees) (r : Answer) → result_of (answer_in_range (scene_in p) change) ≡ r → OnOk r (t ≡ u) → OnErr r (t ≡ p.tree) → Fine p change (record p { tree = u }) → Left p asked (record p { tree = t }) r
 edited p k asked change is fits c t u r a ok err fine =
-    subst (λ (x : Change). Left p x (record p { tree = t }) r) (sym is) (answered p k change (ap is_in_range (sym is) ∙ fits) c t u r a ok err (λ e. fine))
+    rw is (by_answer p k change (rw is at fits) c (answer_in_range (scene_in p) change) refl t u r a ok err (λ e. fine))

@@ -1,6 +1,5 @@
 -- The tests of a change of one row.
-use Rattle.std.proofs.Common.{◌≡◌, ◌∙◌, sym, true, false, Some, None, arith, inl, inr}
-use Rattle.std.proofs.lemmas.Bool.{cases_Bool}
+use Rattle.std.proofs.Common.{◌≡◌, true, false, Some, None, arith}
 use Rattle.gui_base.specs.declared.Handle.{Handle}
 use Rattle.gui_base.specs.declared.refusal.Refusal.TheVariants.{Unknown}
 use Rattle.gui_base.specs.Refusing.{first_of}
@@ -15,7 +14,4 @@ absent_first scene (change.Pos a x y) h set off = grind (arith, set, off)
 absent_first scene change h set off = grind (arith, set, off)
 
 pub passed_there : (scene : Scene) (change : Change) (h : Handle) → row_set change ≡ Some h → first_of (tests scene change) None ≡ None → is_there scene h.0 ≡ true
-passed_there scene change h set e = elim (cases_Bool (is_there scene h.0)) [
-  | inl on ↦ on
-  | inr off ↦ let why : Some Unknown ≡ None = sym (absent_first scene change h set off) ∙ e in cc
-]
+passed_there scene change h set e = grind (arith, e, absent_first scene change h set)

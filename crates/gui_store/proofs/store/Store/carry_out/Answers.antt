@@ -23,7 +23,7 @@ index_done : (c : goal.After-move_to_index) → Left (parts_of c.args.self.now) 
 index_done c =
     let p = parts_of c.args.self.now in
     let k = c.args.self.now.kept in
-    edited p k c.args.change.now (change.Index c.in-Index.h c.in-Index.index) c.in-Index.is c.requires.in_range tt c.move_to_index.new.self (at_index p.tree c.in-Index.h.0 c.in-Index.index) c.move_to_index.result (move-answer p k (change.Index c.in-Index.h c.in-Index.index) c.in-Index.h.0 refl (λ q. refl) ∙ sym c.move_to_index.ensures.answer) c.move_to_index.ensures.ok c.move_to_index.ensures.refused (fine-index p k c.in-Index.h c.in-Index.index)
+    edited p k c.args.change.now (change.Index c.in-Index.h c.in-Index.index) c.in-Index.is c.requires.in_range tt c.move_to_index.new.self (at_index p.tree c.in-Index.h.0 c.in-Index.index) c.move_to_index.result (move-answer p k (change.Index c.in-Index.h c.in-Index.index) c.in-Index.h.0 refl refl refl ∙ sym c.move_to_index.ensures.answer) c.move_to_index.ensures.ok c.move_to_index.ensures.refused (fine-index p k c.in-Index.h c.in-Index.index)
 
 pub invariant_of-self-in-Index-1 : goal.invariant_of-self-in-Index-1
 invariant_of-self-in-Index-1 c = record { kept = (index_done c).kept }
@@ -35,7 +35,7 @@ front_done : (c : goal.After-move_to_index-in-Front) → Left (parts_of c.args.s
 front_done c =
     let p = parts_of c.args.self.now in
     let k = c.args.self.now.kept in
-    edited p k c.args.change.now (change.Front c.in-Front.h) c.in-Front.is c.requires.in_range tt c.move_to_index-in-Front.new.self (at_index p.tree c.in-Front.h.0 65535) c.move_to_index-in-Front.result (move-answer p k (change.Front c.in-Front.h) c.in-Front.h.0 refl (λ q. refl) ∙ sym c.move_to_index-in-Front.ensures.answer) c.move_to_index-in-Front.ensures.ok c.move_to_index-in-Front.ensures.refused (fine-front p k c.in-Front.h 65535 (omega (arith, c.args.self.now.limits.pools.most_objects)))
+    edited p k c.args.change.now (change.Front c.in-Front.h) c.in-Front.is c.requires.in_range tt c.move_to_index-in-Front.new.self (at_index p.tree c.in-Front.h.0 65535) c.move_to_index-in-Front.result (move-answer p k (change.Front c.in-Front.h) c.in-Front.h.0 refl refl refl ∙ sym c.move_to_index-in-Front.ensures.answer) c.move_to_index-in-Front.ensures.ok c.move_to_index-in-Front.ensures.refused (fine-front p k c.in-Front.h 65535 (omega (arith, c.args.self.now.limits.pools.most_objects)))
 
 pub invariant_of-self-in-Front-1 : goal.invariant_of-self-in-Front-1
 invariant_of-self-in-Front-1 c = record { kept = (front_done c).kept }
@@ -47,7 +47,7 @@ back_done : (c : goal.After-move_to_index-in-Back) → Left (parts_of c.args.sel
 back_done c =
     let p = parts_of c.args.self.now in
     let k = c.args.self.now.kept in
-    edited p k c.args.change.now (change.Back c.in-Back.h) c.in-Back.is c.requires.in_range tt c.move_to_index-in-Back.new.self (at_index p.tree c.in-Back.h.0 0) c.move_to_index-in-Back.result (move-answer p k (change.Back c.in-Back.h) c.in-Back.h.0 refl (λ q. refl) ∙ sym c.move_to_index-in-Back.ensures.answer) c.move_to_index-in-Back.ensures.ok c.move_to_index-in-Back.ensures.refused (fine-back p k c.in-Back.h)
+    edited p k c.args.change.now (change.Back c.in-Back.h) c.in-Back.is c.requires.in_range tt c.move_to_index-in-Back.new.self (at_index p.tree c.in-Back.h.0 0) c.move_to_index-in-Back.result (move-answer p k (change.Back c.in-Back.h) c.in-Back.h.0 refl refl refl ∙ sym c.move_to_index-in-Back.ensures.answer) c.move_to_index-in-Back.ensures.ok c.move_to_index-in-Back.ensures.refused (fine-back p k c.in-Back.h)
 
 pub invariant_of-self-in-Back-1 : goal.invariant_of-self-in-Back-1
 invariant_of-self-in-Back-1 c = record { kept = (back_done c).kept }

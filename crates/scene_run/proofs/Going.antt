@@ -1,62 +1,20 @@
 -- How a run goes on over more lines.
 use Rattle.std.proofs.Common.{◌≡◌, ◌∙◌, sym, ap, subst, ℕ, ◌+◌, ◌≤◌, ◌||◌, Bool, true, false, List, [], ◌∷◌, ◌++◌, length, length-append, append_assoc, arith, refl, inl, inr}
-use Rattle.std.specs.Prelude.{IfSome, None, flat_map, fold}
+use Rattle.std.specs.Prelude.{IfSome, None}
 use Rattle.std.specs.declared.option.Option.{Option}
-use Rattle.std.specs.Io.KnownBytes.{Appends}
 use Rattle.std.specs.Option.{option_to_list}
-use Rattle.std.proofs.lemmas.Grind.{flat_map-append}
-use Rattle.std.proofs.lemmas.List.{append-nil}
-use Rattle.std.proofs.lemmas.List.Elements.{filter_map-append}
 use Rattle.std.proofs.lemmas.List.Folds.{list_any-append}
-use Rattle.std.proofs.lemmas.List.Sums.{fold-append}
 use Rattle.scene_defs.specs.Scene.{Scene}
-use Rattle.scene_defs.specs.Picture.{frame_file}
 use Rattle.run_defs.specs.declared.Outcome.{Outcome}
 use Rattle.run_defs.specs.Machine.{Machine}
 use Rattle.run_defs.specs.Script.{Said}
-use Rattle.run_defs.specs.Run.{Moment, moment, Entry, Told, entry, entries, after_all, told, log_text, log_lines, done_scene, done_scenes, frame_files, last_done, fault_count, notes, noted, frame_count, frames_asked, machine_after}
-use Rattle.run_defs.proofs.Runs.{after_all-append, after_all-limits, after_all-number, after_all-frame, fault_count-append, frame_count_more, told_more, frames_asked-entry}
-use Rattle.gui_edge.specs.Causes.{Rose}
+use Rattle.run_defs.specs.Run.{Moment, moment, Entry, Told, entry, entries, after_all, told, last_done, notes, noted, frame_count, frames_asked, machine_after}
+use Rattle.run_defs.proofs.Runs.{after_all-append, after_all-limits, after_all-number, after_all-frame, frame_count_more, told_more, frames_asked-entry}
 use Rattle.gui_edge.specs.Panel.{PanelState, HasSizes}
 use Rattle.gui_core.specs.Panels.{ShowsScene}
-use Rattle.scene_run.specs.Effects.{Output, PanelKeeps, PanelEffects, Effects, Breaks, WriteFailed, Answers, Halted}
-use Rattle.scene_run.specs.Running.{Running, IsReady, Goes, GoesOn, Halts}
-use Rattle.scene_run.proofs.Known.{Appends-more, Appends-nothing}
-
-pub PanelKeeps-self : (p : PanelState) → PanelKeeps p p
-PanelKeeps-self p = record { told = λ t. t; flush_faults = omega arith; present_faults = omega arith }
-
-Effects-none : (o : Output) (seen : Option Scene) → IfSome seen (ShowsScene o.panel) → Effects o o seen []
-Effects-none o seen shown = record {
-  panel = record { frames = λ t. Appends-nothing o.panel.frames; shown = shown; faults = omega arith; keeps = PanelKeeps-self o.panel };
-  log = Appends-nothing o.log.held;
-  log_faults = omega arith;
-}
-
-frame_files-append : (ts us : List Told) → frame_files (ts ++ us) ≡ frame_files ts ++ frame_files us
-frame_files-append ts us = ap (flat_map frame_file) (filter_map-append done_scene ts us) ∙ flat_map-append frame_file (done_scenes ts) (done_scenes us)
-
-last_done-append : (seen : Option Scene) (ts us : List Told) → last_done seen (ts ++ us) ≡ last_done (last_done seen ts) us
-last_done-append seen ts us = fold-append (λ (earlier : Option Scene) (t : Told). done_scene t) seen ts us
-
-PanelEffects-more : (a b c : PanelState) (seen : Option Scene) (ts us : List Told) → PanelEffects a b seen ts → PanelEffects b c (last_done seen ts) us → PanelEffects a c seen (ts ++ us)
-PanelEffects-more a b c seen ts us h k = record {
-  frames = λ t. subst (Appends a.frames c.frames) (sym (frame_files-append ts us)) (Appends-more a.frames b.frames c.frames _ _ (h.frames t) (k.frames (h.keeps.told t)));
-  shown = subst (λ (s : Option Scene). IfSome s (ShowsScene c)) (sym (last_done-append seen ts us)) k.shown;
-  faults = omega (arith, fault_count-append ts us, h.faults, k.faults);
-  keeps = record {
-    told = λ t. k.keeps.told (h.keeps.told t);
-    flush_faults = omega (arith, h.keeps.flush_faults, k.keeps.flush_faults);
-    present_faults = omega (arith, h.keeps.present_faults, k.keeps.present_faults);
-  };
-}
-
-pub Effects-more : (a b c : Output) (seen : Option Scene) (ts us : List Told) → Effects a b seen ts → Effects b c (last_done seen ts) us → Effects a c seen (ts ++ us)
-Effects-more a b c seen ts us h k = record {
-  panel = PanelEffects-more a.panel b.panel c.panel seen ts us h.panel k.panel;
-  log = subst (Appends a.log.held c.log.held) (sym (flat_map-append log_lines ts us)) (Appends-more a.log.held b.log.held c.log.held _ _ h.log k.log);
-  log_faults = omega (arith, h.log_faults, k.log_faults);
-}
+use Rattle.scene_run.specs.Effects.{Output, Effects, Breaks, WriteFailed, Answers, Halted}
+use Rattle.scene_run.specs.Running.{Running, IsReady, GoesOn, Halts}
+use Rattle.scene_run.proofs.Effects.{Effects-none, Effects-more}
 
 -- a panel with the sizes of a later moment has those of an earlier one, since no line changes the limits
 pub same_sizes : (start next : Moment) (lines : List Said) (panel : PanelState) → next ≡ after_all start lines → HasSizes panel next.machine.scene.limits → HasSizes panel start.machine.scene.limits

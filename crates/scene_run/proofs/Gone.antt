@@ -20,7 +20,7 @@ use Rattle.scene_run.specs.declared.runner.Runner.{Runner}
 use Rattle.scene_run.specs.declared.status.Status.{Status}
 use Rattle.scene_run.specs.declared.status.Status.TheVariants.{Done, Noted, ReadFault, WriteFault, TooLong}
 use Rattle.scene_run.proofs.Going.{goes_on_none, goes_on_more, halts_more, halts_on, halted_cause, ready_on}
-use Rattle.scene_run.proofs.Known.{Consumes-more, Consumes-nothing}
+use Rattle.scene_run.proofs.Effects.{Consumes-more, Consumes-nothing}
 use Rattle.scene_run.proofs.Taking.{said_more, begun_more, said_last, few_said}
 
 abbrev outside : SourceState → Output → Outside

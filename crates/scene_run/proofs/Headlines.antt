@@ -15,7 +15,7 @@ use Rattle.gui_edge.specs.Sink.{SinkState}
 use Rattle.gui_edge.specs.Panel.{PanelState, Opens, HasSizes}
 use Rattle.scene_run.specs.Effects.{Output, output, Answers}
 use Rattle.scene_run.specs.Headline.{Outside, outside, Ended, Runs, Headline}
-use Rattle.scene_run.proofs.Known.{Appends-nothing}
+use Rattle.scene_run.proofs.Effects.{Appends-nothing}
 use Rattle.scene_run.proofs.Going.{Answers-more}
 use Rattle.scene_run.specs.declared.status.Status.{Status}
 use Rattle.scene_run.specs.declared.status.Status.TheVariants.{Done, Noted, Usage, ReadFault, WriteFault, PanelFault, NoMemory, TooLong}

@@ -1,7 +1,6 @@
-pub mod Breaking
+pub mod Effects
 pub mod Going
 pub mod Gone
 pub mod Headlines
-pub mod Known
 pub mod Pools
 pub mod Taking

@@ -27,7 +27,7 @@ pub record PanelKeeps (old new : PanelState) : Type 0 where
   pub flush_faults : old.flush_faults ≤ new.flush_faults
   pub present_faults : old.present_faults ≤ new.present_faults
 
--- What is told of some lines was shown. `seen` is the scene that the panel showed before, where it is known.
+-- What the panel got of these told lines. `seen` is the scene that it showed before, where that is known.
 pub record PanelEffects (old new : PanelState) (seen : Option Scene) (ts : List Told) : Type 0 where
   -- the frames grew by the pictures of the scenes at the done frame lines, in order
   pub frames : IsSome old.shows → Appends old.frames new.frames (frame_files ts)
@@ -37,7 +37,7 @@ pub record PanelEffects (old new : PanelState) (seen : Option Scene) (ts : List 
   pub faults : old.flush_faults + fault_count ts ≤ new.flush_faults
   pub keeps : PanelKeeps old new
 
--- What is told of some lines was shown and written.
+-- What the log and the panel got of these told lines.
 pub record Effects (old new : Output) (seen : Option Scene) (ts : List Told) : Type 0 where
   pub panel : PanelEffects old.panel new.panel seen ts
   -- the log grew by its text
@@ -65,7 +65,7 @@ pub record Answers (start : Moment) (old new : Output) (seen : Option Scene) (li
   -- each frame line has an outcome
   pub outcomes : List Outcome
   pub each : length outcomes ≡ frame_count (entries start lines)
-  -- what is told of the lines with these outcomes was written
+  -- what is told of the lines with these outcomes came to the log and the panel
   pub effects : Effects old new seen (told (entries start lines) outcomes)
   -- the panel is opened with the limits' sizes
   pub slices : HasSizes new.panel start.machine.scene.limits

@@ -10,7 +10,7 @@ use Rattle.run_defs.specs.Run.{first_moment, entries, told, noted}
 use Rattle.gui_edge.specs.Source.{SourceState}
 use Rattle.gui_edge.specs.Sink.{SinkState}
 use Rattle.gui_edge.specs.Panel.{PanelState}
-use Rattle.scene_run.specs.Effects.{Output, Answers, Halted}
+use Rattle.scene_run.specs.Effects.{Output, output, Answers, Halted}
 use Rattle.scene_run.specs.declared.status.Status.{Status}
 use Rattle.scene_run.specs.declared.status.Status.TheVariants.{Done, Noted, Usage, ReadFault, WriteFault}
 use Rattle.scene_run.specs.declared.status.Status.TheVariants.{PanelFault, NoMemory, TooLong}
@@ -21,7 +21,7 @@ pub record Outside : Type 0 where
   pub output : Output
 
 abbrev pub outside : SourceState → SinkState → PanelState → Outside
-outside source log panel = record { source = source; output = record { log = log; panel = panel } }
+outside source log panel = record { source = source; output = output log panel }
 
 -- These lines were answered from the start on, each with its reply, and each frame line with its outcome.
 abbrev pub AnswersAll : Machine → Outside → Outside → List Said → Type 0

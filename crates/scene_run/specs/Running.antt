@@ -3,14 +3,13 @@ use Rattle.std.specs.Prelude.{◌≡◌, ℕ, Bool, ◌+◌, ◌^◌, ◌<◌, �
 use Rattle.std.specs.declared.option.Option.{Option}
 use Rattle.scene_defs.specs.Scene.{Scene}
 use Rattle.run_defs.specs.Script.{Said}
-use Rattle.run_defs.specs.Run.{Moment, after_all, entries, told, noted}
-use Rattle.gui_edge.specs.Panel.{HasSizes}
-use Rattle.gui_edge.specs.Panel.{PanelState}
+use Rattle.run_defs.specs.Run.{Moment, moment, after_all, entries, told, noted}
+use Rattle.gui_edge.specs.Panel.{PanelState, HasSizes}
 use Rattle.gui_edge.specs.Sink.{SinkState}
 use Rattle.gui_core.specs.Machines.{machine_of}
 use Rattle.gui_core.specs.Panels.{ShowsScene}
 use Rattle.scene_script.specs.Cutting.{Cutting, pushed, cut_says}
-use Rattle.scene_run.specs.Effects.{Output, Answers, Halted}
+use Rattle.scene_run.specs.Effects.{Output, output, Answers, Halted}
 use Rattle.scene_run.specs.declared.runner.Runner.{Runner}
 
 -- how far a run has come, and what it writes to
@@ -22,9 +21,9 @@ pub record Running : Type 0 where
 
 abbrev pub running : Runner → SinkState → PanelState → Running
 running runner log panel = record {
-  moment = record { machine = machine_of runner.gui; number = runner.number; frame = runner.frame };
+  moment = moment (machine_of runner.gui) runner.number runner.frame;
   noted = runner.noted;
-  output = record { log = log; panel = panel };
+  output = output log panel;
 }
 
 -- the panel has the machine's sizes, and there are numbers for so many lines more

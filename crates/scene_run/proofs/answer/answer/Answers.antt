@@ -1,4 +1,4 @@
-use Rattle.scene_run.proofs.Breaking.{on_err, effects_frame, breaks_show, breaks_frame, breaks_reply}
+use Rattle.scene_run.proofs.Effects.{on_err, effects_frame, breaks_show, breaks_frame, breaks_reply}
 use Rattle.std.specs.Prelude.{None, []}
 use Rattle.scene_run.proofs.answer.answer.Goals as goal
 

@@ -1,7 +1,7 @@
 use Rattle.std.proofs.Common.{arith, refl, length-take, take, drop, ◌+◌, fold}
 use Rattle.scene_script.specs.Cutting.{pushed}
 use Rattle.scene_run.specs.Running.{said_by}
-use Rattle.scene_run.proofs.Breaking.{on_err}
+use Rattle.scene_run.proofs.Effects.{on_err}
 use Rattle.scene_run.proofs.Going.{goes_on_none, goes_on_more, halts_more, halts_on, ready_on}
 use Rattle.scene_run.proofs.Taking.{few_said, said_by_one_more, said_by_rest, pushed_one_more}
 use Rattle.scene_run.proofs.runner.Runner.take_piece.Goals as goal

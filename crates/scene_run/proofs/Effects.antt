@@ -1,0 +1,134 @@
+-- How effects go on, and what a line does before a write fails.
+use Rattle.std.proofs.Common.{◌≡◌, ◌∙◌, sym, ap, subst, ℕ, ◌+◌, ◌≤◌, List, [], ◌∷◌, ◌++◌, append_assoc, arith, refl, inl, inr}
+use Rattle.std.specs.Prelude.{Some, None, Ok, Err, IfSome, OnErr, flat_map, fold}
+use Rattle.std.specs.declared.option.Option.{Option}
+use Rattle.std.specs.declared.result.Result.{Result}
+use Rattle.std.specs.Io.KnownBytes.{Appends, Consumes}
+use Rattle.std.proofs.lemmas.Grind.{flat_map-append}
+use Rattle.std.proofs.lemmas.List.{append-nil}
+use Rattle.std.proofs.lemmas.List.Elements.{filter_map-append}
+use Rattle.std.proofs.lemmas.List.Sums.{fold-append}
+use Rattle.scene_defs.specs.Scene.{Scene}
+use Rattle.scene_defs.specs.Picture.{frame_file}
+use Rattle.run_defs.specs.declared.Outcome.{Outcome}
+use Rattle.run_defs.specs.declared.Outcome.TheVariants.{Done, Fault}
+use Rattle.run_defs.specs.declared.Reply.{Reply}
+use Rattle.run_defs.specs.Run.{Replies, Frames, Told, Replied, Framed, log_lines, frame_line, done_scene, done_scenes, frame_files, last_done, fault_count}
+use Rattle.run_defs.proofs.Runs.{fault_count-append}
+use Rattle.gui_edge.specs.Causes.{Rose}
+use Rattle.gui_edge.specs.Panel.{PanelState}
+use Rattle.gui_edge.specs.Sink.{SinkState, AppendsPrefix}
+use Rattle.gui_core.specs.Panels.{ShowsScene}
+use Rattle.scene_run.specs.Effects.{Output, output, PanelKeeps, PanelEffects, Effects, Breaks, FrameBroke}
+
+-- what is known of bytes goes on over two steps
+pub Appends-more : (a b c : Option (List ℕ)) (xs ys : List ℕ) → Appends a b xs → Appends b c ys → Appends a c (xs ++ ys)
+Appends-more None b c xs ys h k = tt
+Appends-more (Some a) None c xs ys h k = elim h [ ]
+Appends-more (Some a) (Some b) None xs ys h k = elim k [ ]
+Appends-more (Some a) (Some b) (Some c) xs ys h k = k ∙ (ap (λ (zs : List ℕ). zs ++ ys) h ∙ append_assoc a xs ys)
+
+pub Appends-nothing : (a : Option (List ℕ)) → Appends a a []
+Appends-nothing None = tt
+Appends-nothing (Some a) = sym (append-nil a)
+
+pub Consumes-more : (a b c : Option (List ℕ)) (xs ys : List ℕ) → Consumes a b xs → Consumes b c ys → Consumes a c (xs ++ ys)
+Consumes-more None b c xs ys h k = tt
+Consumes-more (Some a) None c xs ys h k = elim h [ ]
+Consumes-more (Some a) (Some b) None xs ys h k = elim k [ ]
+Consumes-more (Some a) (Some b) (Some c) xs ys h k = h ∙ (ap (λ (zs : List ℕ). xs ++ zs) k ∙ sym (append_assoc xs ys c))
+
+pub Consumes-nothing : (a : Option (List ℕ)) → Consumes a a []
+Consumes-nothing None = tt
+Consumes-nothing (Some a) = refl
+
+-- nothing is a prefix of anything
+pub AppendsPrefix-nothing : (a : Option (List ℕ)) (bytes : List ℕ) → AppendsPrefix a a bytes
+AppendsPrefix-nothing a bytes = record { prefix = []; rest = bytes; whole = refl; grows = Appends-nothing a }
+
+pub PanelKeeps-self : (p : PanelState) → PanelKeeps p p
+PanelKeeps-self p = record { told = λ t. t; flush_faults = omega arith; present_faults = omega arith }
+
+pub Effects-none : (o : Output) (seen : Option Scene) → IfSome seen (ShowsScene o.panel) → Effects o o seen []
+Effects-none o seen shown = record {
+  panel = record { frames = λ t. Appends-nothing o.panel.frames; shown = shown; faults = omega arith; keeps = PanelKeeps-self o.panel };
+  log = Appends-nothing o.log.held;
+  log_faults = omega arith;
+}
+
+frame_files-append : (ts us : List Told) → frame_files (ts ++ us) ≡ frame_files ts ++ frame_files us
+frame_files-append ts us = ap (flat_map frame_file) (filter_map-append done_scene ts us) ∙ flat_map-append frame_file (done_scenes ts) (done_scenes us)
+
+last_done-append : (seen : Option Scene) (ts us : List Told) → last_done seen (ts ++ us) ≡ last_done (last_done seen ts) us
+last_done-append seen ts us = fold-append (λ (earlier : Option Scene) (t : Told). done_scene t) seen ts us
+
+PanelEffects-more : (a b c : PanelState) (seen : Option Scene) (ts us : List Told) → PanelEffects a b seen ts → PanelEffects b c (last_done seen ts) us → PanelEffects a c seen (ts ++ us)
+PanelEffects-more a b c seen ts us h k = record {
+  frames = λ t. subst (Appends a.frames c.frames) (sym (frame_files-append ts us)) (Appends-more a.frames b.frames c.frames _ _ (h.frames t) (k.frames (h.keeps.told t)));
+  shown = subst (λ (s : Option Scene). IfSome s (ShowsScene c)) (sym (last_done-append seen ts us)) k.shown;
+  faults = omega (arith, fault_count-append ts us, h.faults, k.faults);
+  keeps = record {
+    told = λ t. k.keeps.told (h.keeps.told t);
+    flush_faults = omega (arith, h.keeps.flush_faults, k.keeps.flush_faults);
+    present_faults = omega (arith, h.keeps.present_faults, k.keeps.present_faults);
+  };
+}
+
+pub Effects-more : (a b c : Output) (seen : Option Scene) (ts us : List Told) → Effects a b seen ts → Effects b c (last_done seen ts) us → Effects a c seen (ts ++ us)
+Effects-more a b c seen ts us h k = record {
+  panel = PanelEffects-more a.panel b.panel c.panel seen ts us h.panel k.panel;
+  log = subst (Appends a.log.held c.log.held) (sym (flat_map-append log_lines ts us)) (Appends-more a.log.held b.log.held c.log.held _ _ h.log k.log);
+  log_faults = omega (arith, h.log_faults, k.log_faults);
+}
+
+pub on_err : {T E P : Type 0} (r : Result T E) → P → OnErr r P
+on_err (Ok x) p = tt
+on_err (Err e) p = p
+
+-- a frame came to an outcome, and the log took its line
+pub effects_frame : (a b : SinkState) (p q : PanelState) (n k : ℕ) (scene : Scene) (outcome : Outcome) (seen : Option Scene) → PanelEffects p q seen (Framed n k scene outcome ∷ []) →
+    Appends a.held b.held (frame_line n k outcome) → a.faults ≤ b.faults → Effects (output a p) (output b q) seen (Framed n k scene outcome ∷ [])
+effects_frame a b p q n k scene outcome seen shown line later = record {
+  panel = shown;
+  log = subst (Appends a.held b.held) (sym (append-nil (frame_line n k outcome))) line;
+  log_faults = later;
+}
+
+-- the frame could not be presented whole
+pub breaks_show : (log : SinkState) (p q : PanelState) (n k : ℕ) (scene : Scene) → FrameBroke p q scene → Breaks (output log p) (output log q) (Frames n k scene)
+breaks_show log p q n k scene broke = record {
+  last = [];
+  one = omega arith;
+  log = AppendsPrefix-nothing log.held [];
+  frames = broke.frames;
+  faults = omega (arith, broke.faults);
+  cause = inr broke.cause;
+}
+
+-- the log did not take the lines of a reply whole
+pub breaks_reply : (a b : SinkState) (p : PanelState) (n : ℕ) (lines : List ℕ) (reply : Reply) → AppendsPrefix a.held b.held (log_lines (Replied n lines reply)) → Rose a.faults b.faults →
+    Breaks (output a p) (output b p) (Replies n lines reply)
+breaks_reply a b p n lines reply prefix rose = record {
+  last = [];
+  one = omega arith;
+  log = subst (AppendsPrefix a.held b.held) (sym (append-nil (log_lines (Replied n lines reply)))) prefix;
+  frames = λ t. AppendsPrefix-nothing p.frames [];
+  faults = omega arith;
+  cause = inl rose;
+}
+
+-- nor the line of a frame
+pub breaks_frame : (a b : SinkState) (p q : PanelState) (n k : ℕ) (scene : Scene) (outcome : Outcome) → PanelEffects p q None (Framed n k scene outcome ∷ []) →
+    AppendsPrefix a.held b.held (frame_line n k outcome) → Rose a.faults b.faults → Breaks (output a p) (output b q) (Frames n k scene)
+breaks_frame a b p q n k scene outcome shown prefix rose = record {
+  last = outcome ∷ [];
+  one = omega arith;
+  log = subst (AppendsPrefix a.held b.held) (sym (append-nil (frame_line n k outcome))) prefix;
+  frames = λ t. file outcome (shown.frames t);
+  faults = shown.faults;
+  cause = inl rose;
+}
+  where
+    file : (o : Outcome) → Appends p.frames q.frames (frame_files (Framed n k scene o ∷ [])) → AppendsPrefix p.frames q.frames (frame_file scene)
+    file Done h = record { prefix = frame_file scene; rest = []; whole = append-nil (frame_file scene); grows = subst (Appends p.frames q.frames) (append-nil (frame_file scene)) h }
+    file Fault h = record { prefix = []; rest = frame_file scene; whole = refl; grows = h }

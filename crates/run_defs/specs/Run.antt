@@ -79,7 +79,7 @@ asks_frame (Frames number frame scene) = true
 abbrev pub frame_count : List Entry → ℕ
 frame_count es = count_by asks_frame es
 
--- what the log tells of a line: its reply after the lines that its events wrote, or its frame with its outcome
+-- what the log tells of a line: its reply after the lines that its events wrote, or a frame and its outcome
 pub data Told : Type 0 where
   Replied : (number : ℕ) (lines : List ℕ) (reply : Reply) → Told
   Framed : (number frame : ℕ) (scene : Scene) (outcome : Outcome) → Told

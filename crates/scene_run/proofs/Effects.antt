@@ -1,6 +1,6 @@
 -- How effects go on, and what a line does before a write fails.
-use Rattle.std.proofs.Common.{◌≡◌, ◌∙◌, sym, ap, subst, ℕ, ◌+◌, ◌≤◌, List, [], ◌∷◌, ◌++◌, append_assoc, arith, refl, inl, inr}
-use Rattle.std.specs.Prelude.{Some, None, Ok, Err, IfSome, OnErr, flat_map, fold}
+use Rattle.std.proofs.Common.{◌≡◌, ◌∙◌, sym, ap, subst, ℕ, ◌≤◌, List, [], ◌∷◌, ◌++◌, append_assoc, arith, refl, inl, inr}
+use Rattle.std.specs.Prelude.{Some, None, Ok, Err, IfSome, OnErr, flat_map}
 use Rattle.std.specs.declared.option.Option.{Option}
 use Rattle.std.specs.declared.result.Result.{Result}
 use Rattle.std.specs.Io.KnownBytes.{Appends, Consumes}
@@ -13,7 +13,7 @@ use Rattle.scene_defs.specs.Picture.{frame_file}
 use Rattle.run_defs.specs.declared.Outcome.{Outcome}
 use Rattle.run_defs.specs.declared.Outcome.TheVariants.{Done, Fault}
 use Rattle.run_defs.specs.declared.Reply.{Reply}
-use Rattle.run_defs.specs.Run.{Replies, Frames, Told, Replied, Framed, log_lines, frame_line, done_scene, done_scenes, frame_files, last_done, fault_count}
+use Rattle.run_defs.specs.Run.{Replies, Frames, Told, Replied, Framed, log_lines, frame_line, done_scene, done_scenes, frame_files, last_done}
 use Rattle.run_defs.proofs.Runs.{fault_count-append}
 use Rattle.gui_edge.specs.Causes.{Rose}
 use Rattle.gui_edge.specs.Panel.{PanelState}

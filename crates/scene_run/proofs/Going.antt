@@ -8,7 +8,7 @@ use Rattle.scene_defs.specs.Scene.{Scene}
 use Rattle.run_defs.specs.declared.Outcome.{Outcome}
 use Rattle.run_defs.specs.Machine.{Machine}
 use Rattle.run_defs.specs.Script.{Said}
-use Rattle.run_defs.specs.Run.{Moment, moment, Entry, Told, entry, entries, after_all, told, last_done, notes, noted, frame_count, frames_asked, machine_after}
+use Rattle.run_defs.specs.Run.{Moment, moment, entry, entries, after_all, told, last_done, notes, noted, frames_asked, machine_after}
 use Rattle.run_defs.proofs.Runs.{after_all-append, after_all-limits, after_all-number, after_all-frame, frame_count_more, told_more, frames_asked-entry}
 use Rattle.gui_edge.specs.Panel.{PanelState, HasSizes}
 use Rattle.gui_core.specs.Panels.{ShowsScene}

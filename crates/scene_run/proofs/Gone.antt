@@ -8,16 +8,15 @@ use Rattle.std.proofs.Math.Seq.{take-append-add, take-length}
 use Rattle.std.specs.Io.KnownBytes.{Consumes, IsAtEnd, Keeps as KeepsBytes}
 use Rattle.run_defs.specs.Machine.{Machine}
 use Rattle.run_defs.specs.Run.{first_moment}
-use Rattle.run_defs.specs.Script.{Said, Whole, TooLong as ScriptTooLong, says, says_cut, rest_of, open_says, max_script}
+use Rattle.run_defs.specs.Script.{Whole, says, says_cut, rest_of, open_says, max_script}
 use Rattle.gui_edge.specs.Source.{SourceState}
 use Rattle.gui_edge.specs.Panel.{HasSizes}
 use Rattle.gui_core.specs.Machines.{machine_of}
 use Rattle.scene_script.specs.Cutting.{begun, kept, pushed, finished, cut_says}
-use Rattle.scene_run.specs.Effects.{Output, WriteFailed, Halted}
+use Rattle.scene_run.specs.Effects.{Output, WriteFailed}
 use Rattle.scene_run.specs.Running.{Running, running, IsReady, GoesOn, Halts, said_by}
 use Rattle.scene_run.specs.Headline.{Outside, AnswersScript, end_of, end_reached, Ended, Runs}
 use Rattle.scene_run.specs.declared.runner.Runner.{Runner}
-use Rattle.scene_run.specs.declared.status.Status.{Status}
 use Rattle.scene_run.specs.declared.status.Status.TheVariants.{Done, Noted, ReadFault, WriteFault, TooLong}
 use Rattle.scene_run.proofs.Going.{goes_on_none, goes_on_more, halts_more, halts_on, halted_cause, ready_on}
 use Rattle.scene_run.proofs.Effects.{Consumes-more, Consumes-nothing}

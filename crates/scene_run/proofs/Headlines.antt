@@ -1,5 +1,5 @@
 -- The headline from the reading.
-use Rattle.std.proofs.Common.{◌≡◌, subst, sym, [], ℕ, ◌*◌, ◌≤◌, ◌<◌, arith, refl, List}
+use Rattle.std.proofs.Common.{◌≡◌, subst, sym, [], ℕ, ◌*◌, ◌≤◌, arith, refl, List}
 use Rattle.std.specs.Prelude.{Some, None, IsSome}
 use Rattle.std.specs.declared.option.Option.{Option}
 use Rattle.std.specs.Io.KnownBytes.{Appends}

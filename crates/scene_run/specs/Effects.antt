@@ -1,5 +1,5 @@
 -- What lines of the script do to the log and to the panel.
-use Rattle.std.specs.Prelude.{◌≡◌, ℕ, ◌+◌, ◌≤◌, ◌⊎◌, List, [], ◌∷◌, ◌++◌, length, IsSome, IfSome}
+use Rattle.std.specs.Prelude.{◌≡◌, ◌+◌, ◌≤◌, ◌⊎◌, List, [], ◌∷◌, ◌++◌, length, IsSome, IfSome}
 use Rattle.std.specs.declared.option.Option.{Option}
 use Rattle.std.specs.Io.KnownBytes.{Appends}
 use Rattle.scene_defs.specs.Scene.{Scene}
@@ -49,7 +49,7 @@ abbrev pub WriteFailed : Output → Output → Type 0
 WriteFailed old new =
     Rose old.log.faults new.log.faults ⊎ Rose old.panel.present_faults new.panel.present_faults
 
--- A write failed at a line: a prefix of its text for the log was written, and of the picture that it asks for.
+-- A write failed at a line: a prefix of its text for the log was written, and one of the picture it asks for.
 pub record Breaks (old new : Output) (e : Entry) : Type 0 where
   -- the outcome of its frame, where it came to one
   pub last : List Outcome

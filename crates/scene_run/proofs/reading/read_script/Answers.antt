@@ -1,6 +1,5 @@
-use Rattle.std.proofs.Common.{arith, ◌≡◌, ◌∙◌, ap, length-take, min, take}
+use Rattle.std.proofs.Common.{arith, ◌∙◌, ap, length-take, take}
 use Rattle.gui_core.specs.Machines.{machine_of}
-use Rattle.scene_run.specs.Headline.{Outside, outside}
 use Rattle.scene_run.proofs.Gone.{gone_start, gone_more, taken_piece, runs_unread, runs_whole, runs_broken_last, runs_broken, runs_long, runs_cause}
 use Rattle.scene_run.proofs.reading.read_script.Goals as goal
 

@@ -1,7 +1,7 @@
 -- The parts of a store after each change that is done.
-use Rattle.std.proofs.Common.{◌≡◌, ◌<◌, ◌≤◌, ◌∙◌, sym, ap, subst, ℕ, zero, suc, ◌+◌, ◌-◌, Bool, true, false, length, slice_set, List, Option, Some, None, option_map, refl, arith, length-set, nat_lt, nat_eq, eqb-true, ◌++◌, [], ◌∷◌, cond, eqb}
+use Rattle.std.proofs.Common.{rules, Ok, ◌≡◌, ◌<◌, ◌≤◌, ◌∙◌, sym, ap, subst, ℕ, zero, suc, ◌+◌, ◌-◌, Bool, true, false, length, slice_set, List, Option, Some, None, option_map, refl, arith, length-set, nat_lt, nat_eq, eqb-true, ◌++◌, [], ◌∷◌, cond, eqb}
 use Rattle.std.specs.List.{sum_by}
-use Rattle.std.specs.Prelude.{if◌then◌else◌}
+use Rattle.std.specs.Prelude.{if◌then◌else◌, OnOk, OnErr}
 use Rattle.std.proofs.lemmas.Bool.Decides.{nat_tests}
 use Rattle.std.proofs.lemmas.List.{get_or-set_same}
 use Rattle.std.proofs.lemmas.List.Sums.{sum_by-cons}
@@ -15,17 +15,18 @@ use Rattle.gui_base.specs.declared.words.Kind.{Kind}
 use Rattle.gui_base.specs.declared.words.Kind.TheVariants.{Screen, Layer}
 use Rattle.gui_base.specs.Forest.{Forest, Empty, Tree, and_then, leaf, put_at, has, size, count, preorder, cut, cut_by, tree_at, parent_of, with_children_by}
 use Rattle.gui_base.specs.Limits.{Bounds}
-use Rattle.gui_base.specs.Refusing.{first_of, result_of, root_tests, child_tests, removal_tests, move_tests, parent_tests, Place}
+use Rattle.gui_base.specs.Refusing.{Test, first_of, result_of, root_tests, child_tests, removal_tests, move_tests, parent_tests, Place}
 use Rattle.gui_base.proofs.Forests.{map-and_then, map-size, map-cut_by, map-tree_by, map-parent_by, map-added_by, map-moved_by, map-moved_last_by}
 use Rattle.gui_base.proofs.Visits.{count-has}
 use Rattle.gui_pool.specs.Table.{Table, value_at, value_inserted, value_replaced}
 use Rattle.gui_tree.specs.Handles.{numbers}
-use Rattle.gui_tree.specs.Trees.{full_answer, Trees, opened, add_root_answer, add_answer, remove_answer, move_answer, set_parent_answer, with_root, with_child, at_index, below, moved_below, without as without_tree}
+use Rattle.gui_tree.specs.Trees.{Answer, full_answer, Trees, opened, add_root_answer, add_answer, remove_answer, move_answer, set_parent_answer, with_root, with_child, at_index, below, moved_below, without as without_tree}
 use Rattle.scene_defs.specs.declared.Change.{Change}
 use Rattle.scene_defs.specs.declared.Change.TheVariants as change
+use Rattle.scene_defs.specs.Ranges.{is_in_range}
 use Rattle.scene_defs.specs.Scene.{is_there, Row as SceneRow, Scene, is_at, handles_of, entry_count, entries_of, new_row, first_scene}
 use Rattle.scene_defs.specs.Change.{is_screen_kind, answer_in_range, tests, first_short, scene_after, tree_below, parent_row, at_index_below, last_below, row_after, row_set, need_of, freed_by}
-use Rattle.scene_defs.specs.Valid.{IsValid, is_root_at}
+use Rattle.scene_defs.specs.Valid.{IsValid, IsChange, is_root_at}
 use Rattle.scene_defs.proofs.Changes.{tests-fail, room_in_range, none_short, one_short, first-then, first-some, sets_row_alone}
 use Rattle.scene_defs.proofs.Totals.{total, total-cut, total-parts, total-row, one, one_at, size-total, entries-total}
 use Rattle.scene_defs.proofs.Handles.{has-handles}
@@ -39,7 +40,7 @@ use Rattle.gui_store.specs.Parts.{Parts, scene_in, AreKept}
 use Rattle.gui_store.proofs.Rows.{row_count, times, times-preorder, length-preorder, value-set, inserted-count, replaced-count, have-rows, without-count, without-spare, without-handles}
 use Rattle.gui_store.proofs.Shown.{shown, shown-handles, shown-count, shown-aside, shown-set, shown-without, sum-preorder}
 use Rattle.gui_store.proofs.RowTests.{passed_there}
-use Rattle.gui_store.proofs.Kept.{there-is, size-is, row-is, read-at, within, vacant, counted, tree-answer, Fine}
+use Rattle.gui_store.proofs.Kept.{Left, answered, done, there-is, size-is, row-is, read-at, within, vacant, counted, tree-answer, Fine}
 
 -- With an index past the last tree, it is put last.
 put_at-last : {A : Type 0} (n : ℕ) (t f : Forest A) → size f ≤ n → put_at n t f ≡ and_then f t
@@ -79,13 +80,6 @@ module _ (p : Parts) (k : AreKept p) where
   delete-active h same =
       let root = ap (is_root_at (scene_in p).trees) (eqb-true _ _ same) ∙ k.valid.trees.active in
       let on = has-handles (scene_in p).trees h.0 ∙ root_there (scene_in p).trees h.0 root in rw (on, same) (grind arith)
-
-  pub move-answer : (change : Change) (h : ℕ) → tests (scene_in p) change ≡ move_tests (handles_of (scene_in p).trees) h →
-      row_set change ≡ None → need_of (scene_in p) change Objects ≡ 0 → result_of (answer_in_range (scene_in p) change) ≡ move_answer p.tree h
-  move-answer change h e set none = tree-answer p k change (λ f. move_tests f h) None set e (grind (arith, nat_tests, none))
-
-  pub parent-answer : (h q : Handle) → result_of (answer_in_range (scene_in p) (change.Parent h q)) ≡ set_parent_answer p.tree h.0 q.0
-  parent-answer h q = tree-answer p k (change.Parent h q) (λ f. parent_tests f h.0 q.0) None refl refl (grind (arith, nat_tests))
 
   pub load-absent : (h : Handle) → has p.tree.forest h.0 ≡ false → answer_in_range (scene_in p) (change.Load h) ≡ Some refusal.Unknown
   load-absent h off = rw (there-is p h.0 ∙ off) refl
@@ -185,27 +179,12 @@ module _ (p : Parts) (k : AreKept p) where
       removed = ap preorder (sym (ap handles_of (sym (tree-is h.0)) ∙ shown-handles p.rows (tree_at p.tree.forest h.0)));
     }
 
-  -- a tree that is moved
-  moved : (change : Change) (g : Forest ℕ) → record (scene_in p) { trees = shown p.rows g } ≡ scene_after (scene_in p) change → ((w : SceneRow → ℕ) → removed_sum (scene_in p) change w ≡ added_sum (scene_in p) change w) → need_of (scene_in p) change Objects ≡ freed_by (scene_in p) change Objects → need_of (scene_in p) change Entries ≡ freed_by (scene_in p) change Entries → p.tree.removed ≡ removed_after p.tree.removed (scene_in p) change → Fine p change (record p { tree = record p.tree { forest = g } })
-  moved change g shows sums objects entries removed = record { shows = shows; handles = k.handles; rows = λ h. omega (arith, sums (one_at h)); room = k.room; slots = omega (arith, objects); entries = omega (arith, entries); removed = removed }
-
-  pub fine-parent : (h q : Handle) → Fine p (change.Parent h q) (record p { tree = below p.tree h.0 q.0 })
-  fine-parent h q =
-      let shows = map-moved_last_by (row_in p.rows) (is_at h.0) (is_at q.0) p.tree.forest in
-      moved (change.Parent h q) (below p.tree h.0 q.0).forest (with_trees shows) (λ w. refl) refl refl refl
-
   -- a tree that goes to an index below the same parent
   index-shows : (h n : ℕ) → shown p.rows (moved_below (parent_of p.tree.forest h) p.tree.forest h n) ≡ at_index_below (parent_row (scene_in p) h) (scene_in p).trees h n
   index-shows h n = by (parent_of p.tree.forest h) ∙ ap (λ (o : Option SceneRow). at_index_below o (scene_in p).trees h n) (map-parent_by (row_in p.rows) (is_at h) None p.tree.forest) where
     by : (o : Option ℕ) → shown p.rows (moved_below o p.tree.forest h n) ≡ at_index_below (option_map (row_in p.rows) o) (scene_in p).trees h n
     by None = refl
     by (Some q) = map-moved_by (row_in p.rows) (is_at h) (is_at q) n p.tree.forest
-
-  pub fine-index : (h : Handle) (n : ℕ) → Fine p (change.Index h n) (record p { tree = at_index p.tree h.0 n })
-  fine-index h n = moved (change.Index h n) (at_index p.tree h.0 n).forest (with_trees (index-shows h.0 n)) (λ w. refl) refl refl refl
-
-  pub fine-back : (h : Handle) → Fine p (change.Back h) (record p { tree = at_index p.tree h.0 0 })
-  fine-back h = moved (change.Back h) (at_index p.tree h.0 0).forest (with_trees (index-shows h.0 0)) (λ w. refl) refl refl refl
 
   -- an index past so many is the last
   last-shows : (h n : ℕ) → p.limits.objects ≤ n → (o : Option SceneRow) → at_index_below o (scene_in p).trees h n ≡ last_below o (scene_in p).trees h
@@ -215,10 +194,35 @@ module _ (p : Parts) (k : AreKept p) where
       let a = total-cut one (is_at h) (scene_in p).trees in
       last-alike (is_at q.handle) n (tree_below (scene_in p) h) bare (omega (arith, few, a, size-total bare, size-total (scene_in p).trees, k.valid.pools.objects))
 
-  pub fine-front : (h : Handle) (n : ℕ) → p.limits.objects ≤ n → Fine p (change.Front h) (record p { tree = at_index p.tree h.0 n })
-  fine-front h n few =
-      let shows = index-shows h.0 n ∙ last-shows h.0 n few (parent_row (scene_in p) h.0) in
-      moved (change.Front h) (at_index p.tree h.0 n).forest (with_trees shows) (λ w. refl) refl refl refl
+  -- A change that moves a tree, as a call of the tree does.
+  module _ (change : Change) (fits : is_in_range change ≡ true) (plain : IsChange change) (set : row_set change ≡ None)
+      (sums : (w : SceneRow → ℕ) → removed_sum (scene_in p) change w ≡ added_sum (scene_in p) change w)
+      (objects : need_of (scene_in p) change Objects ≡ 0) (freed : freed_by (scene_in p) change Objects ≡ 0)
+      (entries : need_of (scene_in p) change Entries ≡ freed_by (scene_in p) change Entries)
+      (removed : p.tree.removed ≡ removed_after p.tree.removed (scene_in p) change) (t : Trees) (r : Answer) (err : OnErr r (t ≡ p.tree)) where
+    moved : (ts : Forest ℕ → List Test) (g : Forest ℕ) → tests (scene_in p) change ≡ ts (handles_of (scene_in p).trees) →
+        record (scene_in p) { trees = shown p.rows g } ≡ scene_after (scene_in p) change → r ≡ result_of (first_of (ts p.tree.forest) None) →
+        OnOk r (t ≡ record p.tree { forest = g }) → Left p change (record p { tree = t }) r
+    moved ts g e shows a ok =
+        let rows = λ (h : ℕ). sums (one_at h) in
+        let same = tree-answer p k change ts None set e (grind (arith, nat_tests, objects)) ∙ sym a in
+        answered p k change fits plain (answer_in_range (scene_in p) change) refl t (record p.tree { forest = g }) r same ok err (search (rules, k))
+
+    pub moved_beside : (h n : ℕ) → tests (scene_in p) change ≡ move_tests (handles_of (scene_in p).trees) h →
+        record (scene_in p) { trees = at_index_below (parent_row (scene_in p) h) (scene_in p).trees h n } ≡ scene_after (scene_in p) change →
+        r ≡ move_answer p.tree h → OnOk r (t ≡ at_index p.tree h n) → Left p change (record p { tree = t }) r
+    moved_beside h n e after = moved (λ f. move_tests f h) (at_index p.tree h n).forest e (with_trees (index-shows h n) ∙ after)
+
+  pub moved_below_other : (h q : Handle) → is_in_range (change.Parent h q) ≡ true → (t : Trees) (r : Answer) → OnErr r (t ≡ p.tree) →
+      r ≡ set_parent_answer p.tree h.0 q.0 → OnOk r (t ≡ below p.tree h.0 q.0) → Left p (change.Parent h q) (record p { tree = t }) r
+  moved_below_other h q fits t r err =
+      let shows = map-moved_last_by (row_in p.rows) (is_at h.0) (is_at q.0) p.tree.forest in
+      moved (change.Parent h q) fits tt refl (λ w. refl) refl refl refl refl t r err
+      (λ f. parent_tests f h.0 q.0) (below p.tree h.0 q.0).forest refl (with_trees shows)
+
+  pub last-after : (h : Handle) (n : ℕ) → p.limits.objects ≤ n →
+      record (scene_in p) { trees = at_index_below (parent_row (scene_in p) h.0) (scene_in p).trees h.0 n } ≡ scene_after (scene_in p) (change.Front h)
+  last-after h n few = with_trees (last-shows h.0 n few (parent_row (scene_in p) h.0))
 
   pub fine-load : (h : Handle) → Fine p (change.Load h) (record p { active = h.0 })
   fine-load h = record { shows = refl; handles = k.handles; rows = λ j. omega arith; room = k.room; slots = refl; entries = omega arith; removed = refl }
@@ -235,9 +239,6 @@ module _ (p : Parts) (k : AreKept p) where
     is : row_of h.0 row ≡ row_after change (row_in p.rows h.0)
     count : n + entries_in p.rows h.0 ≡ p.entries + entry_count (row_of h.0 row)
 
-  pub set_there : (change : Change) (h : Handle) → row_set change ≡ Some h → first_of (tests (scene_in p) change) None ≡ None → has p.tree.forest h.0 ≡ true
-  set_there change h set passed = sym (there-is p h.0) ∙ passed_there (scene_in p) change h set passed
-
   -- the entries of a row that is read
   pub row-entries : (h : Handle) (row : Row) (n : ℕ) → has p.tree.forest h.0 ≡ true → Some row ≡ value_at p.rows h.0 → ((j : ℕ) → n ≡ entry_count (row_of j row)) → (n ≡ entries_in p.rows h.0) × (n ≤ p.entries)
   row-entries h row n on read count =
@@ -247,7 +248,7 @@ module _ (p : Parts) (k : AreKept p) where
 
   pub row-set : (change : Change) (h : Handle) (old new : Row) (a b : ℕ) → row_set change ≡ Some h → first_of (tests (scene_in p) change) None ≡ None → Some old ≡ value_at p.rows h.0 → ((j : ℕ) → row_of j new ≡ row_after change (row_of j old)) → ((j : ℕ) → a ≡ entry_count (row_of j old)) → ((j : ℕ) → b ≡ entry_count (row_of j new)) → RowSet change h new (p.entries - a + b)
   row-set change h old new a b set passed read is before after =
-      let on = set_there change h set passed in
+      let on = sym (there-is p h.0) ∙ passed_there (scene_in p) change h set passed in
       let was = row-entries h old a on read before in
       let now = after h.0 in
       record { set = set; passed = passed; on = on; is = is h.0 ∙ ap (row_after change) (read-at p k h.0 old read); count = omega (arith, was.0, was.1, now) }
@@ -276,6 +277,10 @@ module _ (p : Parts) (k : AreKept p) where
         let short = one_short (scene_in p) change Entries (set_only (scene_in p) change h r.set) in
         first-then (tests (scene_in p) change) (option_map Full (first_short (scene_in p) change POOLS)) r.passed
         ∙ grind (arith, nat_tests, over, short, a, ap entry_count r.is, r.count, k.entries, k.valid.pools.entries)
+
+    pub row-done : is_in_range change ≡ true → IsChange change → nat_lt p.limits.entries n ≡ false → (rows : Table Row) →
+        rows ≡ value_replaced p.rows h.0 row → Left p change (record p { rows = rows; entries = n }) (Ok tt)
+    row-done fits plain under rows is = rw is (done p k change fits plain _ (row-answer false under) fine-row)
 
   pub row-refused : (change : Change) (x : Refusal) → first_of (tests (scene_in p) change) None ≡ Some x → answer_in_range (scene_in p) change ≡ Some x
   row-refused change x e = first-some (tests (scene_in p) change) (option_map Full (first_short (scene_in p) change POOLS)) x e

@@ -1,6 +1,7 @@
 -- What the parts of a store answer, and that a change keeps them in order.
 use Rattle.std.proofs.Common.{nat_lt, inl, inr, ◌≡◌, ◌<◌, ◌⊎◌, ◌∙◌, sym, ap, subst, ℕ, ◌+◌, true, false, length, Option, unwrap_or, Some, None, is_some, option_map, Ok, Err, List, refl, arith}
-use Rattle.std.specs.Prelude.{if◌then◌else◌, OnOk, OnErr}
+use Rattle.std.specs.Prelude.{if◌then◌else◌, OnOk, OnErr, IsErrAnd}
+use Rattle.std.proofs.lemmas.Result.{err_from_is_err_and}
 use Rattle.std.proofs.lemmas.Bool.Decides.{nat_tests}
 use Rattle.gui_base.specs.declared.pools.TheConstants.{POOLS}
 use Rattle.gui_base.specs.declared.intervals.TheConstants.{HANDLE}
@@ -115,11 +116,12 @@ module _ (p : Parts) (k : AreKept p) (change : Change) where
   pub refused : (x : Refusal) → answer_in_range (scene_in p) change ≡ Some x → IsChanged p p change (Err x)
   refused x e = record { answer_is = rw e refl; scene = rw e refl; removed = rw e refl }
 
-  -- a call of the tree that answers a refusal
-  pub failed : (t : Trees) (x : Refusal) (r : Answer) → result_of (answer_in_range (scene_in p) change) ≡ r → r ≡ Err x → OnErr r (t ≡ p.tree) → IsChanged p (record p { tree = t }) change (Err x)
-  failed t x r a e err =
-      let is : t ≡ p.tree = subst (λ (y : Answer). OnErr y (t ≡ p.tree)) e err in
-      subst (λ (y : Trees). IsChanged p (record p { tree = y }) change (Err x)) (sym is) (refused x (err-some (answer_in_range (scene_in p) change) x (a ∙ e)))
+  -- a call of the tree that answers a refusal, which is handed on
+  pub failed : (t : Trees) (x : Refusal) (r s : Answer) → result_of (answer_in_range (scene_in p) change) ≡ r → r ≡ Err x → OnErr r (t ≡ p.tree) →
+      IsErrAnd s (λ y. y ≡ x) → IsChanged p (record p { tree = t }) change s
+  failed t x r s a e err handed =
+      let is : t ≡ p.tree = rw e at err in
+      let h = err_from_is_err_and s handed in rw (is, h.1, h.2) (refused x (err-some (answer_in_range (scene_in p) change) x (a ∙ e)))
 
   module _ (fits : is_in_range change ≡ true) (c : IsChange change) where
     pub done : (q : Parts) → answer_in_range (scene_in p) change ≡ None → Fine p change q → Left p change q (Ok tt)
@@ -145,22 +147,16 @@ module _ (p : Parts) (k : AreKept p) (change : Change) where
         }
 
     -- a call of the tree that answers as the change does
-    by_answer : (o : Option Refusal) → answer_in_range (scene_in p) change ≡ o → (t u : Trees) (r : Answer) → result_of o ≡ r → OnOk r (t ≡ u) → OnErr r (t ≡ p.tree) → (answer_in_range (scene_in p) change ≡ None → Fine p change (record p { tree = u })) → Left p change (record p { tree = t }) r
-    by_answer None e t u r a ok err fine =
-        let is : t ≡ u = subst (λ (x : Answer). OnOk x (t ≡ u)) (sym a) ok in
-        subst (λ (x : Answer). Left p change (record p { tree = t }) x) a (subst (λ (x : Trees). Left p change (record p { tree = x }) (Ok tt)) (sym is) (done (record p { tree = u }) e (fine e)))
-    by_answer (Some y) e t u r a ok err fine =
-        let is : t ≡ p.tree = subst (λ (x : Answer). OnErr x (t ≡ p.tree)) (sym a) err in
-        subst (λ (x : Answer). Left p change (record p { tree = t }) x) a (subst (λ (x : Trees). Left p change (record p { tree = x }) (Err y)) (sym is) (record { kept = k; is = refused y e }))
+    pub answered : (o : Option Refusal) → answer_in_range (scene_in p) change ≡ o → (t u : Trees) (r : Answer) → result_of o ≡ r →
+        OnOk r (t ≡ u) → OnErr r (t ≡ p.tree) → Fine p change (record p { tree = u }) → Left p change (record p { tree = t }) r
+    answered None e t u r a ok err fine = let is : t ≡ u = rw (← a) at ok in rw (← a, is) (done (record p { tree = u }) e fine)
+    answered (Some y) e t u r a ok err fine = let is : t ≡ p.tree = rw (← a) at err in rw (← a, is) (record { kept = k; is = refused y e })
 
-    -- a call of the tree that is done, and a row that is written then
-    pub grown : (t u : Trees) (r : Answer) (rows : Table Row) (n : ℕ) (v : Unit {0}) → result_of (answer_in_range (scene_in p) change) ≡ r → r ≡ Ok v → OnOk r (t ≡ u) → (answer_in_range (scene_in p) change ≡ None → Fine p change (record p { tree = u; rows = rows; entries = n })) → Left p change (record p { tree = t; rows = rows; entries = n }) (Ok tt)
-    grown t u r rows n v a e ok fine =
-        let is : t ≡ u = subst (λ (x : Answer). OnOk x (t ≡ u)) e ok in
-        let none = ok-none (answer_in_range (scene_in p) change) v (a ∙ e) in
-        subst (λ (x : Trees). Left p change (record p { tree = x; rows = rows; entries = n }) (Ok tt)) (sym is) (done (record p { tree = u; rows = rows; entries = n }) none (fine none))
-
--- a call of the tree that answers as a change does which was read as another name for it
-pub edited : (p : Parts) (k : AreKept p) (asked change : Change) → asked ≡ change → is_in_range asked ≡ true → IsChange change → (t u : Trees) (r : Answer) → result_of (answer_in_range (scene_in p) change) ≡ r → OnOk r (t ≡ u) → OnErr r (t ≡ p.tree) → Fine p change (record p { tree = u }) → Left p asked (record p { tree = t }) r
-edited p k asked change is fits c t u r a ok err fine =
-    rw is (by_answer p k change (rw is at fits) c (answer_in_range (scene_in p) change) refl t u r a ok err (λ e. fine))
+    -- a call of the tree that is done, and rows that are written then
+    pub grown : (t u : Trees) (r : Answer) (rows new : Table Row) (n : ℕ) (v : Unit {0}) → result_of (answer_in_range (scene_in p) change) ≡ r →
+        r ≡ Ok v → OnOk r (t ≡ u) → new ≡ rows →
+        (answer_in_range (scene_in p) change ≡ None → Fine p change (record p { tree = u; rows = rows; entries = n })) →
+        Left p change (record p { tree = t; rows = new; entries = n }) (Ok tt)
+    grown t u r rows new n v a e ok written fine =
+        let is : t ≡ u = rw e at ok in
+        let none = ok-none (answer_in_range (scene_in p) change) v (a ∙ e) in rw (is, written) (done _ none (fine none))

@@ -1,34 +1,31 @@
-use Rattle.std.proofs.Common.{◌≡◌, ◌∙◌, sym, subst, true, Ok, arith}
-use Rattle.std.proofs.lemmas.Result.{err_from_is_err_and}
+use Rattle.std.proofs.Common.{◌≡◌, ◌∙◌, sym, true, Ok, arith}
 use Rattle.std.proofs.lemmas.Bool.{and_parts}
 use Rattle.std.proofs.lemmas.Bool.Decides.{nat_tests}
 use Rattle.gui_base.specs.declared.intervals.TheConstants.{NEW_HANDLE}
 use Rattle.gui_base.specs.Intervals.{is_counted}
-use Rattle.gui_pool.specs.Table.{Table}
 use Rattle.gui_tree.specs.Trees.{with_child}
 use Rattle.scene_defs.specs.declared.Change.TheVariants as change
-use Rattle.gui_store.specs.declared.row.Row.{Row}
 use Rattle.gui_store.specs.Views.{parts_of}
 use Rattle.gui_store.proofs.Edits.{object-answer, fine-object}
 use Rattle.gui_store.proofs.Kept.{Left, failed, grown}
 use Rattle.gui_store.proofs.store.Store.add_object.Goals as goal
 use Rattle.gui_store.proofs.store.Store.add_object.Goals.{After-insert_row}
 
-added : (c : After-insert_row) → Left (parts_of c.args.self.now) (change.New c.args.n c.args.parent c.args.kind) (record (parts_of c.args.self.now) { tree = c.add.new.self; rows = c.insert_row.new.rows }) (Ok tt)
+added : (c : After-insert_row) →
+    Left (parts_of c.args.self.now) (change.New c.args.n c.args.parent c.args.kind) (record (parts_of c.args.self.now) { tree = c.add.new.self; rows = c.insert_row.new.rows }) (Ok tt)
 added c =
     let p = parts_of c.args.self.now in
     let new : is_counted NEW_HANDLE c.args.n.0 ≡ true = (and_parts _ _ c.requires.in_range).0 in
-    subst (λ (rows : Table Row). Left p (change.New c.args.n c.args.parent c.args.kind) (record p { tree = c.add.new.self; rows = rows }) (Ok tt)) (sym c.insert_row.ensures)
-    (grown p c.args.self.now.kept (change.New c.args.n c.args.parent c.args.kind) c.requires.in_range c.requires.plain c.add.new.self (with_child p.tree c.args.parent.0 c.args.n.0) c.add.result _ p.entries _
-    (object-answer p c.args.self.now.kept c.args.n c.args.parent c.args.kind ∙ sym c.add.ensures.answer) c.in_ok-add.was c.add.ensures.ok
-    (fine-object p c.args.self.now.kept c.args.n c.args.parent c.args.kind c.new.result (grind (arith, nat_tests, new)) (c.new.ensures c.args.n.0)))
+    let answer = object-answer p c.args.self.now.kept c.args.n c.args.parent c.args.kind ∙ sym c.add.ensures.answer in
+    grown p c.args.self.now.kept (change.New c.args.n c.args.parent c.args.kind) c.requires.in_range c.requires.plain c.add.new.self (with_child p.tree c.args.parent.0 c.args.n.0) c.add.result _ _ _ _
+    answer c.in_ok-add.was c.add.ensures.ok c.insert_row.ensures
+    (fine-object p c.args.self.now.kept c.args.n c.args.parent c.args.kind c.new.result (grind (arith, nat_tests, new)) (c.new.ensures c.args.n.0))
 
 pub returns-in_err-add : goal.returns-in_err-add
 returns-in_err-add c =
     let p = parts_of c.args.self.now in
-    let q = err_from_is_err_and c.from_residual.result c.from_residual.ensures.1 in
-    rw (q.1, q.2)
-    (failed p c.args.self.now.kept (change.New c.args.n c.args.parent c.args.kind) c.add.new.self _ c.add.result (object-answer p c.args.self.now.kept c.args.n c.args.parent c.args.kind ∙ sym c.add.ensures.answer) c.in_err-add.was c.add.ensures.refused)
+    failed p c.args.self.now.kept (change.New c.args.n c.args.parent c.args.kind) c.add.new.self _ c.add.result c.from_residual.result
+    (object-answer p c.args.self.now.kept c.args.n c.args.parent c.args.kind ∙ sym c.add.ensures.answer) c.in_err-add.was c.add.ensures.refused c.from_residual.ensures.1
 
 pub invariant_of-self-2 : goal.invariant_of-self-2
 invariant_of-self-2 c = record { kept = (added (goal.at.invariant_of-self-2 c).After-insert_row).kept }

@@ -1,14 +1,9 @@
-use Rattle.std.proofs.Common.{◌≡◌, ◌∙◌, ◌-◌, sym, ap, subst, Ok, arith}
-use Rattle.std.specs.Prelude.{OnOk}
-use Rattle.std.proofs.lemmas.Result.{err_from_is_err_and}
+use Rattle.std.proofs.Common.{◌≡◌, ◌∙◌, ◌-◌, sym, ap, Ok, arith}
 use Rattle.gui_base.specs.declared.refusal.Refusal.TheVariants.{Place}
 use Rattle.gui_base.specs.Forest.{preorder, tree_at}
-use Rattle.gui_pool.specs.Table.{Table}
 use Rattle.gui_tree.specs.Handles.{numbers}
-use Rattle.gui_tree.specs.Trees.{Trees, Answer, without}
+use Rattle.gui_tree.specs.Trees.{Trees, without}
 use Rattle.scene_defs.specs.declared.Change.TheVariants as change
-use Rattle.gui_store.specs.declared.row.Row.{Row}
-use Rattle.gui_store.specs.Rows.{rows_without}
 use Rattle.gui_store.specs.Views.{parts_of}
 use Rattle.gui_store.proofs.Edits.{delete-answer, delete-active, listed-sum, listed-rows, freed-few, fine-delete}
 use Rattle.gui_store.proofs.Kept.{Left, refused, failed, grown}
@@ -18,18 +13,23 @@ use Rattle.gui_store.proofs.store.Store.delete.Goals.{In_ok-remove, After-remove
 -- what is listed
 listed : (c : In_ok-remove) → c.remove.new.self.removed ≡ preorder (tree_at c.args.self.now.tree.forest c.args.h.0)
 listed c =
-    let p = parts_of c.args.self.now in
-    ap (λ (t : Trees). t.removed) (subst (λ (x : Answer). OnOk x (c.remove.new.self ≡ without p.tree c.args.h.0)) c.in_ok-remove.was c.remove.ensures.ok)
+    let is : c.remove.new.self ≡ without c.args.self.now.tree c.args.h.0 = rw c.in_ok-remove.was at c.remove.ensures.ok in
+    ap (λ (t : Trees). t.removed) is
 
-deleted : (c : After-remove_rows) → numbers c.last_removed-removed.result.now ≡ preorder (tree_at c.args.self.now.tree.forest c.args.h.0) → Left (parts_of c.args.self.now) (change.Delete c.args.h) (record (parts_of c.args.self.now) { tree = c.remove.new.self; rows = c.remove_rows.new.rows; entries = c.args.self.now.entries - c.entries_of.result }) (Ok tt)
+deleted : (c : After-remove_rows) → numbers c.last_removed-removed.result.now ≡ preorder (tree_at c.args.self.now.tree.forest c.args.h.0) →
+    Left (parts_of c.args.self.now) (change.Delete c.args.h) (record (parts_of c.args.self.now) {
+      tree = c.remove.new.self;
+      rows = c.remove_rows.new.rows;
+      entries = c.args.self.now.entries - c.entries_of.result;
+    }) (Ok tt)
 deleted c list =
     let p = parts_of c.args.self.now in
     let k = c.args.self.now.kept in
     let hs = c.last_removed-removed.result.now in
-    let n = c.args.self.now.entries - c.entries_of.result in
-    subst (λ (rows : Table Row). Left p (change.Delete c.args.h) (record p { tree = c.remove.new.self; rows = rows; entries = n }) (Ok tt)) (sym c.remove_rows.ensures)
-    (grown p k (change.Delete c.args.h) c.requires tt c.remove.new.self (without p.tree c.args.h.0) c.remove.result (rows_without p.rows hs) n _
-    (delete-answer p k c.args.h (sym c.eq.ensures ∙ c.if-eq.false) ∙ sym c.remove.ensures.answer) c.in_ok-remove.was c.remove.ensures.ok (λ e. fine-delete p k hs c.args.h list c.entries_of.result (c.entries_of.ensures ∙ listed-sum p k hs c.args.h list)))
+    let answer = delete-answer p k c.args.h (sym c.eq.ensures ∙ c.if-eq.false) ∙ sym c.remove.ensures.answer in
+    let sum = c.entries_of.ensures ∙ listed-sum p k hs c.args.h list in
+    grown p k (change.Delete c.args.h) c.requires tt c.remove.new.self (without p.tree c.args.h.0) c.remove.result _ _ _ _
+    answer c.in_ok-remove.was c.remove.ensures.ok c.remove_rows.ensures (λ e. fine-delete p k hs c.args.h list c.entries_of.result sum)
 
 pub returns-then-eq : goal.returns-then-eq
 returns-then-eq c =
@@ -38,9 +38,9 @@ returns-then-eq c =
 pub returns-in_err-remove : goal.returns-in_err-remove
 returns-in_err-remove c =
     let p = parts_of c.args.self.now in
-    let q = err_from_is_err_and c.from_residual.result c.from_residual.ensures.1 in
-    rw (q.1, q.2)
-    (failed p c.args.self.now.kept (change.Delete c.args.h) c.remove.new.self _ c.remove.result (delete-answer p c.args.self.now.kept c.args.h (sym c.eq.ensures ∙ c.if-eq.false) ∙ sym c.remove.ensures.answer) c.in_err-remove.was c.remove.ensures.refused)
+    let answer = delete-answer p c.args.self.now.kept c.args.h (sym c.eq.ensures ∙ c.if-eq.false) ∙ sym c.remove.ensures.answer in
+    failed p c.args.self.now.kept (change.Delete c.args.h) c.remove.new.self _ c.remove.result c.from_residual.result
+    answer c.in_err-remove.was c.remove.ensures.refused c.from_residual.ensures.1
 
 pub entries_of-requires : goal.entries_of-requires
 entries_of-requires c =

@@ -40,7 +40,7 @@ use Rattle.gui_store.specs.Parts.{Parts, scene_in, AreKept}
 use Rattle.gui_store.proofs.Rows.{row_count, times, times-preorder, length-preorder, value-set, inserted-count, replaced-count, have-rows, without-count, without-spare, without-handles}
 use Rattle.gui_store.proofs.Shown.{shown, shown-handles, shown-count, shown-aside, shown-set, shown-without, sum-preorder}
 use Rattle.gui_store.proofs.RowTests.{passed_there}
-use Rattle.gui_store.proofs.Kept.{Left, answered, done, there-is, size-is, row-is, read-at, within, vacant, counted, tree-answer, Fine}
+use Rattle.gui_store.proofs.Kept.{read-on, read-off, Left, answered, done, there-is, size-is, row-is, read-at, within, vacant, counted, tree-answer, Fine}
 
 -- With an index past the last tree, it is put last.
 put_at-last : {A : Type 0} (n : ℕ) (t f : Forest A) → size f ≤ n → put_at n t f ≡ and_then f t
@@ -81,13 +81,17 @@ module _ (p : Parts) (k : AreKept p) where
       let root = ap (is_root_at (scene_in p).trees) (eqb-true _ _ same) ∙ k.valid.trees.active in
       let on = has-handles (scene_in p).trees h.0 ∙ root_there (scene_in p).trees h.0 root in rw (on, same) (grind arith)
 
-  pub load-absent : (h : Handle) → has p.tree.forest h.0 ≡ false → answer_in_range (scene_in p) (change.Load h) ≡ Some refusal.Unknown
-  load-absent h off = rw (there-is p h.0 ∙ off) refl
+  -- a load of what is not there, and of a row that is read
+  pub load-absent : (h : Handle) → None ≡ value_at p.rows h.0 → answer_in_range (scene_in p) (change.Load h) ≡ Some refusal.Unknown
+  load-absent h e = rw (there-is p h.0 ∙ read-off p k h.0 e) refl
 
-  pub load-answer : (h : Handle) (b : Bool) → has p.tree.forest h.0 ≡ true → is_screen_kind (row_in p.rows h.0).kind ≡ b → answer_in_range (scene_in p) (change.Load h) ≡ (if b then None else Some refusal.Kind)
-  load-answer h b on is =
+  pub load-answer : (h : Handle) (row : Row) (b : Bool) → Some row ≡ value_at p.rows h.0 → is_screen_kind row.kind ≡ b →
+      answer_in_range (scene_in p) (change.Load h) ≡ (if b then None else Some refusal.Kind)
+  load-answer h row b read is =
       let none = none_short (scene_in p) (change.Load h) POOLS (λ q. refl) in
-      rw (there-is p h.0 ∙ on, row-is p h.0 on, is) (grind (arith, none))
+      let on = read-on p k h.0 row read in
+      let kind = ap (λ (r : SceneRow). r.kind) (sym (read-at p k h.0 row read)) in
+      rw (there-is p h.0 ∙ on, row-is p h.0 on, kind, is) (grind (arith, none))
 
   with_trees : {f g : Forest SceneRow} → f ≡ g → record (scene_in p) { trees = f } ≡ record (scene_in p) { trees = g }
   with_trees e = ap (λ (t : Forest SceneRow). record (scene_in p) { trees = t }) e
@@ -256,20 +260,14 @@ module _ (p : Parts) (k : AreKept p) where
   module _ (change : Change) (h : Handle) (row : Row) (n : ℕ) (r : RowSet change h row n) where
     pub fine-row : Fine p change (record p { rows = value_replaced p.rows h.0 row; entries = n })
     fine-row =
+        let shows = with_trees (shown-set p.rows p.tree.forest h.0 row (row_after change) (within p k h.0 r.on) r.is) ∙ sym (sets_row_alone (scene_in p) change h r.set) in
+        let handles = length-set p.rows.values h.0 (Some row) ∙ k.handles in
+        let rows = λ (j : ℕ). replaced-count p.rows h.0 j row (k.rows h.0 ∙ r.on) in
+        let sums = λ (j : ℕ). set_sums (scene_in p) change h (one_at j) r.set in
         let slots = set_slots (scene_in p) change h r.set in
-        record {
-          shows =
-              with_trees (shown-set p.rows p.tree.forest h.0 row (row_after change) (within p k h.0 r.on) r.is)
-              ∙ sym (sets_row_alone (scene_in p) change h r.set);
-          handles = length-set p.rows.values h.0 (Some row) ∙ k.handles;
-          rows = λ j. let sums = set_sums (scene_in p) change h (one_at j) r.set in omega (arith, sums.0, sums.1, replaced-count p.rows h.0 j row (k.rows h.0 ∙ r.on));
-          room = k.room;
-          slots = omega (arith, slots.0, slots.1);
-          entries =
-              let a = needs (scene_in p) change h (row_in p.rows h.0) r.set (row-is p h.0 r.on) in
-              let b = ap entry_count r.is in omega (arith, slots.2, r.count);
-          removed = removed-set change h r.set;
-        }
+        let need = needs (scene_in p) change h (row_in p.rows h.0) r.set (row-is p h.0 r.on) in
+        let removed = removed-set change h r.set in
+        search (rules, k, r.count, ap entry_count r.is)
 
     pub row-answer : (b : Bool) → nat_lt p.limits.entries n ≡ b → answer_in_range (scene_in p) change ≡ (if b then Some (Full Entries) else None)
     row-answer b over =
@@ -301,15 +299,18 @@ module _ (tree : Trees) (limits : Bounds) (room : 3 ≤ limits.objects) (new : t
       let second = value-set (slice_set t.values 1 (Some a)) 2 h (Some b) (omega (arith, keys, one)) in
       let first = value-set t.values 1 h (Some a) (omega (arith, keys)) in rw (third, second, first, empty h) refl
 
-  pub first-shows : scene_in first_parts ≡ first_scene limits
+  first-shows : scene_in first_parts ≡ first_scene limits
   first-shows = rw (new, first-value 1, first-value 2, first-value 3, top 1, system 2, screen 3) refl
 
-  pub first-kept : AreKept first_parts
-  first-kept = record {
-    valid = subst (λ (s : Scene). IsValid s) (sym first-shows) (first_is_valid limits room);
-    handles = simp length-set keys;
-    rows = λ h. rw (new, first-value h) (grind (arith, nat_tests));
-    room = let e = ap (λ (x : Trees). x.spare) new in omega (arith, e, spare);
-    objects = let e : size tree.forest + tree.spare ≡ 3 + (limits.objects - 3) = ap (λ (t : Trees). size t.forest + t.spare) new in omega arith;
-    entries = sym (ap (λ (s : Scene). entries_of s.trees) first-shows);
-  }
+  pub first-kept : AreKept first_parts × (scene_in first_parts ≡ first_scene limits)
+  first-kept = (
+    record {
+      valid = subst (λ (s : Scene). IsValid s) (sym first-shows) (first_is_valid limits room);
+      handles = simp length-set keys;
+      rows = λ h. rw (new, first-value h) (grind (arith, nat_tests));
+      room = let e = ap (λ (x : Trees). x.spare) new in omega (arith, e, spare);
+      objects = let e : size tree.forest + tree.spare ≡ 3 + (limits.objects - 3) = ap (λ (t : Trees). size t.forest + t.spare) new in omega arith;
+      entries = sym (ap (λ (s : Scene). entries_of s.trees) first-shows);
+    },
+    first-shows,
+  )

@@ -1,42 +1,13 @@
 -- The parts of a store after each change that is done.
-use Rattle.std.proofs.Common.{rules, Ok, ◌≡◌, ◌<◌, ◌≤◌, ◌∙◌, sym, ap, subst, ℕ, zero, suc, ◌+◌, ◌-◌, Bool, true, false, length, slice_set, List, Option, Some, None, option_map, refl, arith, length-set, nat_lt, nat_eq, eqb-true, ◌++◌, [], ◌∷◌, cond, eqb}
-use Rattle.std.specs.List.{sum_by}
-use Rattle.std.specs.Prelude.{if◌then◌else◌, OnOk, OnErr}
-use Rattle.std.proofs.lemmas.Bool.Decides.{nat_tests}
-use Rattle.std.proofs.lemmas.List.{get_or-set_same}
-use Rattle.std.proofs.lemmas.List.Sums.{sum_by-cons}
-use Rattle.gui_base.specs.declared.pools.TheConstants.{POOLS}
-use Rattle.gui_base.specs.declared.Handle.{Handle}
-use Rattle.gui_base.specs.declared.limits.Pool.TheVariants.{Objects, Entries}
-use Rattle.gui_base.specs.declared.refusal.Refusal.{Refusal}
-use Rattle.gui_base.specs.declared.refusal.Refusal.TheVariants.{Full}
+use Rattle.gui_store.proofs.Common.{rules, Ok, ◌≡◌, ◌<◌, ◌≤◌, ◌∙◌, sym, ap, subst, ℕ, zero, suc, ◌+◌, ◌-◌, Bool, true, false, length, slice_set, List, Option, Some, None, option_map, refl, arith, length-set, nat_lt, nat_eq, eqb-true, ◌++◌, [], ◌∷◌, cond, eqb, sum_by, if◌then◌else◌, OnOk, OnErr, nat_tests, get_or-set_same, sum_by-cons, POOLS, Handle, Objects, Entries, Refusal, Full, Forest, Empty, Tree, and_then, leaf, put_at, has, size, count, preorder, cut, cut_by, tree_at, parent_of, with_children_by, Bounds, Test, first_of, result_of, root_tests, child_tests, removal_tests, move_tests, parent_tests, map-and_then, map-size, map-cut_by, map-tree_by, map-parent_by, map-added_by, map-moved_by, map-moved_last_by, count-has, Table, value_at, value_inserted, value_replaced, numbers, Answer, full_answer, Trees, opened, add_root_answer, add_answer, remove_answer, move_answer, set_parent_answer, with_root, with_child, at_index, below, moved_below, without_tree, Change, is_in_range, is_there, SceneRow, Scene, is_at, handles_of, entry_count, entries_of, new_row, first_scene, is_screen_kind, answer_in_range, tests, first_short, scene_after, tree_below, parent_row, at_index_below, last_below, row_after, row_set, need_of, freed_by, IsValid, IsChange, is_root_at, tests-fail, room_in_range, none_short, one_short, first-then, first-some, sets_row_alone, total, total-cut, total-parts, total-row, one, one_at, size-total, entries-total, added_sum, removed_sum, first_is_valid, needs, set_slots, set_sums, set_only, Row, row_of, row_in, entries_in, HaveRows, rows_without, removed_after, Parts, scene_in, AreKept}
 use Rattle.gui_base.specs.declared.refusal.Refusal.TheVariants as refusal
 use Rattle.gui_base.specs.declared.words.Kind.{Kind}
 use Rattle.gui_base.specs.declared.words.Kind.TheVariants.{Screen, Layer}
-use Rattle.gui_base.specs.Forest.{Forest, Empty, Tree, and_then, leaf, put_at, has, size, count, preorder, cut, cut_by, tree_at, parent_of, with_children_by}
-use Rattle.gui_base.specs.Limits.{Bounds}
-use Rattle.gui_base.specs.Refusing.{Test, first_of, result_of, root_tests, child_tests, removal_tests, move_tests, parent_tests, Place}
-use Rattle.gui_base.proofs.Forests.{map-and_then, map-size, map-cut_by, map-tree_by, map-parent_by, map-added_by, map-moved_by, map-moved_last_by}
-use Rattle.gui_base.proofs.Visits.{count-has}
-use Rattle.gui_pool.specs.Table.{Table, value_at, value_inserted, value_replaced}
-use Rattle.gui_tree.specs.Handles.{numbers}
-use Rattle.gui_tree.specs.Trees.{Answer, full_answer, Trees, opened, add_root_answer, add_answer, remove_answer, move_answer, set_parent_answer, with_root, with_child, at_index, below, moved_below, without as without_tree}
-use Rattle.scene_defs.specs.declared.Change.{Change}
+use Rattle.gui_base.specs.Refusing.{Place}
 use Rattle.scene_defs.specs.declared.Change.TheVariants as change
-use Rattle.scene_defs.specs.Ranges.{is_in_range}
-use Rattle.scene_defs.specs.Scene.{is_there, Row as SceneRow, Scene, is_at, handles_of, entry_count, entries_of, new_row, first_scene}
-use Rattle.scene_defs.specs.Change.{is_screen_kind, answer_in_range, tests, first_short, scene_after, tree_below, parent_row, at_index_below, last_below, row_after, row_set, need_of, freed_by}
-use Rattle.scene_defs.specs.Valid.{IsValid, IsChange, is_root_at}
-use Rattle.scene_defs.proofs.Changes.{tests-fail, room_in_range, none_short, one_short, first-then, first-some, sets_row_alone}
-use Rattle.scene_defs.proofs.Totals.{total, total-cut, total-parts, total-row, one, one_at, size-total, entries-total}
 use Rattle.scene_defs.proofs.Handles.{has-handles}
 use Rattle.scene_defs.proofs.RowKinds.{root_there}
 use Rattle.scene_defs.proofs.Distinct.{distinct_once}
-use Rattle.scene_defs.proofs.Validity.{added_sum, removed_sum, first_is_valid, needs, set_slots, set_sums, set_only}
-use Rattle.gui_store.specs.declared.row.Row.{Row}
-use Rattle.gui_store.specs.Rows.{row_of, row_in, entries_in, HaveRows, rows_without}
-use Rattle.gui_store.specs.Removed.{removed_after}
-use Rattle.gui_store.specs.Parts.{Parts, scene_in, AreKept}
 use Rattle.gui_store.proofs.Rows.{row_count, times, times-preorder, length-preorder, value-set, inserted-count, replaced-count, have-rows, without-count, without-spare, without-handles}
 use Rattle.gui_store.proofs.Shown.{shown, shown-handles, shown-count, shown-aside, shown-set, shown-without, sum-preorder}
 use Rattle.gui_store.proofs.RowTests.{passed_there}

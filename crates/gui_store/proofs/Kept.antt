@@ -1,34 +1,8 @@
 -- What the parts of a store answer, and that a change keeps them in order.
-use Rattle.std.proofs.Common.{nat_lt, inl, inr, ◌≡◌, ◌<◌, ◌⊎◌, ◌∙◌, sym, ap, subst, ℕ, ◌+◌, true, false, length, Option, unwrap_or, Some, None, is_some, option_map, Ok, Err, List, refl, arith}
-use Rattle.std.specs.Prelude.{if◌then◌else◌, OnOk, OnErr, IsErrAnd}
-use Rattle.std.proofs.lemmas.Result.{err_from_is_err_and}
-use Rattle.std.proofs.lemmas.Bool.Decides.{nat_tests}
-use Rattle.gui_base.specs.declared.pools.TheConstants.{POOLS}
-use Rattle.gui_base.specs.declared.intervals.TheConstants.{HANDLE}
+use Rattle.gui_store.proofs.Common.{nat_lt, inl, inr, ◌≡◌, ◌<◌, ◌⊎◌, ◌∙◌, sym, ap, subst, ℕ, ◌+◌, true, false, length, Option, unwrap_or, Some, None, is_some, option_map, Ok, Err, List, refl, arith, if◌then◌else◌, OnOk, OnErr, IsErrAnd, err_from_is_err_and, nat_tests, POOLS, HANDLE, Objects, Entries, Refusal, Full, Forest, has, size, count, Bounds, Test, first_of, result_of, map-size, Table, value_at, Trees, Answer, Change, is_in_range, Scene, is_there, handles_of, row_at, entries_of, row_set, answer_in_range, scene_after, tests, first_short, need_of, freed_by, IsValid, IsChange, IsRow, is_row, after_keeps, one_short, one_at, added_sum, removed_sum, after_leaves, after_valid, Row, Parts, scene_in, AreKept, removed_after, blank, row_of, row_in}
 use Rattle.gui_base.specs.declared.limits.Pool.{Pool}
-use Rattle.gui_base.specs.declared.limits.Pool.TheVariants.{Objects, Entries}
-use Rattle.gui_base.specs.declared.refusal.Refusal.{Refusal}
-use Rattle.gui_base.specs.declared.refusal.Refusal.TheVariants.{Full}
-use Rattle.gui_base.specs.Forest.{Forest, has, size, count}
-use Rattle.gui_base.specs.Limits.{Bounds}
-use Rattle.gui_base.specs.Refusing.{Test, first_of, result_of}
-use Rattle.gui_base.proofs.Forests.{map-size}
-use Rattle.gui_pool.specs.Table.{Table, value_at}
-use Rattle.gui_tree.specs.Trees.{Trees, Answer}
-use Rattle.scene_defs.specs.declared.Change.{Change}
 use Rattle.scene_defs.specs.declared.Change.TheVariants as change
-use Rattle.scene_defs.specs.Ranges.{is_in_range}
-use Rattle.scene_defs.specs.Scene.{Scene, is_there, handles_of, row_at, entries_of}
-use Rattle.scene_defs.specs.Change.{row_set, answer_in_range, scene_after, tests, first_short, need_of, freed_by}
-use Rattle.scene_defs.specs.Valid.{IsValid, IsChange, IsRow, is_row}
-use Rattle.scene_defs.proofs.Changes.{after_keeps, one_short}
-use Rattle.scene_defs.proofs.Totals.{one_at}
-use Rattle.scene_defs.proofs.Validity.{added_sum, removed_sum, after_leaves, after_valid}
-use Rattle.gui_store.specs.declared.row.Row.{Row}
 use Rattle.gui_store.specs.Changed.{IsChanged}
-use Rattle.gui_store.specs.Parts.{Parts, scene_in, AreKept}
-use Rattle.gui_store.specs.Removed.{removed_after}
-use Rattle.gui_store.specs.Rows.{blank, row_of, row_in}
 use Rattle.gui_store.proofs.Rows.{row_count, within_of, told-count, count-told}
 use Rattle.gui_store.proofs.Shown.{shown-handles, shown-row, shown-all}
 

@@ -1,12 +1,6 @@
 -- The tests of a change of one row.
-use Rattle.std.proofs.Common.{◌≡◌, true, false, Some, None, arith}
-use Rattle.gui_base.specs.declared.Handle.{Handle}
-use Rattle.gui_base.specs.declared.refusal.Refusal.TheVariants.{Unknown}
-use Rattle.gui_base.specs.Refusing.{first_of}
-use Rattle.scene_defs.specs.declared.Change.{Change}
+use Rattle.gui_store.proofs.Common.{◌≡◌, true, false, Some, None, arith, Handle, Unknown, first_of, Change, row_set, tests, Scene, is_there}
 use Rattle.scene_defs.specs.declared.Change.TheVariants as change
-use Rattle.scene_defs.specs.Change.{row_set, tests}
-use Rattle.scene_defs.specs.Scene.{Scene, is_there}
 
 -- what is not there is unknown
 pub absent_first : (scene : Scene) (change : Change) (h : Handle) → row_set change ≡ Some h → is_there scene h.0 ≡ false → first_of (tests scene change) None ≡ Some Unknown

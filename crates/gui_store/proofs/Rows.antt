@@ -1,14 +1,5 @@
 -- The rows of a table after one is written, and after some are taken out.
-use Rattle.std.proofs.Common.{◌≡◌, ◌<◌, ◌≤◌, ◌∙◌, ℕ, ◌+◌, true, cond, eqb, List, [], ◌∷◌, ◌++◌, length, slice_set, slice_index_or, Option, Some, None, is_some, IsSome, refl, arith, length-set}
-use Rattle.std.proofs.lemmas.Bool.Decides.{nat_tests}
-use Rattle.std.proofs.lemmas.List.{get_or-set_same, get_or-set_other, get_or_past, length-append}
-use Rattle.gui_base.specs.declared.Handle.{Handle}
-use Rattle.gui_base.specs.Forest.{Forest, Empty, Tree, has, count, size, preorder}
-use Rattle.gui_base.proofs.Visits.{count-has, count-off}
-use Rattle.gui_pool.specs.Table.{Table, value_at, value_inserted, value_replaced, value_removed}
-use Rattle.gui_tree.specs.Handles.{numbers}
-use Rattle.gui_store.specs.declared.row.Row.{Row}
-use Rattle.gui_store.specs.Rows.{HaveRows, rows_without}
+use Rattle.gui_store.proofs.Common.{◌≡◌, ◌<◌, ◌≤◌, ◌∙◌, ℕ, ◌+◌, true, cond, eqb, List, [], ◌∷◌, ◌++◌, length, slice_set, slice_index_or, Option, Some, None, is_some, IsSome, refl, arith, length-set, nat_tests, get_or-set_same, get_or-set_other, get_or_past, length-append, Handle, Forest, Empty, Tree, has, count, size, preorder, count-has, count-off, Table, value_at, value_inserted, value_replaced, value_removed, numbers, Row, HaveRows, rows_without}
 
 -- 1 for a handle that has a row, and 0 for any other
 abbrev pub row_count : Table Row → ℕ → ℕ

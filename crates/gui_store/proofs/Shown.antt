@@ -1,18 +1,5 @@
 -- What a forest of handles shows with the rows of a table.
-use Rattle.std.proofs.Common.{ap, ◌≡◌, ◌<◌, ◌∙◌, sym, ℕ, Bool, true, false, cond, if◌then◌else◌, List, ◌++◌, length, Some, None, refl, arith, eqb}
-use Rattle.std.specs.List.{sum_by}
-use Rattle.std.proofs.lemmas.Bool.Decides.{nat_tests}
-use Rattle.std.proofs.lemmas.List.{get_or-set_same, get_or-set_other}
-use Rattle.std.proofs.lemmas.List.Sums.{sum_by-cons, sum_by-append}
-use Rattle.gui_base.specs.Forest.{Forest, Empty, Tree, all_by, count, map_forest, has, preorder, with_row_by}
-use Rattle.gui_base.proofs.Forests.{map-has_by, map-agree, map-set}
-use Rattle.gui_base.specs.declared.Handle.{Handle}
-use Rattle.gui_pool.specs.Table.{Table, value_inserted, value_replaced}
-use Rattle.gui_tree.specs.Handles.{numbers}
-use Rattle.scene_defs.specs.Scene.{Row as SceneRow, is_at, handles_of, row_by, entries_of}
-use Rattle.scene_defs.proofs.Totals.{total, one_at, count-total}
-use Rattle.gui_store.specs.declared.row.Row.{Row}
-use Rattle.gui_store.specs.Rows.{row_of, row_in, entries_in, rows_without}
+use Rattle.gui_store.proofs.Common.{ap, ◌≡◌, ◌<◌, ◌∙◌, sym, ℕ, Bool, true, false, cond, if◌then◌else◌, List, ◌++◌, length, Some, None, refl, arith, eqb, sum_by, nat_tests, get_or-set_same, get_or-set_other, sum_by-cons, sum_by-append, Forest, Empty, Tree, all_by, count, map_forest, has, preorder, with_row_by, map-has_by, map-agree, map-set, Handle, Table, value_inserted, value_replaced, numbers, SceneRow, is_at, handles_of, row_by, entries_of, total, one_at, count-total, Row, row_of, row_in, entries_in, rows_without}
 use Rattle.gui_store.proofs.Rows.{times, without-other}
 
 abbrev pub shown : Table Row → Forest ℕ → Forest SceneRow

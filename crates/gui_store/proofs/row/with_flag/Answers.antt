@@ -1,4 +1,4 @@
-use Rattle.std.proofs.Common.{◌<◌, arith}
+use Rattle.gui_store.proofs.Common.{◌<◌, arith}
 use Rattle.gui_base.specs.declared.words.Flag.{Flag}
 use Rattle.gui_base.specs.declared.words.Flag.TheVariants.{Hidden}
 use Rattle.gui_base.specs.Bits.{flag_bit}

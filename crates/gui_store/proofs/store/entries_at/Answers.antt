@@ -1,8 +1,4 @@
-use Rattle.std.proofs.Common.{◌∙◌, sym, ap, Option, unwrap_or}
-use Rattle.std.specs.Option.{option_copied}
-use Rattle.scene_defs.specs.Scene.{entry_count}
-use Rattle.gui_store.specs.declared.row.Row.{Row}
-use Rattle.gui_store.specs.Rows.{blank, row_of}
+use Rattle.gui_store.proofs.Common.{◌∙◌, sym, ap, Option, unwrap_or, option_copied, entry_count, Row, blank, row_of}
 use Rattle.gui_store.proofs.store.entries_at.Goals as goal
 
 pub returns-in-Some : goal.returns-in-Some

@@ -1,8 +1,5 @@
-use Rattle.std.proofs.Common.{◌+◌, arith}
+use Rattle.gui_store.proofs.Common.{◌+◌, arith, sum_by-take-le, Handle, entries_in}
 use Rattle.std.proofs.lemmas.Grind.{common_steps}
-use Rattle.std.proofs.lemmas.List.Sums.{sum_by-take-le}
-use Rattle.gui_base.specs.declared.Handle.{Handle}
-use Rattle.gui_store.specs.Rows.{entries_in}
 use Rattle.gui_store.proofs.store.entries_of.Goals as goal
 
 pub overflow_add-count : goal.overflow_add-count

@@ -1,6 +1,4 @@
-use Rattle.std.proofs.Common.{◌∙◌, sym, ap, unwrap_or, SFits, w32, rules}
-use Rattle.std.proofs.lemmas.Int.{to_z-of_z}
-use Rattle.scene_defs.specs.Scene.{default_of}
+use Rattle.gui_store.proofs.Common.{◌∙◌, sym, ap, unwrap_or, SFits, w32, rules, to_z-of_z, default_of}
 use Rattle.gui_store.proofs.row.Row.value.Goals as goal
 
 pub returns-in-Some : goal.returns-in-Some

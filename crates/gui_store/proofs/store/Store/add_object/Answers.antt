@@ -1,11 +1,7 @@
-use Rattle.std.proofs.Common.{◌≡◌, ◌∙◌, sym, true, Ok, arith}
+use Rattle.gui_store.proofs.Common.{◌≡◌, ◌∙◌, sym, true, Ok, arith, nat_tests, NEW_HANDLE, with_child, parts_of}
 use Rattle.std.proofs.lemmas.Bool.{and_parts}
-use Rattle.std.proofs.lemmas.Bool.Decides.{nat_tests}
-use Rattle.gui_base.specs.declared.intervals.TheConstants.{NEW_HANDLE}
 use Rattle.gui_base.specs.Intervals.{is_counted}
-use Rattle.gui_tree.specs.Trees.{with_child}
 use Rattle.scene_defs.specs.declared.Change.TheVariants as change
-use Rattle.gui_store.specs.Views.{parts_of}
 use Rattle.gui_store.proofs.Edits.{object-answer, fine-object}
 use Rattle.gui_store.proofs.Kept.{Left, failed, grown}
 use Rattle.gui_store.proofs.store.Store.add_object.Goals as goal

@@ -1,8 +1,5 @@
-use Rattle.std.proofs.Common.{◌∙◌, sym, Ok, arith}
-use Rattle.std.proofs.lemmas.Bool.Decides.{nat_tests}
-use Rattle.gui_tree.specs.Trees.{with_root}
+use Rattle.gui_store.proofs.Common.{◌∙◌, sym, Ok, arith, nat_tests, with_root, parts_of}
 use Rattle.scene_defs.specs.declared.Change.TheVariants as change
-use Rattle.gui_store.specs.Views.{parts_of}
 use Rattle.gui_store.proofs.Edits.{screen-answer, fine-screen}
 use Rattle.gui_store.proofs.Kept.{Left, failed, grown}
 use Rattle.gui_store.proofs.store.Store.add_screen.Goals as goal

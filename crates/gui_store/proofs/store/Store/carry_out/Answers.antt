@@ -1,6 +1,5 @@
-use Rattle.std.proofs.Common.{refl, arith}
+use Rattle.gui_store.proofs.Common.{refl, arith, parts_of}
 use Rattle.scene_defs.specs.declared.Change.TheVariants as change
-use Rattle.gui_store.specs.Views.{parts_of}
 use Rattle.gui_store.proofs.Edits.{moved_beside, moved_below_other, last-after}
 use Rattle.gui_store.proofs.Kept.{Left}
 use Rattle.gui_store.proofs.store.Store.carry_out.Goals as goal

@@ -1,10 +1,4 @@
-use Rattle.std.proofs.Common.{◌≡◌, ◌∙◌, ◌+◌, ◌-◌, sym, Some, Ok, true, arith}
-use Rattle.std.proofs.lemmas.Bool.Decides.{nat_tests}
-use Rattle.std.proofs.lemmas.Result.{err_from_is_err_and}
-use Rattle.gui_base.specs.declared.limits.Pool.TheVariants.{Entries}
-use Rattle.gui_base.specs.declared.refusal.Refusal.TheVariants.{Full, Unknown}
-use Rattle.gui_pool.specs.Table.{value_at}
-use Rattle.gui_store.specs.Views.{parts_of, scene_of}
+use Rattle.gui_store.proofs.Common.{◌≡◌, ◌∙◌, ◌+◌, ◌-◌, sym, Some, Ok, true, arith, nat_tests, err_from_is_err_and, Entries, Full, Unknown, value_at, parts_of, scene_of}
 use Rattle.gui_store.proofs.Edits.{row-done, RowSet, row-set, row-entries, row-refused, row-answer}
 use Rattle.gui_store.proofs.Kept.{Left, there-is, read-on, read-off, refused, err-some, ok-none}
 use Rattle.gui_store.proofs.RowTests.{absent_first}

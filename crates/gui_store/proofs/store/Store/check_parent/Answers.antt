@@ -1,12 +1,5 @@
-use Rattle.std.proofs.Common.{◌≡◌, ◌∙◌, sym, ap, ℕ, Bool, not, true, Option, Some, None, is_some, option_map, refl}
-use Rattle.std.specs.Prelude.{if◌then◌else◌}
+use Rattle.gui_store.proofs.Common.{◌≡◌, ◌∙◌, sym, ap, ℕ, Bool, not, true, Option, Some, None, is_some, option_map, refl, if◌then◌else◌, Forest, parent_of, first_of, result_of, move_tests, as_handle, is_there, handles_of, Parts, scene_in, parts_of}
 use Rattle.gui_base.specs.declared.refusal.Refusal.TheVariants.{Place}
-use Rattle.gui_base.specs.Forest.{Forest, parent_of}
-use Rattle.gui_base.specs.Refusing.{first_of, result_of, move_tests}
-use Rattle.gui_tree.specs.Handles.{as_handle}
-use Rattle.scene_defs.specs.Scene.{is_there, handles_of}
-use Rattle.gui_store.specs.Parts.{Parts, scene_in}
-use Rattle.gui_store.specs.Views.{parts_of}
 use Rattle.gui_store.proofs.Kept.{forest-is}
 use Rattle.gui_store.proofs.store.Store.check_parent.Goals as goal
 

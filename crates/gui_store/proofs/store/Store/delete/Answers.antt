@@ -1,10 +1,6 @@
-use Rattle.std.proofs.Common.{◌≡◌, ◌∙◌, ◌-◌, sym, ap, Ok, arith}
+use Rattle.gui_store.proofs.Common.{◌≡◌, ◌∙◌, ◌-◌, sym, ap, Ok, arith, preorder, tree_at, numbers, Trees, without, parts_of}
 use Rattle.gui_base.specs.declared.refusal.Refusal.TheVariants.{Place}
-use Rattle.gui_base.specs.Forest.{preorder, tree_at}
-use Rattle.gui_tree.specs.Handles.{numbers}
-use Rattle.gui_tree.specs.Trees.{Trees, without}
 use Rattle.scene_defs.specs.declared.Change.TheVariants as change
-use Rattle.gui_store.specs.Views.{parts_of}
 use Rattle.gui_store.proofs.Edits.{delete-answer, delete-active, listed-sum, listed-rows, freed-few, fine-delete}
 use Rattle.gui_store.proofs.Kept.{Left, refused, failed, grown}
 use Rattle.gui_store.proofs.store.Store.delete.Goals as goal

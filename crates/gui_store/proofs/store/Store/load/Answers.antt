@@ -1,9 +1,5 @@
-use Rattle.std.proofs.Common.{◌≡◌, ◌∙◌, sym, ap, Ok, true, false, inl, inr}
-use Rattle.std.specs.Option.{option_copied}
-use Rattle.gui_base.specs.declared.refusal.Refusal.TheVariants.{Unknown, Kind as WrongKind}
+use Rattle.gui_store.proofs.Common.{◌≡◌, ◌∙◌, sym, ap, Ok, true, false, inl, inr, option_copied, Unknown, WrongKind, is_screen_kind, parts_of}
 use Rattle.scene_defs.specs.declared.Change.TheVariants as change
-use Rattle.scene_defs.specs.Change.{is_screen_kind}
-use Rattle.gui_store.specs.Views.{parts_of}
 use Rattle.gui_store.proofs.Edits.{load-absent, load-answer, fine-load}
 use Rattle.gui_store.proofs.Kept.{Left, refused, done}
 use Rattle.gui_store.proofs.store.Store.load.Goals as goal

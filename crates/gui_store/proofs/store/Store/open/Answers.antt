@@ -1,7 +1,5 @@
-use Rattle.std.proofs.Common.{◌≡◌}
+use Rattle.gui_store.proofs.Common.{◌≡◌, first_scene, Parts, scene_in, AreKept}
 use Rattle.gui_base.specs.Bounded.{bounds_of}
-use Rattle.scene_defs.specs.Scene.{first_scene}
-use Rattle.gui_store.specs.Parts.{Parts, scene_in, AreKept}
 use Rattle.gui_store.proofs.Edits.{first-kept}
 use Rattle.gui_store.proofs.store.Store.open.Goals as goal
 use Rattle.gui_store.proofs.store.Store.open.Goals.{After-insert_row-3}

@@ -1,12 +1,4 @@
-use Rattle.std.proofs.Common.{◌≡◌, sym, subst, ℕ, Option, Some, None, IfSome, Bor}
-use Rattle.std.specs.Option.{option_copied}
-use Rattle.gui_pool.specs.Table.{value_at}
-use Rattle.scene_defs.specs.Scene.{Row as SceneRow}
-use Rattle.scene_defs.specs.Valid.{IsRow}
-use Rattle.gui_store.specs.declared.row.Row.{Row}
-use Rattle.gui_store.specs.Parts.{Parts, AreKept}
-use Rattle.gui_store.specs.Rows.{row_of}
-use Rattle.gui_store.specs.Views.{parts_of}
+use Rattle.gui_store.proofs.Common.{◌≡◌, sym, subst, ℕ, Option, Some, None, IfSome, Bor, option_copied, value_at, SceneRow, IsRow, Row, Parts, AreKept, row_of, parts_of}
 use Rattle.gui_store.proofs.Kept.{in_range, read-on, read-at, read-row}
 use Rattle.gui_store.proofs.store.Store.row.Goals as goal
 

@@ -1,5 +1,4 @@
-use Rattle.std.proofs.Common.{sym}
-use Rattle.gui_store.specs.Views.{parts_of}
+use Rattle.gui_store.proofs.Common.{sym, parts_of}
 use Rattle.gui_store.proofs.Kept.{forest-is}
 use Rattle.gui_store.proofs.store.Store.tree.Goals as goal
 

@@ -1,8 +1,5 @@
-use Rattle.std.proofs.Common.{◌∙◌, sym, ap, Some, option_map, SFits, w32, rules, true≢false}
-use Rattle.std.proofs.lemmas.Int.{to_z-of_z}
-use Rattle.std.specs.Option.{option_copied}
-use Rattle.scene_defs.specs.Scene.{Row, value_of}
-use Rattle.gui_store.specs.Views.{parts_of}
+use Rattle.gui_store.proofs.Common.{◌∙◌, sym, ap, Some, option_map, SFits, w32, rules, true≢false, to_z-of_z, option_copied, value_of, parts_of}
+use Rattle.scene_defs.specs.Scene.{Row}
 use Rattle.gui_store.proofs.Kept.{there-is, read-off, read-at, row-is}
 use Rattle.gui_store.proofs.store.Store.value.Goals as goal
 

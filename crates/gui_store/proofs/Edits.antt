@@ -202,10 +202,6 @@ module _ (p : Parts) (k : AreKept p) where
   pub fine-load : (h : Handle) → Fine p (change.Load h) (record p { active = h.0 })
   fine-load h = record { shows = refl; handles = k.handles; rows = λ j. omega arith; room = k.room; slots = refl; entries = omega arith; removed = refl }
 
-  removed-set : (change : Change) (h : Handle) → row_set change ≡ Some h → p.tree.removed ≡ removed_after p.tree.removed (scene_in p) change
-  removed-set (change.Delete n) h set = cc
-  removed-set change h set = refl
-
   -- Another row at h, and so many entries. Such a change is refused by its tests, or where the entries are too few.
   pub record RowSet (change : Change) (h : Handle) (row : Row) (n : ℕ) : Type 0 where
     set : row_set change ≡ Some h
@@ -237,7 +233,7 @@ module _ (p : Parts) (k : AreKept p) where
         let sums = λ (j : ℕ). set_sums (scene_in p) change h (one_at j) r.set in
         let slots = set_slots (scene_in p) change h r.set in
         let need = needs (scene_in p) change h (row_in p.rows h.0) r.set (row-is p h.0 r.on) in
-        let removed = removed-set change h r.set in
+        let removed : p.tree.removed ≡ removed_after p.tree.removed (scene_in p) change = grind (arith, r.set) in
         search (rules, k, r.count, ap entry_count r.is)
 
     pub row-answer : (b : Bool) → nat_lt p.limits.entries n ≡ b → answer_in_range (scene_in p) change ≡ (if b then Some (Full Entries) else None)

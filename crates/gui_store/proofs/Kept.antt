@@ -1,5 +1,5 @@
 -- What the parts of a store answer, and that a change keeps them in order.
-use Rattle.gui_store.proofs.Common.{nat_lt, inl, inr, ◌≡◌, ◌<◌, ◌⊎◌, ◌∙◌, sym, ap, subst, ℕ, ◌+◌, true, false, length, Option, unwrap_or, Some, None, is_some, option_map, Ok, Err, List, refl, arith, if◌then◌else◌, OnOk, OnErr, IsErrAnd, err_from_is_err_and, nat_tests, POOLS, HANDLE, Objects, Entries, Refusal, Full, Forest, has, size, count, Bounds, Test, first_of, result_of, map-size, Table, value_at, Trees, Answer, Change, is_in_range, Scene, is_there, handles_of, row_at, entries_of, row_set, answer_in_range, scene_after, tests, first_short, need_of, freed_by, IsValid, IsChange, IsRow, is_row, after_keeps, one_short, one_at, added_sum, removed_sum, after_leaves, after_valid, Row, Parts, scene_in, AreKept, removed_after, blank, row_of, row_in}
+use Rattle.gui_store.proofs.Common.{rules, nat_lt, inl, inr, ◌≡◌, ◌<◌, ◌⊎◌, ◌∙◌, sym, ap, subst, ℕ, ◌+◌, true, false, length, Option, unwrap_or, Some, None, is_some, option_map, Ok, Err, List, refl, arith, if◌then◌else◌, OnOk, OnErr, IsErrAnd, err_from_is_err_and, nat_tests, POOLS, HANDLE, Objects, Entries, Refusal, Full, Forest, has, size, count, Bounds, Test, first_of, result_of, map-size, Table, value_at, Trees, Answer, Change, is_in_range, Scene, is_there, handles_of, row_at, entries_of, row_set, answer_in_range, scene_after, tests, first_short, need_of, freed_by, IsValid, IsChange, IsRow, is_row, after_keeps, one_short, one_at, added_sum, removed_sum, after_leaves, after_valid, Row, Parts, scene_in, AreKept, removed_after, blank, row_of, row_in}
 use Rattle.gui_base.specs.declared.limits.Pool.{Pool}
 use Rattle.scene_defs.specs.declared.Change.TheVariants as change
 use Rattle.gui_store.specs.Changed.{IsChanged}
@@ -63,13 +63,11 @@ module _ (p : Parts) (k : AreKept p) where
       rw (e, forest-is p, same) refl
 
 pub err-some : (o : Option Refusal) (x : Refusal) → result_of o ≡ Err x → o ≡ Some x
-err-some None x e = cc
-err-some (Some y) x e = cc
+err-some o x e = grind (arith, e)
 
 -- what is done has no refusal
 pub ok-none : (o : Option Refusal) (u : Unit {0}) → result_of o ≡ Ok u → o ≡ None
-ok-none None u e = refl
-ok-none (Some y) u e = cc
+ok-none o u e = grind (arith, e)
 
 -- what has to be shown of a change that is done
 pub record Fine (p : Parts) (change : Change) (q : Parts) : Type 0 where
@@ -103,22 +101,16 @@ module _ (p : Parts) (k : AreKept p) (change : Change) where
         let l = after_leaves (scene_in p) change fits c e k.valid in
         let limits = ap (λ (s : Scene). s.limits.objects) fine.shows ∙ ap (λ (b : Bounds). b.objects) (after_keeps (scene_in p) change) in
         let sizes = ap (λ (s : Scene). size s.trees) fine.shows in
-        let entries = ap (λ (s : Scene). entries_of s.trees) fine.shows in
-        record {
-          kept = record {
-            valid = subst (λ (s : Scene). IsValid s) (sym fine.shows) (after_valid (scene_in p) change fits c e k.valid);
-            handles = fine.handles;
-            rows = λ h.
-                let a = ap (λ (f : Forest ℕ). count f h) (forest-is p) in
-                let b = ap (λ (f : Forest ℕ). count f h) (forest-is q) in
-                let c = ap (λ (s : Scene). count (handles_of s.trees) h) fine.shows in
-                count-told q.tree.forest h (value_at q.rows h) (omega (arith, a, b, c, l.handles h, fine.rows h, counted p k h));
-            room = fine.room;
-            objects = omega (arith, limits, sizes, size-is p, size-is q, l.objects, fine.slots, k.objects);
-            entries = omega (arith, entries, l.entries, fine.entries, k.entries);
-          };
-          is = record { answer_is = rw e refl; scene = rw e fine.shows; removed = rw e fine.removed };
-        }
+        let totals = ap (λ (s : Scene). entries_of s.trees) fine.shows in
+        let valid = subst (λ (s : Scene). IsValid s) (sym fine.shows) (after_valid (scene_in p) change fits c e k.valid) in
+        let rows = λ (h : ℕ).
+        let a = ap (λ (f : Forest ℕ). count f h) (forest-is p) in
+        let b = ap (λ (f : Forest ℕ). count f h) (forest-is q) in
+        let c = ap (λ (s : Scene). count (handles_of s.trees) h) fine.shows in
+        count-told q.tree.forest h (value_at q.rows h) (omega (arith, a, b, c, l.handles h, fine.rows h, counted p k h)) in
+        let objects : size q.tree.forest + q.tree.spare ≡ q.limits.objects = omega (arith, limits, sizes, size-is p, size-is q, l.objects, fine.slots, k.objects) in
+        let is : IsChanged p q change (Ok tt) = record { answer_is = rw e refl; scene = rw e fine.shows; removed = rw e fine.removed } in
+        search (rules, fine.handles, fine.room, totals, l.entries, fine.entries, k.entries)
 
     -- a call of the tree that answers as the change does
     pub answered : (o : Option Refusal) → answer_in_range (scene_in p) change ≡ o → (t u : Trees) (r : Answer) → result_of o ≡ r →

@@ -1,12 +1,10 @@
 use Rattle.gui_store.proofs.Common.{◌<◌, arith}
 use Rattle.gui_base.specs.declared.words.Flag.{Flag}
-use Rattle.gui_base.specs.declared.words.Flag.TheVariants.{Hidden}
 use Rattle.gui_base.specs.Bits.{flag_bit}
 use Rattle.gui_store.proofs.row.with_flag.Goals as goal
 
 few : (flag : Flag) → flag_bit flag < 8
-few Hidden = omega arith
-few flag = omega arith
+few flag = grind arith
 
 pub overflow_cast-result : goal.overflow_cast-result
 overflow_cast-result c =

@@ -1,4 +1,4 @@
-use Rattle.gui_store.proofs.Common.{◌≡◌, ◌∙◌, sym, ap, Ok, true, false, inl, inr, option_copied, Unknown, WrongKind, is_screen_kind, parts_of}
+use Rattle.gui_store.proofs.Common.{arith, ◌≡◌, ◌∙◌, sym, ap, Ok, true, false, option_copied, Unknown, WrongKind, is_screen_kind, parts_of}
 use Rattle.scene_defs.specs.declared.Change.TheVariants as change
 use Rattle.gui_store.proofs.Edits.{load-absent, load-answer, fine-load}
 use Rattle.gui_store.proofs.Kept.{Left, refused, done}
@@ -30,5 +30,5 @@ returns-in-Layer c =
     let p = parts_of c.args.self.now in
     let k = c.args.self.now.kept in
     let read = ap option_copied (sym c.in-Some.is) ∙ c.get.ensures in
-    let other : is_screen_kind c.in-Some.row.now.kind ≡ false = elim c.in-Layer.is [ inl e ↦ ap is_screen_kind e | inr e ↦ ap is_screen_kind e ] in
+    let other : is_screen_kind c.in-Some.row.now.kind ≡ false = grind (arith, c.in-Layer.is) in
     refused p k (change.Load c.args.h) WrongKind (load-answer p k c.args.h c.in-Some.row.now false read other)

@@ -10,7 +10,6 @@ use Rattle.scene_defs.proofs.RowKinds.{root_there}
 use Rattle.scene_defs.proofs.Distinct.{distinct_once}
 use Rattle.gui_store.proofs.Rows.{row_count, times, times-preorder, length-preorder, value-set, inserted-count, replaced-count, have-rows, without-count, without-spare, without-handles}
 use Rattle.gui_store.proofs.Shown.{shown, shown-handles, shown-count, shown-aside, shown-set, shown-without, sum-preorder}
-use Rattle.gui_store.proofs.RowTests.{passed_there}
 use Rattle.gui_store.proofs.Kept.{read-on, read-off, Left, answered, done, there-is, size-is, row-is, read-at, within, vacant, counted, tree-answer, Fine}
 
 -- With an index past the last tree, it is put last.
@@ -211,16 +210,16 @@ module _ (p : Parts) (k : AreKept p) where
     count : n + entries_in p.rows h.0 ≡ p.entries + entry_count (row_of h.0 row)
 
   -- the entries of a row that is read
-  pub row-entries : (h : Handle) (row : Row) (n : ℕ) → has p.tree.forest h.0 ≡ true → Some row ≡ value_at p.rows h.0 → ((j : ℕ) → n ≡ entry_count (row_of j row)) → (n ≡ entries_in p.rows h.0) × (n ≤ p.entries)
-  row-entries h row n on read count =
+  pub row-entries : (h : Handle) (row : Row) (n : ℕ) → Some row ≡ value_at p.rows h.0 → ((j : ℕ) → n ≡ entry_count (row_of j row)) → (n ≡ entries_in p.rows h.0) × (n ≤ p.entries)
+  row-entries h row n read count =
       let is : n ≡ entries_in p.rows h.0 = count h.0 ∙ ap entry_count (read-at p k h.0 row read) in
-      let few = total-row entry_count (scene_in p).trees h.0 (row_in p.rows h.0) (row-is p h.0 on) in
+      let few = total-row entry_count (scene_in p).trees h.0 (row_in p.rows h.0) (row-is p h.0 (read-on p k h.0 row read)) in
       (is, omega (arith, is, few, entries-total (scene_in p).trees, k.entries))
 
   pub row-set : (change : Change) (h : Handle) (old new : Row) (a b : ℕ) → row_set change ≡ Some h → first_of (tests (scene_in p) change) None ≡ None → Some old ≡ value_at p.rows h.0 → ((j : ℕ) → row_of j new ≡ row_after change (row_of j old)) → ((j : ℕ) → a ≡ entry_count (row_of j old)) → ((j : ℕ) → b ≡ entry_count (row_of j new)) → RowSet change h new (p.entries - a + b)
   row-set change h old new a b set passed read is before after =
-      let on = sym (there-is p h.0) ∙ passed_there (scene_in p) change h set passed in
-      let was = row-entries h old a on read before in
+      let on = read-on p k h.0 old read in
+      let was = row-entries h old a read before in
       let now = after h.0 in
       record { set = set; passed = passed; on = on; is = is h.0 ∙ ap (row_after change) (read-at p k h.0 old read); count = omega (arith, was.0, was.1, now) }
 

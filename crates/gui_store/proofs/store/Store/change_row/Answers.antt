@@ -1,6 +1,6 @@
 use Rattle.gui_store.proofs.Common.{◌≡◌, ◌∙◌, ◌+◌, ◌-◌, sym, Some, Ok, true, arith, nat_tests, err_from_is_err_and, Entries, Full, Unknown, value_at, parts_of, scene_of}
 use Rattle.gui_store.proofs.Edits.{row-done, RowSet, row-set, row-entries, row-refused, row-answer}
-use Rattle.gui_store.proofs.Kept.{Left, there-is, read-on, read-off, refused, err-some, ok-none}
+use Rattle.gui_store.proofs.Kept.{Left, there-is, read-off, refused, err-some, ok-none}
 use Rattle.gui_store.proofs.RowTests.{absent_first}
 use Rattle.gui_store.proofs.store.Store.change_row.Goals as goal
 use Rattle.gui_store.proofs.store.Store.change_row.Goals.{In-Some, After-entry_count-2, After-replace}
@@ -38,16 +38,14 @@ returns-in_default c =
 
 pub check_row-requires-clause-there : goal.check_row-requires-clause-there
 check_row-requires-clause-there c =
-    let p = parts_of c.args.self.now in
     let is = read (goal.at.check_row-requires-clause-there c).In-Some in
-    there-is p c.args.h.0 ∙ read-on p c.args.self.now.kept c.args.h.0 c.in-Some.row is
+    grind (arith, is, there-is (parts_of c.args.self.now) c.args.h.0, c.args.self.now.kept.rows c.args.h.0)
 
 pub overflow_sub-others : goal.overflow_sub-others
 overflow_sub-others c =
     let p = parts_of c.args.self.now in
     let is = read (goal.at.overflow_sub-others c).In-Some in
-    let on = read-on p c.args.self.now.kept c.args.h.0 c.in-Some.row is in
-    (row-entries p c.args.self.now.kept c.args.h c.in-Some.row c.entry_count.result on is c.entry_count.ensures.count).1
+    (row-entries p c.args.self.now.kept c.args.h c.in-Some.row c.entry_count.result is c.entry_count.ensures.count).1
 
 pub returns-then-entries-self : goal.returns-then-entries-self
 returns-then-entries-self c =

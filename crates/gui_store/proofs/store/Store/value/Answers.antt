@@ -1,12 +1,11 @@
-use Rattle.gui_store.proofs.Common.{◌∙◌, sym, ap, Some, option_map, SFits, w32, rules, true≢false, to_z-of_z, option_copied, value_of, parts_of}
+use Rattle.gui_store.proofs.Common.{arith, ◌∙◌, sym, ap, Some, option_map, SFits, w32, rules, to_z-of_z, option_copied, value_of, parts_of}
 use Rattle.scene_defs.specs.Scene.{Row}
-use Rattle.gui_store.proofs.Kept.{there-is, read-off, read-at, row-is}
+use Rattle.gui_store.proofs.Kept.{there-is, read-at, row-is}
 use Rattle.gui_store.proofs.store.Store.value.Goals as goal
 
 pub unreachable-requires : goal.unreachable-requires
 unreachable-requires c =
-    let off = read-off (parts_of c.args.self.now) c.args.self.now.kept c.args.h.0 (ap option_copied (sym c.in_default.is) ∙ c.get.ensures) in
-    true≢false (sym c.requires ∙ there-is (parts_of c.args.self.now) c.args.h.0 ∙ off)
+    grind (arith, c.requires, c.in_default.is, c.get.ensures, there-is (parts_of c.args.self.now) c.args.h.0, c.args.self.now.kept.rows c.args.h.0)
 
 pub returns : goal.returns
 returns c =

@@ -1,5 +1,5 @@
 -- The parts of a store after each change that is done.
-use Rattle.gui_store.proofs.Common.{rules, Ok, ◌≡◌, ◌<◌, ◌≤◌, ◌∙◌, sym, ap, subst, ℕ, zero, suc, ◌+◌, ◌-◌, Bool, true, false, length, slice_set, List, Option, Some, None, option_map, refl, arith, length-set, nat_lt, nat_eq, eqb-true, ◌++◌, [], ◌∷◌, cond, eqb, sum_by, if◌then◌else◌, OnOk, OnErr, nat_tests, get_or-set_same, sum_by-cons, POOLS, Handle, Objects, Entries, Refusal, Full, Forest, Empty, Tree, and_then, leaf, put_at, has, size, count, preorder, cut, cut_by, tree_at, parent_of, with_children_by, Bounds, Test, first_of, result_of, root_tests, child_tests, removal_tests, move_tests, parent_tests, map-and_then, map-size, map-cut_by, map-tree_by, map-parent_by, map-added_by, map-moved_by, map-moved_last_by, count-has, Table, value_at, value_inserted, value_replaced, numbers, Answer, full_answer, Trees, opened, add_root_answer, add_answer, remove_answer, move_answer, set_parent_answer, with_root, with_child, at_index, below, moved_below, without_tree, Change, is_in_range, is_there, SceneRow, Scene, is_at, handles_of, entry_count, entries_of, new_row, first_scene, is_screen_kind, answer_in_range, tests, first_short, scene_after, tree_below, parent_row, at_index_below, last_below, row_after, row_set, need_of, freed_by, IsValid, IsChange, is_root_at, tests-fail, room_in_range, none_short, one_short, first-then, first-some, sets_row_alone, total, total-cut, total-parts, total-row, one, one_at, size-total, entries-total, added_sum, removed_sum, first_is_valid, needs, set_slots, set_sums, set_only, Row, row_of, row_in, entries_in, HaveRows, rows_without, removed_after, Parts, scene_in, AreKept}
+use Rattle.gui_store.proofs.Common.{rules, Ok, ◌≡◌, ◌<◌, ◌≤◌, ◌∙◌, sym, ap, subst, ℕ, zero, suc, ◌+◌, ◌-◌, Bool, true, false, length, slice_set, List, Option, Some, None, option_map, refl, arith, length-set, nat_lt, nat_eq, eqb-true, ◌++◌, [], ◌∷◌, cond, eqb, sum_by, if◌then◌else◌, OnOk, OnErr, nat_tests, get_or-set_same, sum_by-cons, POOLS, Handle, Objects, Entries, Full, Forest, Empty, Tree, and_then, leaf, put_at, has, size, count, preorder, cut, cut_by, tree_at, parent_of, with_children_by, Bounds, Test, first_of, result_of, root_tests, child_tests, removal_tests, move_tests, parent_tests, map-and_then, map-size, map-cut_by, map-tree_by, map-parent_by, map-added_by, map-moved_by, map-moved_last_by, count-has, Table, value_at, value_inserted, value_replaced, numbers, Answer, full_answer, Trees, opened, add_root_answer, add_answer, remove_answer, move_answer, set_parent_answer, with_root, with_child, at_index, below, moved_below, without_tree, Change, is_in_range, is_there, SceneRow, Scene, is_at, handles_of, entry_count, entries_of, new_row, first_scene, is_screen_kind, answer_in_range, tests, first_short, scene_after, tree_below, parent_row, at_index_below, last_below, row_after, row_set, need_of, freed_by, IsValid, IsChange, is_root_at, tests-fail, room_in_range, none_short, one_short, first-then, sets_row_alone, total, total-cut, total-parts, total-row, one, one_at, size-total, entries-total, added_sum, removed_sum, first_is_valid, needs, set_slots, set_sums, set_only, Row, row_of, row_in, entries_in, HaveRows, rows_without, removed_after, Parts, scene_in, AreKept}
 use Rattle.gui_base.specs.declared.refusal.Refusal.TheVariants as refusal
 use Rattle.gui_base.specs.declared.words.Kind.{Kind}
 use Rattle.gui_base.specs.declared.words.Kind.TheVariants.{Screen, Layer}
@@ -201,6 +201,12 @@ module _ (p : Parts) (k : AreKept p) where
   pub fine-load : (h : Handle) → Fine p (change.Load h) (record p { active = h.0 })
   fine-load h = record { shows = refl; handles = k.handles; rows = λ j. omega arith; room = k.room; slots = refl; entries = omega arith; removed = refl }
 
+  -- what is not there is unknown
+  pub row-absent : (change : Change) (h : Handle) → row_set change ≡ Some h → is_there (scene_in p) h.0 ≡ false →
+      answer_in_range (scene_in p) change ≡ Some refusal.Unknown
+  row-absent (change.Pos a x y) h set off = grind (arith, set, off)
+  row-absent change h set off = grind (arith, set, off)
+
   -- Another row at h, and so many entries. Such a change is refused by its tests, or where the entries are too few.
   pub record RowSet (change : Change) (h : Handle) (row : Row) (n : ℕ) : Type 0 where
     set : row_set change ≡ Some h
@@ -245,9 +251,6 @@ module _ (p : Parts) (k : AreKept p) where
     pub row-done : is_in_range change ≡ true → IsChange change → nat_lt p.limits.entries n ≡ false → (rows : Table Row) →
         rows ≡ value_replaced p.rows h.0 row → Left p change (record p { rows = rows; entries = n }) (Ok tt)
     row-done fits plain under rows is = rw is (done p k change fits plain _ (row-answer false under) fine-row)
-
-  pub row-refused : (change : Change) (x : Refusal) → first_of (tests (scene_in p) change) None ≡ Some x → answer_in_range (scene_in p) change ≡ Some x
-  row-refused change x e = first-some (tests (scene_in p) change) (option_map Full (first_short (scene_in p) change POOLS)) x e
 
 -- The first rows.
 module _ (tree : Trees) (limits : Bounds) (room : 3 ≤ limits.objects) (new : tree ≡ opened limits.objects) (t : Table Row) (keys : length t.values ≡ 10000) (empty : (h : ℕ) → value_at t h ≡ None) (spare : t.spare ≡ limits.objects) (a b c : Row) (top : (h : ℕ) → row_of h a ≡ new_row h Layer) (system : (h : ℕ) → row_of h b ≡ new_row h Layer) (screen : (h : ℕ) → row_of h c ≡ new_row h Screen) where

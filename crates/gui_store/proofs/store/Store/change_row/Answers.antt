@@ -1,7 +1,6 @@
-use Rattle.gui_store.proofs.Common.{◌≡◌, ◌∙◌, ◌+◌, ◌-◌, sym, Some, Ok, true, arith, nat_tests, err_from_is_err_and, Entries, Full, Unknown, value_at, parts_of, scene_of}
-use Rattle.gui_store.proofs.Edits.{row-done, RowSet, row-set, row-entries, row-refused, row-answer}
+use Rattle.gui_store.proofs.Common.{tests, first-some, ◌≡◌, ◌∙◌, ◌+◌, ◌-◌, sym, Some, Ok, true, arith, nat_tests, err_from_is_err_and, Entries, Full, Unknown, value_at, parts_of, scene_of}
+use Rattle.gui_store.proofs.Edits.{row-done, RowSet, row-set, row-entries, row-absent, row-answer}
 use Rattle.gui_store.proofs.Kept.{Left, there-is, read-off, refused, err-some, ok-none}
-use Rattle.gui_store.proofs.RowTests.{absent_first}
 use Rattle.gui_store.proofs.store.Store.change_row.Goals as goal
 use Rattle.gui_store.proofs.store.Store.change_row.Goals.{In-Some, After-entry_count-2, After-replace}
 
@@ -25,7 +24,7 @@ pub returns-in_err-check_row : goal.returns-in_err-check_row
 returns-in_err-check_row c =
     let p = parts_of c.args.self.now in
     let q = err_from_is_err_and c.from_residual.result c.from_residual.ensures.1 in
-    let why = row-refused p c.args.self.now.kept c.args.change.now _ (err-some _ _ (sym c.check_row.ensures ∙ c.in_err-check_row.was)) in
+    let why = first-some (tests (scene_of c.args.self.now) c.args.change.now) _ _ (err-some _ _ (sym c.check_row.ensures ∙ c.in_err-check_row.was)) in
     rw (q.1, q.2) (refused p c.args.self.now.kept c.args.change.now _ why)
 
 pub returns-in_default : goal.returns-in_default
@@ -33,8 +32,7 @@ returns-in_default c =
     let p = parts_of c.args.self.now in
     let k = c.args.self.now.kept in
     let off = there-is p c.args.h.0 ∙ read-off p k c.args.h.0 (sym c.in_default.is ∙ c.copied.ensures ∙ c.get.ensures) in
-    let why = absent_first (scene_of c.args.self.now) c.args.change.now c.args.h c.requires.row off in
-    refused p k c.args.change.now Unknown (row-refused p k c.args.change.now Unknown why)
+    refused p k c.args.change.now Unknown (row-absent p k c.args.change.now c.args.h c.requires.row off)
 
 pub check_row-requires-clause-there : goal.check_row-requires-clause-there
 check_row-requires-clause-there c =

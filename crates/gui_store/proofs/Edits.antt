@@ -112,9 +112,6 @@ module _ (p : Parts) (k : AreKept p) where
   tree-is h = map-tree_by (row_in p.rows) (is_at h) p.tree.forest
 
   -- the entries of what is removed
-  pub freed-is : (h : ℕ) → sum_by (entries_in p.rows) (preorder (tree_at p.tree.forest h)) ≡ entries_of (tree_below (scene_in p) h)
-  freed-is h = sum-preorder p.rows (tree_at p.tree.forest h) ∙ ap entries_of (tree-is h)
-
   pub freed-few : (h : ℕ) → entries_of (tree_below (scene_in p) h) ≤ p.entries
   freed-few h =
       let a = total-parts entry_count (scene_in p).trees h (distinct_once (scene_in p).trees k.valid.trees.once) in
@@ -123,7 +120,7 @@ module _ (p : Parts) (k : AreKept p) where
   -- The handles that a removal lists.
   module _ (hs : List Handle) (h : Handle) (listed : numbers hs ≡ preorder (tree_at p.tree.forest h.0)) where
     pub listed-sum : sum_by (λ (x : Handle). entries_in p.rows x.0) hs ≡ entries_of (tree_below (scene_in p) h.0)
-    listed-sum = sum-numbers (entries_in p.rows) hs ∙ ap (sum_by (entries_in p.rows)) listed ∙ freed-is h.0
+    listed-sum = rw (sum-numbers (entries_in p.rows) hs, listed, sum-preorder p.rows (tree_at p.tree.forest h.0), tree-is h.0) refl
 
     listed-times : (j : ℕ) → times (numbers hs) j ≡ total (one_at j) (tree_below (scene_in p) h.0)
     listed-times j = rw (listed, times-preorder (tree_at p.tree.forest h.0) j, ← tree-is h.0) (shown-count p.rows (tree_at p.tree.forest h.0) j)

@@ -16,7 +16,9 @@ use Rattle.gui_base.specs.declared.words.Kind.{Kind}
 use Rattle.gui_base.specs.declared.words.Kind.TheVariants.{Screen}
 use Rattle.gui_base.specs.declared.words.Prop.{Prop}
 use Rattle.gui_base.specs.declared.words.Prop.TheVariants.{BgColor, BgOpa}
-use Rattle.scene_defs.specs.Scene.{Row, is_on, is_root, value_of, default_of}
+use Rattle.scene_defs.specs.declared.Row.{Row}
+use Rattle.scene_defs.specs.Row.{is_on, is_root, value_of, default_of}
+use Rattle.scene_defs.specs.Scene.{Object}
 use Rattle.scene_defs.specs.Picture.{placed, area_at, pixels_of, rgb_of, opa_of}
 use Rattle.scene_defs.specs.Valid.{IsRow, IsOffset, IsSize, IsValue, is_local}
 use Rattle.scene_defs.specs.Walk.{clipped}
@@ -25,37 +27,37 @@ use Rattle.gui_color.specs.Buffer.{Buffer}
 use Rattle.gui_core.specs.Painting.{Paints, HasRoom, IsNear, filled_inside, painted_row}
 use Rattle.gui_core.proofs.Fills.{Paints-same}
 
-pub near : (place : Rect) (trees : Forest Row) → HasRoom place trees → IsNear place
+pub near : (place : Rect) (trees : Forest Object) → HasRoom place trees → IsNear place
 near place trees room =
     let l = room.left in let r = room.right in let t = room.top in let b = room.bottom in
     record { left = omega (arith, ints); right = omega (arith, ints); top = omega (arith, ints); bottom = omega (arith, ints) }
 
-pub room_one : (place : Rect) (row : Row) (cs rest : Forest Row) → HasRoom place (Tree row cs rest) → HasRoom place (Tree row cs Empty)
-room_one place row cs rest room =
+pub room_one : (place : Rect) (object : Object) (cs rest : Forest Object) → HasRoom place (Tree object cs rest) → HasRoom place (Tree object cs Empty)
+room_one place object cs rest room =
     let l = room.left in let r = room.right in let t = room.top in let b = room.bottom in
     record { low = omega (arith, room.low); left = omega (arith, ints); right = omega (arith, ints); top = omega (arith, ints); bottom = omega (arith, ints) }
 
-pub room_rest : (place : Rect) (row : Row) (cs rest : Forest Row) → HasRoom place (Tree row cs rest) → HasRoom place rest
-room_rest place row cs rest room =
+pub room_rest : (place : Rect) (object : Object) (cs rest : Forest Object) → HasRoom place (Tree object cs rest) → HasRoom place rest
+room_rest place object cs rest room =
     let l = room.left in let r = room.right in let t = room.top in let b = room.bottom in
     record { low = omega (arith, room.low); left = omega (arith, ints); right = omega (arith, ints); top = omega (arith, ints); bottom = omega (arith, ints) }
 
 -- the panel has room for all levels
-pub room_panel : (panel : Rect) (trees : Forest Row) → panel.x1 ≡ pos 0 → panel.y1 ≡ pos 0 → height trees ≤ 16 → HasRoom panel trees
+pub room_panel : (panel : Rect) (trees : Forest Object) → panel.x1 ≡ pos 0 → panel.y1 ≡ pos 0 → height trees ≤ 16 → HasRoom panel trees
 room_panel panel trees x y low = record { low = low; left = omega (arith, ints); right = omega (arith, ints); top = omega (arith, ints); bottom = omega (arith, ints) }
 
 pub offset_bounds : (n : ℤ) → IsOffset n → (negsuc 3999 ≤ℤ n) × (n ≤ℤ pos 4000)
 offset_bounds n e = (grind (arith, ints, nat_tests, e), grind (arith, ints, nat_tests, e))
 
 -- what stands on an object has room where the object had
-pub room_below : (panel parent : Rect) (row : Row) (cs rest : Forest Row) → panel.x1 ≡ pos 0 → panel.y1 ≡ pos 0 → IsRow row → HasRoom parent (Tree row cs rest) → HasRoom (placed panel parent row) cs
-room_below panel parent row cs rest x y in_range room = elim (cases_Bool (is_root row.kind)) [
+pub room_below : (panel parent : Rect) (object : Object) (cs rest : Forest Object) → panel.x1 ≡ pos 0 → panel.y1 ≡ pos 0 → IsRow object.row → HasRoom parent (Tree object cs rest) → HasRoom (placed panel parent object.row) cs
+room_below panel parent object cs rest x y in_range room = elim (cases_Bool (is_root object.row.kind)) [
   | inl root ↦ rw root (room_panel panel cs x y (omega (arith, room.low)))
-  | inr object ↦
-      let n = numbers_of row in_range in
-      let across = offset_bounds row.x n.x in
-      let down = offset_bounds row.y n.y in
-      rw object (record {
+  | inr plain ↦
+      let n = numbers_of object.row in_range in
+      let across = offset_bounds object.row.x n.x in
+      let down = offset_bounds object.row.y n.y in
+      rw plain (record {
         low = omega (arith, room.low);
         left = omega (arith, ints, room.left, across.0);
         right = omega (arith, ints, room.right, across.1);
@@ -75,10 +77,10 @@ default_in_range BgOpa kind = refl
 
 -- the values of a row in range lie in their ranges
 pub color_in_range : (row : Row) → IsRow row → IsValue BgColor (value_of row BgColor)
-color_in_range row in_range = set_or_default BgColor row.locals.bg_color (default_of row.kind BgColor) (numbers_of row in_range).bg_color (default_in_range BgColor row.kind)
+color_in_range row in_range = set_or_default BgColor row.bg_color (default_of row.kind BgColor) (numbers_of row in_range).bg_color (default_in_range BgColor row.kind)
 
 pub opa_in_range : (row : Row) → IsRow row → IsValue BgOpa (value_of row BgOpa)
-opa_in_range row in_range = set_or_default BgOpa row.locals.bg_opa (default_of row.kind BgOpa) (numbers_of row in_range).bg_opa (default_in_range BgOpa row.kind)
+opa_in_range row in_range = set_or_default BgOpa row.bg_opa (default_of row.kind BgOpa) (numbers_of row in_range).bg_opa (default_in_range BgOpa row.kind)
 
 pub area_is : (x y x1 y1 x2 y2 : ℤ) (width height : ℕ) → x1 ≡ x → y1 ≡ y → x2 ≡ (x +ℤ pos width) -ℤ pos 1 → y2 ≡ (y +ℤ pos height) -ℤ pos 1 → ◌≡◌ {A = Rect} (record { x1 = x1; y1 = y1; x2 = x2; y2 = y2 }) (area_at x y width height)
 area_is x y x1 y1 x2 y2 width height a b d e = rw (a, b, d, e) refl

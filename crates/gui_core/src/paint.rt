@@ -1,13 +1,13 @@
 //! Painting a scene into a draw buffer.
-ghost use Rattle.std.specs.Prelude.{◌≡◌, ℕ, IfSome, Some, option_map};
+ghost use Rattle.std.specs.Prelude.{◌≡◌, IfSome, Some, option_map};
 ghost use Rattle.gui_base.specs.Corners.{rect_of};
 ghost use Rattle.gui_base.specs.Forest.{tree_by};
 ghost use Rattle.gui_base.specs.declared.words.Prop.TheVariants.{BgColor, BgOpa};
-ghost use Rattle.scene_defs.specs.Scene.{handles_of, is_at, value_of};
+ghost use Rattle.scene_defs.specs.Row.{value_of};
+ghost use Rattle.scene_defs.specs.Scene.{handles_of, is_at};
 ghost use Rattle.scene_defs.specs.Picture.{panel_of, placed, pixels_of, rgb_of};
 ghost use Rattle.scene_defs.specs.Valid.{IsValid, IsOffset, IsSize, IsValue};
 ghost use Rattle.scene_defs.specs.Walk.{clipped};
-ghost use Rattle.gui_store.specs.Rows.{row_of};
 ghost use Rattle.gui_store.specs.Views.{scene_of};
 ghost use Rattle.gui_core.specs.Painting.{Paints, painted, painted_row, painted_scene, HasRoom, IsNear};
 ghost use Rattle.gui_core.specs.Spots.{visible_of};
@@ -77,11 +77,11 @@ fn spot_of(row: &Row, panel: Area, parent: Spot) -> Option<Spot>
     requires near { IsNear (rect_of parent.place) }
     requires offset { IsOffset row.now.x × IsOffset row.now.y }
     requires size { IsSize row.now.width × IsSize row.now.height }
-    ensures visible { (h : ℕ) → option_map visible_of result
+    ensures visible { option_map visible_of result
         ≡ clipped (Some (rect_of parent.visible))
-        (placed (rect_of panel) (rect_of parent.place) (row_of h row.now)) (row_of h row.now) }
-    ensures place { (h : ℕ) → IfSome result
-        (λ spot. rect_of spot.place ≡ placed (rect_of panel) (rect_of parent.place) (row_of h row.now)) }
+        (placed (rect_of panel) (rect_of parent.place) row.now) row.now }
+    ensures place { IfSome result
+        (λ spot. rect_of spot.place ≡ placed (rect_of panel) (rect_of parent.place) row.now) }
 {
     if row.is_on(Flag::Hidden) {
         return None;
@@ -99,7 +99,7 @@ fn place_of(row: &Row, panel: Area, parent: Area) -> Area
     requires near { IsNear (rect_of parent) }
     requires offset { IsOffset row.now.x × IsOffset row.now.y }
     requires size { IsSize row.now.width × IsSize row.now.height }
-    ensures { (h : ℕ) → rect_of result ≡ placed (rect_of panel) (rect_of parent) (row_of h row.now) }
+    ensures { rect_of result ≡ placed (rect_of panel) (rect_of parent) row.now }
 {
     match row.kind {
         Kind::Screen | Kind::Layer => panel,
@@ -122,10 +122,10 @@ fn pixels_of(length: Length) -> u32
 
 /// Fills the part of an object's place that is seen.
 fn fill_spot(buf: &mut DrawBuf, spot: Spot, row: &Row)
-    requires color { (h : ℕ) → IsValue BgColor (value_of (row_of h row.now) BgColor) }
-    requires opa { (h : ℕ) → IsValue BgOpa (value_of (row_of h row.now) BgOpa) }
-    ensures { (h : ℕ) → Paints buf.old buf.new
-        (painted_row (Some (rect_of spot.visible)) (rect_of spot.place) (row_of h row.now)) }
+    requires color { IsValue BgColor (value_of row.now BgColor) }
+    requires opa { IsValue BgOpa (value_of row.now BgOpa) }
+    ensures { Paints buf.old buf.new
+        (painted_row (Some (rect_of spot.visible)) (rect_of spot.place) row.now) }
 {
     let fg = rgb_of(row.value(Part::Main, Prop::BgColor));
     let opa = row.value(Part::Main, Prop::BgOpa).unsigned_abs() as u8;

@@ -1,5 +1,5 @@
 -- The parts of a store after each change that is done.
-use Rattle.gui_store.proofs.Common.{rules, Ok, ◌≡◌, ◌<◌, ◌≤◌, ◌∙◌, sym, ap, subst, ℕ, zero, suc, ◌+◌, ◌-◌, Bool, true, false, length, slice_set, List, Option, Some, None, option_map, refl, arith, length-set, nat_lt, nat_eq, eqb-true, ◌++◌, [], ◌∷◌, cond, eqb, sum_by, if◌then◌else◌, OnOk, OnErr, nat_tests, get_or-set_same, sum_by-cons, POOLS, Handle, Objects, Entries, Full, Forest, Empty, Tree, and_then, leaf, put_at, has, size, count, preorder, cut, cut_by, tree_at, parent_of, with_children_by, Bounds, Test, first_of, result_of, root_tests, child_tests, removal_tests, move_tests, parent_tests, map-and_then, map-size, map-cut_by, map-tree_by, map-parent_by, map-added_by, map-moved_by, map-moved_last_by, count-has, Table, value_at, value_inserted, value_replaced, numbers, Answer, full_answer, Trees, opened, add_root_answer, add_answer, remove_answer, move_answer, set_parent_answer, with_root, with_child, at_index, below, moved_below, without_tree, Change, is_in_range, is_there, SceneRow, Scene, is_at, handles_of, entry_count, entries_of, new_row, first_scene, is_screen_kind, answer_in_range, tests, first_short, scene_after, tree_below, parent_row, at_index_below, last_below, row_after, row_set, need_of, freed_by, IsValid, IsChange, is_root_at, tests-fail, room_in_range, none_short, one_short, first-then, sets_row_alone, total, total-cut, total-parts, total-row, one, one_at, size-total, entries-total, added_sum, removed_sum, first_is_valid, needs, set_slots, set_sums, set_only, Row, row_of, row_in, entries_in, HaveRows, rows_without, removed_after, Parts, scene_in, AreKept}
+use Rattle.gui_store.proofs.Common.{rules, Ok, ◌≡◌, ◌<◌, ◌≤◌, ◌∙◌, sym, ap, subst, ℕ, zero, suc, ◌+◌, ◌-◌, Bool, true, false, length, slice_set, List, Option, Some, None, option_map, refl, arith, length-set, nat_lt, nat_eq, eqb-true, ◌++◌, [], ◌∷◌, cond, eqb, sum_by, if◌then◌else◌, OnOk, OnErr, nat_tests, get_or-set_same, sum_by-cons, POOLS, Handle, Objects, Entries, Full, Forest, Empty, Tree, and_then, leaf, put_at, has, size, count, preorder, cut, cut_by, tree_at, parent_of, with_children_by, Bounds, Test, first_of, result_of, root_tests, child_tests, removal_tests, move_tests, parent_tests, map-and_then, map-size, map-cut_by, map-tree_by, map-parent_by, map-added_by, map-moved_by, map-moved_last_by, count-has, Table, value_at, value_inserted, value_replaced, numbers, Answer, full_answer, Trees, opened, add_root_answer, add_answer, remove_answer, move_answer, set_parent_answer, with_root, with_child, at_index, below, moved_below, without_tree, Change, is_in_range, is_there, Object, Scene, is_at, handles_of, entry_count, entries_of, new_row, new_object, first_scene, is_screen_kind, answer_in_range, tests, first_short, scene_after, tree_below, parent_object, at_index_below, last_below, row_after, over_row, row_set, need_of, freed_by, IsValid, IsChange, is_root_at, tests-fail, room_in_range, none_short, one_short, first-then, sets_row_alone, total, total-cut, total-parts, total-object, one, one_at, entries_at, size-total, entries-total, added_sum, removed_sum, first_is_valid, needs, set_slots, set_sums, set_only, Row, row_in, object_in, entries_in, HaveRows, rows_without, removed_after, Parts, scene_in, AreKept}
 use Rattle.gui_base.specs.declared.refusal.Refusal.TheVariants as refusal
 use Rattle.gui_base.specs.declared.words.Kind.{Kind}
 use Rattle.gui_base.specs.declared.words.Kind.TheVariants.{Screen, Layer}
@@ -10,7 +10,7 @@ use Rattle.scene_defs.proofs.RowKinds.{root_there}
 use Rattle.scene_defs.proofs.Distinct.{distinct_once}
 use Rattle.gui_store.proofs.Rows.{row_count, times, times-preorder, length-preorder, value-set, inserted-count, replaced-count, have-rows, without-count, without-spare, without-handles}
 use Rattle.gui_store.proofs.Shown.{shown, shown-handles, shown-count, shown-aside, shown-set, shown-without, sum-preorder}
-use Rattle.gui_store.proofs.Kept.{read-on, read-off, Left, answered, done, there-is, size-is, row-is, read-at, within, vacant, counted, tree-answer, Fine}
+use Rattle.gui_store.proofs.Kept.{read-on, read-off, Left, answered, done, there-is, size-is, object-is, read-at, within, vacant, counted, tree-answer, Fine}
 
 -- With an index past the last tree, it is put last.
 put_at-last : {A : Type 0} (n : ℕ) (t f : Forest A) → size f ≤ n → put_at n t f ≡ and_then f t
@@ -60,18 +60,18 @@ module _ (p : Parts) (k : AreKept p) where
   load-answer h row b read is =
       let none = none_short (scene_in p) (change.Load h) POOLS (λ q. refl) in
       let on = read-on p k h.0 row read in
-      let kind = ap (λ (r : SceneRow). r.kind) (sym (read-at p k h.0 row read)) in
-      rw (there-is p h.0 ∙ on, row-is p h.0 on, kind, is) (grind (arith, none))
+      let kind = ap (λ (r : Row). r.kind) (sym (read-at p k h.0 row read)) in
+      rw (there-is p h.0 ∙ on, object-is p h.0 on, kind, is) (grind (arith, none))
 
-  with_trees : {f g : Forest SceneRow} → f ≡ g → record (scene_in p) { trees = f } ≡ record (scene_in p) { trees = g }
-  with_trees e = ap (λ (t : Forest SceneRow). record (scene_in p) { trees = t }) e
+  with_trees : {f g : Forest Object} → f ≡ g → record (scene_in p) { trees = f } ≡ record (scene_in p) { trees = g }
+  with_trees e = ap (λ (t : Forest Object). record (scene_in p) { trees = t }) e
 
   -- one object more, whose handle may be given a row
   grown_by : (change : Change) (n : ℕ) (row : Row) (kind : Kind) (g : Forest ℕ) → answer_in_range (scene_in p) change ≡ None →
-      n < 10000 → row_of n row ≡ new_row n kind → is_there (scene_in p) n ≡ false →
-      ((rows : Table Row) → shown rows p.tree.forest ≡ (scene_in p).trees → row_in rows n ≡ new_row n kind →
+      n < 10000 → row ≡ new_row kind → is_there (scene_in p) n ≡ false →
+      ((rows : Table Row) → shown rows p.tree.forest ≡ (scene_in p).trees → object_in rows n ≡ new_object n kind →
       record (scene_in p) { trees = shown rows g } ≡ scene_after (scene_in p) change) →
-      ((w : SceneRow → ℕ) → added_sum (scene_in p) change w ≡ w (new_row n kind) + removed_sum (scene_in p) change w) →
+      ((w : Object → ℕ) → added_sum (scene_in p) change w ≡ w (new_object n kind) + removed_sum (scene_in p) change w) →
       need_of (scene_in p) change Objects ≡ freed_by (scene_in p) change Objects + 1 →
       need_of (scene_in p) change Entries ≡ freed_by (scene_in p) change Entries →
       p.tree.removed ≡ removed_after p.tree.removed (scene_in p) change →
@@ -79,7 +79,7 @@ module _ (p : Parts) (k : AreKept p) where
   grown_by change n row kind g e fits is absent shows sums objects entries removed =
       let off = sym (there-is p n) ∙ absent in
       let within : n < length p.rows.values = omega (arith, fits, k.handles) in
-      let new : row_in (value_inserted p.rows n row) n ≡ new_row n kind = grind (arith, is, get_or-set_same p.rows.values n (Some row) None within) in
+      let new : object_in (value_inserted p.rows n row) n ≡ new_object n kind = grind (arith, is, get_or-set_same p.rows.values n (Some row) None within) in
       record {
         shows = shows (value_inserted p.rows n row) (shown-aside p.rows p.tree.forest n row off) new;
         handles = length-set p.rows.values n (Some row) ∙ k.handles;
@@ -90,31 +90,31 @@ module _ (p : Parts) (k : AreKept p) where
         removed = removed;
       }
 
-  pub fine-screen : (n : Handle) (row : Row) → n.0 < 10000 → row_of n.0 row ≡ new_row n.0 Screen →
+  pub fine-screen : (n : Handle) (row : Row) → n.0 < 10000 → row ≡ new_row Screen →
       answer_in_range (scene_in p) (change.Screen n) ≡ None →
       Fine p (change.Screen n) (record p { tree = with_root p.tree n.0; rows = value_inserted p.rows n.0 row })
   fine-screen n row fits is e =
       let t = tests-fail (tests (scene_in p) (change.Screen n)) (first_short (scene_in p) (change.Screen n) POOLS) e in
-      let shows = λ (rows : Table Row). map-and_then (row_in rows) p.tree.forest (leaf n.0) in
+      let shows = λ (rows : Table Row). map-and_then (object_in rows) p.tree.forest (leaf n.0) in
       grown_by (change.Screen n) n.0 row Screen (with_root p.tree n.0).forest e fits is t.0
       (λ rows same new. rw (shows rows, same, new) refl) (λ w. omega arith) refl refl refl
 
-  pub fine-object : (n q : Handle) (kind : Kind) (row : Row) → n.0 < 10000 → row_of n.0 row ≡ new_row n.0 kind →
+  pub fine-object : (n q : Handle) (kind : Kind) (row : Row) → n.0 < 10000 → row ≡ new_row kind →
       answer_in_range (scene_in p) (change.New n q kind) ≡ None →
       Fine p (change.New n q kind) (record p { tree = with_child p.tree q.0 n.0; rows = value_inserted p.rows n.0 row })
   fine-object n q kind row fits is e =
       let t = tests-fail (tests (scene_in p) (change.New n q kind)) (first_short (scene_in p) (change.New n q kind) POOLS) e in
-      let shows = λ (rows : Table Row). map-added_by (row_in rows) (is_at q.0) (is_at q.0) n.0 p.tree.forest in
+      let shows = λ (rows : Table Row). map-added_by (object_in rows) (is_at q.0) (is_at q.0) n.0 p.tree.forest in
       grown_by (change.New n q kind) n.0 row kind (with_child p.tree q.0 n.0).forest e fits is t.1.0
       (λ rows same new. rw (shows rows, same, new) refl) (λ w. omega arith) refl refl refl
 
   tree-is : (h : ℕ) → shown p.rows (tree_at p.tree.forest h) ≡ tree_below (scene_in p) h
-  tree-is h = map-tree_by (row_in p.rows) (is_at h) p.tree.forest
+  tree-is h = map-tree_by (object_in p.rows) (is_at h) p.tree.forest
 
   -- the entries of what is removed
   pub freed-few : (h : ℕ) → entries_of (tree_below (scene_in p) h) ≤ p.entries
   freed-few h =
-      let a = total-parts entry_count (scene_in p).trees h (distinct_once (scene_in p).trees k.valid.trees.once) in
+      let a = total-parts entries_at (scene_in p).trees h (distinct_once (scene_in p).trees k.valid.trees.once) in
       omega (arith, a, k.entries, entries-total (scene_in p).trees, entries-total (tree_below (scene_in p) h))
 
   -- The handles that a removal lists.
@@ -128,7 +128,7 @@ module _ (p : Parts) (k : AreKept p) where
     -- those that are left and those that are listed
     parts : (j : ℕ) → count (cut p.tree.forest h.0) j + times (numbers hs) j ≡ row_count p.rows j
     parts j =
-        let cut-is = ap (total (one_at j)) (map-cut_by (row_in p.rows) (is_at h.0) p.tree.forest) in
+        let cut-is = ap (total (one_at j)) (map-cut_by (object_in p.rows) (is_at h.0) p.tree.forest) in
         let all = total-parts (one_at j) (scene_in p).trees h.0 (distinct_once (scene_in p).trees k.valid.trees.once) in
         omega (arith, cut-is, all, shown-count p.rows (cut p.tree.forest h.0) j, shown-count p.rows p.tree.forest j, listed-times j, counted p k j)
 
@@ -141,24 +141,24 @@ module _ (p : Parts) (k : AreKept p) where
 
     pub fine-delete : (n : ℕ) → n ≡ entries_of (tree_below (scene_in p) h.0) → Fine p (change.Delete h) (record p { tree = without_tree p.tree h.0; rows = rows_without p.rows hs; entries = p.entries - n })
     fine-delete n is = record {
-      shows = with_trees (shown-without p.rows (cut p.tree.forest h.0) hs aside ∙ map-cut_by (row_in p.rows) (is_at h.0) p.tree.forest);
+      shows = with_trees (shown-without p.rows (cut p.tree.forest h.0) hs aside ∙ map-cut_by (object_in p.rows) (is_at h.0) p.tree.forest);
       handles = without-handles p.rows hs ∙ k.handles;
       rows = λ j. omega (arith, without-count p.rows hs j listed-rows, listed-times j);
       room = let a = ap (λ (xs : List ℕ). length xs) listed in omega (arith, without-spare p.rows hs, a, length-preorder (tree_at p.tree.forest h.0), k.room);
-      slots = let a = map-size (row_in p.rows) (tree_at p.tree.forest h.0) in let b = ap size (tree-is h.0) in omega arith;
+      slots = let a = map-size (object_in p.rows) (tree_at p.tree.forest h.0) in let b = ap size (tree-is h.0) in omega arith;
       entries = let a = freed-few h.0 in omega (arith, is);
       removed = ap preorder (sym (ap handles_of (sym (tree-is h.0)) ∙ shown-handles p.rows (tree_at p.tree.forest h.0)));
     }
 
   -- a tree that goes to an index below the same parent
-  index-shows : (h n : ℕ) → shown p.rows (moved_below (parent_of p.tree.forest h) p.tree.forest h n) ≡ at_index_below (parent_row (scene_in p) h) (scene_in p).trees h n
-  index-shows h n = by (parent_of p.tree.forest h) ∙ ap (λ (o : Option SceneRow). at_index_below o (scene_in p).trees h n) (map-parent_by (row_in p.rows) (is_at h) None p.tree.forest) where
-    by : (o : Option ℕ) → shown p.rows (moved_below o p.tree.forest h n) ≡ at_index_below (option_map (row_in p.rows) o) (scene_in p).trees h n
+  index-shows : (h n : ℕ) → shown p.rows (moved_below (parent_of p.tree.forest h) p.tree.forest h n) ≡ at_index_below (parent_object (scene_in p) h) (scene_in p).trees h n
+  index-shows h n = by (parent_of p.tree.forest h) ∙ ap (λ (o : Option Object). at_index_below o (scene_in p).trees h n) (map-parent_by (object_in p.rows) (is_at h) None p.tree.forest) where
+    by : (o : Option ℕ) → shown p.rows (moved_below o p.tree.forest h n) ≡ at_index_below (option_map (object_in p.rows) o) (scene_in p).trees h n
     by None = refl
-    by (Some q) = map-moved_by (row_in p.rows) (is_at h) (is_at q) n p.tree.forest
+    by (Some q) = map-moved_by (object_in p.rows) (is_at h) (is_at q) n p.tree.forest
 
   -- an index past so many is the last
-  last-shows : (h n : ℕ) → p.limits.objects ≤ n → (o : Option SceneRow) → at_index_below o (scene_in p).trees h n ≡ last_below o (scene_in p).trees h
+  last-shows : (h n : ℕ) → p.limits.objects ≤ n → (o : Option Object) → at_index_below o (scene_in p).trees h n ≡ last_below o (scene_in p).trees h
   last-shows h n few None = refl
   last-shows h n few (Some q) =
       let bare = cut_by (is_at h) (scene_in p).trees in
@@ -167,7 +167,7 @@ module _ (p : Parts) (k : AreKept p) where
 
   -- A change that moves a tree, as a call of the tree does.
   module _ (change : Change) (fits : is_in_range change ≡ true) (plain : IsChange change) (set : row_set change ≡ None)
-      (sums : (w : SceneRow → ℕ) → removed_sum (scene_in p) change w ≡ added_sum (scene_in p) change w)
+      (sums : (w : Object → ℕ) → removed_sum (scene_in p) change w ≡ added_sum (scene_in p) change w)
       (objects : need_of (scene_in p) change Objects ≡ 0) (freed : freed_by (scene_in p) change Objects ≡ 0)
       (entries : need_of (scene_in p) change Entries ≡ freed_by (scene_in p) change Entries)
       (removed : p.tree.removed ≡ removed_after p.tree.removed (scene_in p) change) (t : Trees) (r : Answer) (err : OnErr r (t ≡ p.tree)) where
@@ -180,20 +180,20 @@ module _ (p : Parts) (k : AreKept p) where
         answered p k change fits plain (answer_in_range (scene_in p) change) refl t (record p.tree { forest = g }) r same ok err (search (rules, k))
 
     pub moved_beside : (h n : ℕ) → tests (scene_in p) change ≡ move_tests (handles_of (scene_in p).trees) h →
-        record (scene_in p) { trees = at_index_below (parent_row (scene_in p) h) (scene_in p).trees h n } ≡ scene_after (scene_in p) change →
+        record (scene_in p) { trees = at_index_below (parent_object (scene_in p) h) (scene_in p).trees h n } ≡ scene_after (scene_in p) change →
         r ≡ move_answer p.tree h → OnOk r (t ≡ at_index p.tree h n) → Left p change (record p { tree = t }) r
     moved_beside h n e after = moved (λ f. move_tests f h) (at_index p.tree h n).forest e (with_trees (index-shows h n) ∙ after)
 
   pub moved_below_other : (h q : Handle) → is_in_range (change.Parent h q) ≡ true → (t : Trees) (r : Answer) → OnErr r (t ≡ p.tree) →
       r ≡ set_parent_answer p.tree h.0 q.0 → OnOk r (t ≡ below p.tree h.0 q.0) → Left p (change.Parent h q) (record p { tree = t }) r
   moved_below_other h q fits t r err =
-      let shows = map-moved_last_by (row_in p.rows) (is_at h.0) (is_at q.0) p.tree.forest in
+      let shows = map-moved_last_by (object_in p.rows) (is_at h.0) (is_at q.0) p.tree.forest in
       moved (change.Parent h q) fits tt refl (λ w. refl) refl refl refl refl t r err
       (λ f. parent_tests f h.0 q.0) (below p.tree h.0 q.0).forest refl (with_trees shows)
 
   pub last-after : (h : Handle) (n : ℕ) → p.limits.objects ≤ n →
-      record (scene_in p) { trees = at_index_below (parent_row (scene_in p) h.0) (scene_in p).trees h.0 n } ≡ scene_after (scene_in p) (change.Front h)
-  last-after h n few = with_trees (last-shows h.0 n few (parent_row (scene_in p) h.0))
+      record (scene_in p) { trees = at_index_below (parent_object (scene_in p) h.0) (scene_in p).trees h.0 n } ≡ scene_after (scene_in p) (change.Front h)
+  last-after h n few = with_trees (last-shows h.0 n few (parent_object (scene_in p) h.0))
 
   pub fine-load : (h : Handle) → Fine p (change.Load h) (record p { active = h.0 })
   fine-load h = record { shows = refl; handles = k.handles; rows = λ j. omega arith; room = k.room; slots = refl; entries = omega arith; removed = refl }
@@ -209,38 +209,37 @@ module _ (p : Parts) (k : AreKept p) where
     set : row_set change ≡ Some h
     passed : first_of (tests (scene_in p) change) None ≡ None
     on : has p.tree.forest h.0 ≡ true
-    is : row_of h.0 row ≡ row_after change (row_in p.rows h.0)
-    count : n + entries_in p.rows h.0 ≡ p.entries + entry_count (row_of h.0 row)
+    is : row ≡ row_after change (row_in p.rows h.0)
+    count : n + entries_in p.rows h.0 ≡ p.entries + entry_count row
 
   -- the entries of a row that is read
-  pub row-entries : (h : Handle) (row : Row) (n : ℕ) → Some row ≡ value_at p.rows h.0 → ((j : ℕ) → n ≡ entry_count (row_of j row)) → (n ≡ entries_in p.rows h.0) × (n ≤ p.entries)
+  pub row-entries : (h : Handle) (row : Row) (n : ℕ) → Some row ≡ value_at p.rows h.0 → n ≡ entry_count row → (n ≡ entries_in p.rows h.0) × (n ≤ p.entries)
   row-entries h row n read count =
-      let is : n ≡ entries_in p.rows h.0 = count h.0 ∙ ap entry_count (read-at p k h.0 row read) in
-      let few = total-row entry_count (scene_in p).trees h.0 (row_in p.rows h.0) (row-is p h.0 (read-on p k h.0 row read)) in
+      let is : n ≡ entries_in p.rows h.0 = count ∙ ap entry_count (read-at p k h.0 row read) in
+      let few = total-object entries_at (scene_in p).trees h.0 (object_in p.rows h.0) (object-is p h.0 (read-on p k h.0 row read)) in
       (is, omega (arith, is, few, entries-total (scene_in p).trees, k.entries))
 
-  pub row-set : (change : Change) (h : Handle) (old new : Row) (a b : ℕ) → row_set change ≡ Some h → first_of (tests (scene_in p) change) None ≡ None → Some old ≡ value_at p.rows h.0 → ((j : ℕ) → row_of j new ≡ row_after change (row_of j old)) → ((j : ℕ) → a ≡ entry_count (row_of j old)) → ((j : ℕ) → b ≡ entry_count (row_of j new)) → RowSet change h new (p.entries - a + b)
+  pub row-set : (change : Change) (h : Handle) (old new : Row) (a b : ℕ) → row_set change ≡ Some h → first_of (tests (scene_in p) change) None ≡ None → Some old ≡ value_at p.rows h.0 → new ≡ row_after change old → a ≡ entry_count old → b ≡ entry_count new → RowSet change h new (p.entries - a + b)
   row-set change h old new a b set passed read is before after =
       let on = read-on p k h.0 old read in
       let was = row-entries h old a read before in
-      let now = after h.0 in
-      record { set = set; passed = passed; on = on; is = is h.0 ∙ ap (row_after change) (read-at p k h.0 old read); count = omega (arith, was.0, was.1, now) }
+      record { set = set; passed = passed; on = on; is = is ∙ ap (row_after change) (read-at p k h.0 old read); count = omega (arith, was.0, was.1, after) }
 
   module _ (change : Change) (h : Handle) (row : Row) (n : ℕ) (r : RowSet change h row n) where
     pub fine-row : Fine p change (record p { rows = value_replaced p.rows h.0 row; entries = n })
     fine-row =
-        let shows = with_trees (shown-set p.rows p.tree.forest h.0 row (row_after change) (within p k h.0 r.on) r.is) ∙ sym (sets_row_alone (scene_in p) change h r.set) in
+        let shows = with_trees (shown-set p.rows p.tree.forest h.0 row (over_row (row_after change)) (within p k h.0 r.on) (rw r.is refl)) ∙ sym (sets_row_alone (scene_in p) change h r.set) in
         let handles = length-set p.rows.values h.0 (Some row) ∙ k.handles in
         let rows = λ (j : ℕ). replaced-count p.rows h.0 j row (k.rows h.0 ∙ r.on) in
         let sums = λ (j : ℕ). set_sums (scene_in p) change h (one_at j) r.set in
         let slots = set_slots (scene_in p) change h r.set in
-        let need = needs (scene_in p) change h (row_in p.rows h.0) r.set (row-is p h.0 r.on) in
+        let need = needs (scene_in p) change h (object_in p.rows h.0) r.set (object-is p h.0 r.on) in
         let removed : p.tree.removed ≡ removed_after p.tree.removed (scene_in p) change = grind (arith, r.set) in
         search (rules, k, r.count, ap entry_count r.is)
 
     pub row-answer : (b : Bool) → nat_lt p.limits.entries n ≡ b → answer_in_range (scene_in p) change ≡ (if b then Some (Full Entries) else None)
     row-answer b over =
-        let a = needs (scene_in p) change h (row_in p.rows h.0) r.set (row-is p h.0 r.on) in
+        let a = needs (scene_in p) change h (object_in p.rows h.0) r.set (object-is p h.0 r.on) in
         let short = one_short (scene_in p) change Entries (set_only (scene_in p) change h r.set) in
         first-then (tests (scene_in p) change) (option_map Full (first_short (scene_in p) change POOLS)) r.passed
         ∙ grind (arith, nat_tests, over, short, a, ap entry_count r.is, r.count, k.entries, k.valid.pools.entries)
@@ -250,7 +249,7 @@ module _ (p : Parts) (k : AreKept p) where
     row-done fits plain under rows is = rw is (done p k change fits plain _ (row-answer false under) fine-row)
 
 -- The first rows.
-module _ (tree : Trees) (limits : Bounds) (room : 3 ≤ limits.objects) (new : tree ≡ opened limits.objects) (t : Table Row) (keys : length t.values ≡ 10000) (empty : (h : ℕ) → value_at t h ≡ None) (spare : t.spare ≡ limits.objects) (a b c : Row) (top : (h : ℕ) → row_of h a ≡ new_row h Layer) (system : (h : ℕ) → row_of h b ≡ new_row h Layer) (screen : (h : ℕ) → row_of h c ≡ new_row h Screen) where
+module _ (tree : Trees) (limits : Bounds) (room : 3 ≤ limits.objects) (new : tree ≡ opened limits.objects) (t : Table Row) (keys : length t.values ≡ 10000) (empty : (h : ℕ) → value_at t h ≡ None) (spare : t.spare ≡ limits.objects) (a b c : Row) (top : a ≡ new_row Layer) (system : b ≡ new_row Layer) (screen : c ≡ new_row Screen) where
   abbrev first_rows : Table Row
   first_rows = value_inserted (value_inserted (value_inserted t 1 a) 2 b) 3 c
 
@@ -266,7 +265,7 @@ module _ (tree : Trees) (limits : Bounds) (room : 3 ≤ limits.objects) (new : t
       let first = value-set t.values 1 h (Some a) (omega (arith, keys)) in rw (third, second, first, empty h) refl
 
   first-shows : scene_in first_parts ≡ first_scene limits
-  first-shows = rw (new, first-value 1, first-value 2, first-value 3, top 1, system 2, screen 3) refl
+  first-shows = rw (new, first-value 1, first-value 2, first-value 3, top, system, screen) refl
 
   pub first-kept : AreKept first_parts × (scene_in first_parts ≡ first_scene limits)
   first-kept = (

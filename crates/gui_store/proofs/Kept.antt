@@ -1,10 +1,13 @@
 -- What the parts of a store answer, and that a change keeps them in order.
-use Rattle.gui_store.proofs.Common.{rules, nat_lt, inl, inr, ◌≡◌, ◌<◌, ◌⊎◌, ◌∙◌, sym, ap, subst, ℕ, ◌+◌, true, false, length, Option, unwrap_or, Some, None, is_some, option_map, Ok, Err, List, refl, arith, if◌then◌else◌, OnOk, OnErr, IsErrAnd, err_from_is_err_and, nat_tests, POOLS, HANDLE, Objects, Entries, Refusal, Full, Forest, has, size, count, Bounds, Test, first_of, result_of, map-size, Table, value_at, Trees, Answer, Change, is_in_range, Scene, is_there, handles_of, row_at, entries_of, row_set, answer_in_range, scene_after, tests, first_short, need_of, freed_by, IsValid, IsChange, IsRow, is_row, after_keeps, one_short, one_at, added_sum, removed_sum, after_leaves, after_valid, Row, Parts, scene_in, AreKept, removed_after, blank, row_of, row_in}
+use Rattle.gui_store.proofs.Common.{rules, nat_lt, inl, inr, ◌≡◌, ◌<◌, ◌⊎◌, ◌∙◌, sym, ap, subst, ℕ, ◌+◌, true, false, length, Option, unwrap_or, Some, None, is_some, option_map, Ok, Err, List, refl, arith, if◌then◌else◌, OnOk, OnErr, IsErrAnd, err_from_is_err_and, nat_tests, POOLS, HANDLE, Objects, Entries, Refusal, Full, Forest, has, size, count, Bounds, Test, first_of, result_of, map-size, Table, value_at, Trees, Answer, Change, is_in_range, Scene, is_there, handles_of, object_at, row_at, entries_of, row_set, answer_in_range, scene_after, tests, first_short, need_of, freed_by, IsValid, IsChange, IsRow, in_intervals, after_keeps, one_short, one_at, added_sum, removed_sum, after_leaves, after_valid, Row, Parts, scene_in, AreKept, removed_after, new_row, row_in, object_in}
+use Rattle.std.proofs.lemmas.Bool.{and_parts}
 use Rattle.gui_base.specs.declared.limits.Pool.{Pool}
+use Rattle.gui_base.specs.Intervals.{is_counted}
+use Rattle.gui_base.specs.declared.words.Kind.TheVariants.{Obj}
 use Rattle.scene_defs.specs.declared.Change.TheVariants as change
 use Rattle.gui_store.specs.Changed.{IsChanged}
 use Rattle.gui_store.proofs.Rows.{row_count, within_of, told-count, count-told}
-use Rattle.gui_store.proofs.Shown.{shown-handles, shown-row, shown-all}
+use Rattle.gui_store.proofs.Shown.{shown-handles, shown-object, shown-all}
 
 -- What is found of h.
 module _ (p : Parts) where
@@ -15,14 +18,17 @@ module _ (p : Parts) where
   there-is h = ap (λ (f : Forest ℕ). has f h) forest-is
 
   pub size-is : size (scene_in p).trees ≡ size p.tree.forest
-  size-is = map-size (row_in p.rows) p.tree.forest
+  size-is = map-size (object_in p.rows) p.tree.forest
 
-  pub row-is : (h : ℕ) → has p.tree.forest h ≡ true → row_at (scene_in p) h ≡ Some (row_in p.rows h)
-  row-is h on = shown-row p.rows p.tree.forest h ∙ rw on refl
+  pub object-is : (h : ℕ) → has p.tree.forest h ≡ true → object_at (scene_in p) h ≡ Some (object_in p.rows h)
+  object-is h on = shown-object p.rows p.tree.forest h ∙ rw on refl
 
 module _ (p : Parts) (k : AreKept p) where
+  pub named : (h : ℕ) → has p.tree.forest h ≡ true → is_counted HANDLE h ≡ true
+  named h on = (and_parts _ _ (shown-all p.rows in_intervals p.tree.forest h k.valid.rows.numbers on)).0
+
   pub in_range : (h : ℕ) → has p.tree.forest h ≡ true → IsRow (row_in p.rows h)
-  in_range h on = shown-all p.rows is_row p.tree.forest h k.valid.rows.numbers on
+  in_range h on = (and_parts _ _ (shown-all p.rows in_intervals p.tree.forest h k.valid.rows.numbers on)).1
 
   pub within : (h : ℕ) → has p.tree.forest h ≡ true → h < length p.rows.values
   within h on = within_of p.rows h (k.rows h ∙ on)
@@ -34,11 +40,11 @@ module _ (p : Parts) (k : AreKept p) where
   pub read-off : (h : ℕ) → None ≡ value_at p.rows h → has p.tree.forest h ≡ false
   read-off h e = sym (k.rows h) ∙ ap is_some (sym e)
 
-  pub read-at : (h : ℕ) (row : Row) → Some row ≡ value_at p.rows h → row_of h row ≡ row_in p.rows h
-  read-at h row e = ap (λ (o : Option Row). row_of h (unwrap_or o blank)) e
+  pub read-at : (h : ℕ) (row : Row) → Some row ≡ value_at p.rows h → row ≡ row_in p.rows h
+  read-at h row e = ap (λ (o : Option Row). unwrap_or o (new_row Obj)) e
 
-  pub read-row : (h : ℕ) (o : Option Row) → o ≡ value_at p.rows h → option_map (row_of h) o ≡ row_at (scene_in p) h
-  read-row h o e = grind (arith, e, k.rows h, shown-row p.rows p.tree.forest h)
+  pub read-row : (h : ℕ) (o : Option Row) → o ≡ value_at p.rows h → o ≡ row_at (scene_in p) h
+  read-row h o e = grind (arith, e, k.rows h, shown-object p.rows p.tree.forest h)
 
   -- a row where the forest has its handle
   pub vacant : (h : ℕ) → has p.tree.forest h ≡ false → value_at p.rows h ≡ None

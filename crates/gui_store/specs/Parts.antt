@@ -7,8 +7,8 @@ use Rattle.gui_pool.specs.Table.{Table, value_at}
 use Rattle.gui_tree.specs.Trees.{Trees}
 use Rattle.scene_defs.specs.Scene.{Scene, entries_of}
 use Rattle.scene_defs.specs.Valid.{IsValid}
-use Rattle.gui_store.specs.declared.row.Row.{Row}
-use Rattle.gui_store.specs.Rows.{row_in}
+use Rattle.scene_defs.specs.declared.Row.{Row}
+use Rattle.gui_store.specs.Rows.{object_in}
 
 pub record Parts : Type 0 where
   pub tree : Trees
@@ -19,9 +19,9 @@ pub record Parts : Type 0 where
   -- how many are set
   pub entries : ℕ
 
--- the trees with the row of each handle
+-- the trees with the object of each handle
 abbrev pub scene_in : Parts → Scene
-scene_in p = record { trees = map_forest (row_in p.rows) p.tree.forest; active = p.active; limits = p.limits }
+scene_in p = record { trees = map_forest (object_in p.rows) p.tree.forest; active = p.active; limits = p.limits }
 
 -- what holds of the parts at all times
 pub record AreKept (p : Parts) : Type 0 where

@@ -1,41 +1,19 @@
--- What a stored row shows of an object.
-use Rattle.std.specs.Prelude.{ℕ, List, [], ◌∷◌, IsSome, None, unwrap_or, pos}
+-- What a table of rows shows of the objects.
+use Rattle.std.specs.Prelude.{ℕ, List, [], ◌∷◌, IsSome, unwrap_or}
 use Rattle.gui_base.specs.declared.Handle.{Handle}
 use Rattle.gui_base.specs.declared.words.Kind.TheVariants.{Obj}
-use Rattle.gui_base.specs.declared.words.Length.TheVariants.{Pixels}
 use Rattle.gui_pool.specs.Table.{Table, value_at, value_removed}
-use Rattle.scene_defs.specs.Scene.{Row as SceneRow, entry_count}
-use Rattle.gui_store.specs.declared.row.Row.{Row}
+use Rattle.scene_defs.specs.declared.Row.{Row}
+use Rattle.scene_defs.specs.Row.{new_row, entry_count}
+use Rattle.scene_defs.specs.Scene.{Object}
 
--- the row of h
-abbrev pub row_of : ℕ → Row → SceneRow
-row_of h row = record {
-  handle = h;
-  kind = row.kind;
-  flags = row.flags;
-  x = row.x;
-  y = row.y;
-  width = row.width;
-  height = row.height;
-  locals = record { bg_color = row.bg_color; bg_opa = row.bg_opa };
-}
+-- the row of h in a table; a handle that has none shows a new one
+abbrev pub row_in : Table Row → ℕ → Row
+row_in rows h = unwrap_or (value_at rows h) (new_row Obj)
 
--- what stands for the row of a handle that has none
-abbrev pub blank : Row
-blank = record {
-  kind = Obj;
-  flags = 0;
-  x = pos 0;
-  y = pos 0;
-  width = Pixels 0;
-  height = Pixels 0;
-  bg_color = None;
-  bg_opa = None;
-}
-
--- the row of h in a table
-abbrev pub row_in : Table Row → ℕ → SceneRow
-row_in rows h = row_of h (unwrap_or (value_at rows h) blank)
+-- the object that h is by a table
+abbrev pub object_in : Table Row → ℕ → Object
+object_in rows h = record { handle = h; row = row_in rows h }
 
 -- how many entries h has there
 abbrev pub entries_in : Table Row → ℕ → ℕ

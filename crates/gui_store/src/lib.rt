@@ -8,6 +8,5 @@ mod range;
 mod row;
 mod store;
 
-pub use row::Row;
-pub use scene_defs::Change;
+pub use scene_defs::{Change, Row};
 pub use store::Store;

@@ -3,23 +3,25 @@ ghost use Rattle.std.specs.Prelude.{◌≡◌, ◌<◌, ◌^◌, IfOk, IfSome, S
 ghost use Rattle.std.specs.Prelude.{option_map, sum_by};
 ghost use Rattle.std.specs.Option.{option_copied};
 ghost use Rattle.gui_base.specs.Bounded.{bounds_of};
+ghost use Rattle.gui_base.specs.Intervals.{is_counted};
 ghost use Rattle.gui_base.specs.Refusing.{first_of, result_of, move_tests};
-ghost use Rattle.scene_defs.specs.Scene.{handles_of, is_there, row_at, value_of, first_scene};
+ghost use Rattle.scene_defs.specs.Row.{value_of};
+ghost use Rattle.scene_defs.specs.Scene.{handles_of, is_there, row_at, first_scene};
 ghost use Rattle.scene_defs.specs.Change.{answer_of, changed, tests, row_set};
 ghost use Rattle.scene_defs.specs.Ranges.{is_in_range};
 ghost use Rattle.scene_defs.specs.Valid.{IsValid, IsChange, IsRow};
 ghost use Rattle.gui_pool.specs.Table.{value_at, value_inserted};
 ghost use Rattle.gui_store.specs.Parts.{AreKept};
 ghost use Rattle.gui_store.specs.Removed.{removed_by};
-ghost use Rattle.gui_store.specs.Rows.{row_of, entries_in, HaveRows, rows_without};
+ghost use Rattle.gui_store.specs.Rows.{entries_in, HaveRows, rows_without};
 
 use crate::range::is_in_range;
-use crate::row::Row;
+use crate::row::{entry_count, new_row, set_row};
 use gui_base::intervals::HANDLE;
 use gui_base::{Handle, Kind, Limits, NoMemory, Part, Pool, Prop, Refusal};
 use gui_pool::Table;
 use gui_tree::Tree;
-use scene_defs::Change;
+use scene_defs::{Change, Row};
 use std::alloc::Global;
 
 /// One more than the greatest handle.
@@ -79,7 +81,7 @@ fn entries_at(rows: &Table<Row>, h: Handle) -> u32
     ensures { result ≡ entries_in rows.now h.0 }
 {
     match rows.get(h.0 as u32) {
-        Some(row) => row.entry_count(),
+        Some(row) => entry_count(row),
         None => 0,
     }
 }
@@ -108,9 +110,9 @@ impl Store {
         let Ok(mut rows) = Table::open(alloc, HANDLES, limits.objects) else {
             return Err(NoMemory);
         };
-        insert_row(&mut rows, TOP_LAYER, Row::new(Kind::Layer));
-        insert_row(&mut rows, SYSTEM_LAYER, Row::new(Kind::Layer));
-        insert_row(&mut rows, FIRST_SCREEN, Row::new(Kind::Screen));
+        insert_row(&mut rows, TOP_LAYER, new_row(Kind::Layer));
+        insert_row(&mut rows, SYSTEM_LAYER, new_row(Kind::Layer));
+        insert_row(&mut rows, FIRST_SCREEN, new_row(Kind::Screen));
         Ok(Store {
             tree,
             rows,
@@ -162,8 +164,9 @@ impl Store {
 
     /// The row of an object, or none where it is not there.
     pub fn row(&self, h: Handle) -> Option<&Row>
-        ensures value { option_map (row_of h.0) (option_copied result) ≡ row_at (scene_of self.now) h.0 }
-        ensures in_range { IfSome result (λ row. IsRow (row_of h.0 row.now)) }
+        ensures value { option_copied result ≡ row_at (scene_of self.now) h.0 }
+        ensures handle { IfSome result (λ row. is_counted HANDLE h.0 ≡ true) }
+        ensures in_range { IfSome result (λ row. IsRow row.now) }
     {
         self.rows.get(h.0 as u32)
     }
@@ -207,7 +210,7 @@ impl Store {
         ensures { Changes self.old self.new (Change.Screen n) result }
     {
         self.tree.add_root(n)?;
-        insert_row(&mut self.rows, n, Row::new(Kind::Screen));
+        insert_row(&mut self.rows, n, new_row(Kind::Screen));
         Ok(())
     }
 
@@ -217,7 +220,7 @@ impl Store {
         ensures { Changes self.old self.new (Change.New n parent kind) result }
     {
         self.tree.add(n, parent)?;
-        insert_row(&mut self.rows, n, Row::new(kind));
+        insert_row(&mut self.rows, n, new_row(kind));
         Ok(())
     }
 
@@ -285,9 +288,9 @@ impl Store {
             return Err(Refusal::Unknown);
         };
         self.check_row(h, change)?;
-        let others = self.entries - row.entry_count();
-        row.change(change);
-        let entries = others + row.entry_count();
+        let others = self.entries - entry_count(&row);
+        set_row(&mut row, change);
+        let entries = others + entry_count(&row);
         if entries > self.limits.entries {
             return Err(Refusal::Full(Pool::Entries));
         }

@@ -3,60 +3,60 @@ use Rattle.std.proofs.Common.{◌≡◌, ◌≢◌, ◌+◌, ◌≤◌, ℕ, Boo
 use Rattle.std.proofs.lemmas.Bool.{false≢true}
 use Rattle.std.proofs.lemmas.Bool.Decides.{nat_tests}
 use Rattle.gui_base.specs.Forest.{Forest, Empty, Tree, and_then, has_by, count, StandsOnce}
-use Rattle.scene_defs.specs.Scene.{Row, is_at, handles_of}
+use Rattle.scene_defs.specs.Scene.{Object, is_at, handles_of}
 use Rattle.scene_defs.specs.Picture.{root_tree}
 
-abbrev pub there : Forest Row → ℕ → Bool
+abbrev pub there : Forest Object → ℕ → Bool
 there f k = has_by (is_at k) f
 
 -- each handle stands once
-abbrev pub IsDistinct : Forest Row → Type 0
+abbrev pub IsDistinct : Forest Object → Type 0
 IsDistinct Empty = Unit {0}
-IsDistinct (Tree row cs rest) =
-    ((k : ℕ) → there cs k ≡ true → there rest k ≡ false) × (there cs row.handle ≡ false) × (there rest row.handle ≡ false)
+IsDistinct (Tree object cs rest) =
+    ((k : ℕ) → there cs k ≡ true → there rest k ≡ false) × (there cs object.handle ≡ false) × (there rest object.handle ≡ false)
     × IsDistinct cs × IsDistinct rest
 
-count-there : (f : Forest Row) (k : ℕ) → there f k ≡ true → 1 ≤ count (handles_of f) k
+count-there : (f : Forest Object) (k : ℕ) → there f k ≡ true → 1 ≤ count (handles_of f) k
 count-there Empty k i = absurd (false≢true i)
-count-there (Tree row cs rest) k i = grind (arith, nat_tests, count-there cs k, count-there rest k)
+count-there (Tree object cs rest) k i = grind (arith, nat_tests, count-there cs k, count-there rest k)
 
-pub count-off : (f : Forest Row) (k : ℕ) → there f k ≡ false → count (handles_of f) k ≡ 0
+pub count-off : (f : Forest Object) (k : ℕ) → there f k ≡ false → count (handles_of f) k ≡ 0
 count-off Empty k off = refl
-count-off (Tree row cs rest) k off = grind (arith, nat_tests, count-off cs k, count-off rest k)
+count-off (Tree object cs rest) k off = grind (arith, nat_tests, count-off cs k, count-off rest k)
 
-pub distinct_once : (f : Forest Row) → StandsOnce (handles_of f) → IsDistinct f
+pub distinct_once : (f : Forest Object) → StandsOnce (handles_of f) → IsDistinct f
 distinct_once Empty once = tt
-distinct_once (Tree row cs rest) once =
+distinct_once (Tree object cs rest) once =
     let below = distinct_once cs (λ k. omega (arith, once k)) in
     let beside = distinct_once rest (λ k. omega (arith, once k)) in
-    let apart = λ (k : ℕ). let o : count (handles_of (Tree row cs rest)) k ≤ 1 = once k in o in
+    let apart = λ (k : ℕ). let o : count (handles_of (Tree object cs rest)) k ≤ 1 = once k in o in
     grind (arith, nat_tests, apart, count-there cs, count-there rest, below, beside)
 
-pub other_than : (row : Row) (f : Forest Row) (k : ℕ) → there f row.handle ≡ false → there f k ≡ true → is_at k row ≡ false
-other_than row f k out i = grind (arith, nat_tests)
+pub other_than : (object : Object) (f : Forest Object) (k : ℕ) → there f object.handle ≡ false → there f k ≡ true → is_at k object ≡ false
+other_than object f k out i = grind (arith, nat_tests)
 
-pub there-and_then : (f g : Forest Row) (k : ℕ) → there (and_then f g) k ≡ (there f k || there g k)
+pub there-and_then : (f g : Forest Object) (k : ℕ) → there (and_then f g) k ≡ (there f k || there g k)
 there-and_then Empty g k = refl
-there-and_then (Tree row cs rest) g k = grind (arith, nat_tests, there-and_then rest g k)
+there-and_then (Tree object cs rest) g k = grind (arith, nat_tests, there-and_then rest g k)
 
-pub there_from_root : (f : Forest Row) (a k : ℕ) → there (root_tree f a) k ≡ true → there f k ≡ true
+pub there_from_root : (f : Forest Object) (a k : ℕ) → there (root_tree f a) k ≡ true → there f k ≡ true
 there_from_root Empty a k i = i
-there_from_root (Tree row cs rest) a k i = grind (arith, nat_tests, there_from_root rest a k)
+there_from_root (Tree object cs rest) a k i = grind (arith, nat_tests, there_from_root rest a k)
 
 -- the root a, and the layers above it
-abbrev pub three : Forest Row → ℕ → Forest Row
+abbrev pub three : Forest Object → ℕ → Forest Object
 three f a = and_then (root_tree f a) (and_then (root_tree f 1) (root_tree f 2))
 
-count-and_then : (f g : Forest Row) (k : ℕ) → count (handles_of (and_then f g)) k ≡ count (handles_of f) k + count (handles_of g) k
+count-and_then : (f g : Forest Object) (k : ℕ) → count (handles_of (and_then f g)) k ≡ count (handles_of f) k + count (handles_of g) k
 count-and_then Empty g k = omega arith
-count-and_then (Tree row cs rest) g k = omega (arith, count-and_then rest g k)
+count-and_then (Tree object cs rest) g k = omega (arith, count-and_then rest g k)
 
 -- no handle stands in two of three roots
-count-roots : (f : Forest Row) (a k : ℕ) → a ≢ 1 → a ≢ 2 →
+count-roots : (f : Forest Object) (a k : ℕ) → a ≢ 1 → a ≢ 2 →
     count (handles_of (root_tree f a)) k + (count (handles_of (root_tree f 1)) k + count (handles_of (root_tree f 2)) k) ≤ count (handles_of f) k
 count-roots Empty a k one two = omega arith
-count-roots (Tree row cs rest) a k one two = grind (arith, nat_tests, count-roots rest a k one two)
+count-roots (Tree object cs rest) a k one two = grind (arith, nat_tests, count-roots rest a k one two)
 
-pub distinct-three : (f : Forest Row) (a : ℕ) → StandsOnce (handles_of f) → a ≢ 1 → a ≢ 2 → IsDistinct (three f a)
+pub distinct-three : (f : Forest Object) (a : ℕ) → StandsOnce (handles_of f) → a ≢ 1 → a ≢ 2 → IsDistinct (three f a)
 distinct-three f a once one two = distinct_once (three f a) (λ k.
     grind (arith, once k, count-roots f a k one two, count-and_then (root_tree f a), count-and_then (root_tree f 1)))

@@ -2,14 +2,14 @@
 use Rattle.std.proofs.Common.{◌≡◌, ◌∙◌, sym, ap, ℕ, eqb, None, is_some, option_map, Option, Some, refl}
 use Rattle.gui_base.specs.Forest.{Forest, height, has, tree_at, tree_by, parent_of, parent_by, depth_of, depth_by}
 use Rattle.gui_base.proofs.Forests.{map-height, map-has_by, map-tree_by, map-depth_by, map-parent_by}
-use Rattle.scene_defs.specs.Scene.{Row, handle_of, handles_of, is_at}
+use Rattle.scene_defs.specs.Scene.{Object, handle_of, handles_of, is_at}
 use Rattle.scene_defs.proofs.Distinct.{there}
 
 some-mapped : {A B : Type 0} (f : A → B) (o : Option A) → is_some (option_map f o) ≡ is_some o
 some-mapped f None = refl
 some-mapped f (Some a) = refl
 
-module _ (f : Forest Row) (h : ℕ) where
+module _ (f : Forest Object) (h : ℕ) where
   pub has-handles : has (handles_of f) h ≡ there f h
   has-handles = map-has_by handle_of (λ k. eqb k h) f
 

@@ -1,35 +1,31 @@
 -- The numbers of rows.
 use Rattle.std.proofs.Common.{◌≡◌, true, arith}
 use Rattle.std.proofs.lemmas.Bool.{and_parts}
-use Rattle.gui_base.specs.declared.intervals.TheConstants.{HANDLE}
 use Rattle.gui_base.specs.declared.words.Prop.TheVariants.{BgColor, BgOpa}
-use Rattle.gui_base.specs.Intervals.{is_counted}
 use Rattle.scene_defs.specs.declared.Change.{Change}
 use Rattle.scene_defs.specs.declared.Change.TheVariants as change
 use Rattle.scene_defs.specs.Change.{row_after}
 use Rattle.scene_defs.specs.Ranges.{is_in_range}
-use Rattle.scene_defs.specs.Scene.{Row}
+use Rattle.scene_defs.specs.declared.Row.{Row}
 use Rattle.scene_defs.specs.Valid.{IsOffset, IsSize, IsRow, is_local}
 
 -- the numbers of a row in range, one by one
 pub record Numbers (row : Row) : Type 0 where
-  pub handle : is_counted HANDLE row.handle ≡ true
   pub x : IsOffset row.x
   pub y : IsOffset row.y
   pub width : IsSize row.width
   pub height : IsSize row.height
-  pub bg_color : is_local BgColor row.locals.bg_color ≡ true
-  pub bg_opa : is_local BgOpa row.locals.bg_opa ≡ true
+  pub bg_color : is_local BgColor row.bg_color ≡ true
+  pub bg_opa : is_local BgOpa row.bg_opa ≡ true
 
 pub numbers_of : (row : Row) → IsRow row → Numbers row
 numbers_of row r =
-    let a = and_parts _ _ r in
-    let b = and_parts _ _ a.1 in
+    let b = and_parts _ _ r in
     let c = and_parts _ _ b.1 in
     let d = and_parts _ _ c.1 in
     let e = and_parts _ _ d.1 in
     let f = and_parts _ _ e.1 in
-    record { handle = a.0; x = b.0; y = c.0; width = d.0; height = e.0; bg_color = f.0; bg_opa = f.1 }
+    record { x = b.0; y = c.0; width = d.0; height = e.0; bg_color = f.0; bg_opa = f.1 }
 
 -- a change in range leaves a row in range
 pub row_in_range : (change : Change) (row : Row) → is_in_range change ≡ true → IsRow row → IsRow (row_after change row)

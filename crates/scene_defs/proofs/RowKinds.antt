@@ -1,140 +1,140 @@
--- What holds of each row and of the roots, as a weight of the trees, and how deep rows lie.
+-- What holds of each object and of the roots, as a weight of the trees, and how deep objects lie.
 use Rattle.std.proofs.Common.{◌≡◌, ◌≢◌, ◌≤◌, ℕ, zero, suc, ◌+◌, Bool, true, false, cond, eqb, ltb, leb, ◌&&◌, refl, arith, ◌⊎◌, Some, None, is_some}
 use Rattle.std.proofs.lemmas.Bool.Decides.{nat_tests}
 use Rattle.gui_base.specs.Forest.{Forest, Empty, Tree, all_by, tree_by, height, cut_by, depth_by, parent_by}
-use Rattle.scene_defs.specs.Scene.{Row, is_at, row_by}
+use Rattle.scene_defs.specs.Scene.{Object, is_at, object_by}
 use Rattle.scene_defs.specs.Change.{has_screen}
-use Rattle.scene_defs.specs.Valid.{is_row, is_root_row, is_object, have_kinds, is_root_at}
+use Rattle.scene_defs.specs.Valid.{in_intervals, is_root_object, is_plain, have_kinds, is_root_at}
 use Rattle.scene_defs.proofs.Distinct.{there, IsDistinct}
 use Rattle.scene_defs.proofs.Totals.{one_at, Weighing, weight, cut-off}
 
--- whether no row lies above
+-- whether no object lies above
 abbrev pub is_top : ℕ → Bool
 is_top zero = true
 is_top (suc d) = false
 
--- 1 for a row that is not in order
+-- 1 for an object that is not in order
 abbrev pub fault : Weighing
-fault d row = cond (cond (is_top d) (is_root_row row) (is_object row) && is_row row) 0 1
+fault d object = cond (cond (is_top d) (is_root_object object) (is_plain object) && in_intervals object) 0 1
 
 both_hold : (kind row : Bool) (x y : ℕ) (kinds rows more_kinds more_rows : Bool) → eqb x 0 ≡ (kinds && rows) → eqb y 0 ≡ (more_kinds && more_rows) →
     eqb (cond (kind && row) 0 1 + (x + y)) 0 ≡ ((kind && (kinds && more_kinds)) && (row && (rows && more_rows)))
 both_hold kind row x y kinds rows more_kinds more_rows a b = grind (arith, nat_tests, a, b)
 
-pub faults-below : (d : ℕ) (f : Forest Row) → eqb (weight fault (suc d) f) 0 ≡ (all_by is_object f && all_by is_row f)
+pub faults-below : (d : ℕ) (f : Forest Object) → eqb (weight fault (suc d) f) 0 ≡ (all_by is_plain f && all_by in_intervals f)
 faults-below d Empty = refl
-faults-below d (Tree row cs rest) =
-    both_hold (is_object row) (is_row row) _ _ (all_by is_object cs) (all_by is_row cs) (all_by is_object rest) (all_by is_row rest)
+faults-below d (Tree object cs rest) =
+    both_hold (is_plain object) (in_intervals object) _ _ (all_by is_plain cs) (all_by in_intervals cs) (all_by is_plain rest) (all_by in_intervals rest)
     (faults-below (suc d) cs) (faults-below d rest)
 
-pub faults : (f : Forest Row) → eqb (weight fault 0 f) 0 ≡ (have_kinds f && all_by is_row f)
+pub faults : (f : Forest Object) → eqb (weight fault 0 f) 0 ≡ (have_kinds f && all_by in_intervals f)
 faults Empty = refl
-faults (Tree row cs rest) =
-    both_hold (is_root_row row) (is_row row) _ _ (all_by is_object cs) (all_by is_row cs) (have_kinds rest) (all_by is_row rest)
+faults (Tree object cs rest) =
+    both_hold (is_root_object object) (in_intervals object) _ _ (all_by is_plain cs) (all_by in_intervals cs) (have_kinds rest) (all_by in_intervals rest)
     (faults-below 0 cs) (faults rest)
 
 -- 1 for the root k
 abbrev pub root_at : ℕ → Weighing
-root_at k d row = cond (is_top d) (one_at k row) 0
+root_at k d object = cond (is_top d) (one_at k object) 0
 
-pub roots-below : (k d : ℕ) (f : Forest Row) → weight (root_at k) (suc d) f ≡ 0
+pub roots-below : (k d : ℕ) (f : Forest Object) → weight (root_at k) (suc d) f ≡ 0
 roots-below k d Empty = refl
-roots-below k d (Tree row cs rest) = omega (arith, roots-below k (suc d) cs, roots-below k d rest)
+roots-below k d (Tree object cs rest) = omega (arith, roots-below k (suc d) cs, roots-below k d rest)
 
-pub roots-weight : (k : ℕ) (f : Forest Row) → ltb 0 (weight (root_at k) 0 f) ≡ is_root_at f k
+pub roots-weight : (k : ℕ) (f : Forest Object) → ltb 0 (weight (root_at k) 0 f) ≡ is_root_at f k
 roots-weight k Empty = refl
-roots-weight k (Tree row cs rest) = grind (arith, nat_tests, roots-below k 0 cs, roots-weight k rest)
+roots-weight k (Tree object cs rest) = grind (arith, nat_tests, roots-below k 0 cs, roots-weight k rest)
 
 -- another root is not in the tree at h
-pub roots-tree : (h k d : ℕ) (f : Forest Row) → h ≢ k → weight (root_at k) d (tree_by (is_at h) f) ≡ 0
+pub roots-tree : (h k d : ℕ) (f : Forest Object) → h ≢ k → weight (root_at k) d (tree_by (is_at h) f) ≡ 0
 roots-tree h k d Empty ne = refl
-roots-tree h k zero (Tree row cs rest) ne = grind (arith, nat_tests, roots-below k 0 cs, roots-tree h k zero cs, roots-tree h k zero rest)
+roots-tree h k zero (Tree object cs rest) ne = grind (arith, nat_tests, roots-below k 0 cs, roots-tree h k zero cs, roots-tree h k zero rest)
 roots-tree h k (suc d) f ne = roots-below k d (tree_by (is_at h) f)
 
--- 1 for a row below the depth n
+-- 1 for an object below the depth n
 abbrev pub too_low : ℕ → Weighing
-too_low n d row = cond (ltb d n) 0 1
+too_low n d object = cond (ltb d n) 0 1
 
-pub low-height : (n d : ℕ) (f : Forest Row) → d ≤ n → eqb (weight (too_low n) d f) 0 ≡ leb (height f + d) n
+pub low-height : (n d : ℕ) (f : Forest Object) → d ≤ n → eqb (weight (too_low n) d f) 0 ≡ leb (height f + d) n
 low-height n d Empty fits = grind (arith, nat_tests)
-low-height n d (Tree row cs rest) fits = grind (arith, nat_tests, low-height n (suc d) cs, low-height n d rest)
+low-height n d (Tree object cs rest) fits = grind (arith, nat_tests, low-height n (suc d) cs, low-height n d rest)
 
 -- A screen is a root, and no layer.
-no_screen_below : (h : ℕ) (f : Forest Row) → all_by is_object f ≡ true → has_screen (row_by (is_at h) f) ≡ false
+no_screen_below : (h : ℕ) (f : Forest Object) → all_by is_plain f ≡ true → has_screen (object_by (is_at h) f) ≡ false
 no_screen_below h Empty a = refl
-no_screen_below h (Tree row cs rest) a = grind (arith, nat_tests, no_screen_below h cs, no_screen_below h rest)
+no_screen_below h (Tree object cs rest) a = grind (arith, nat_tests, no_screen_below h cs, no_screen_below h rest)
 
-pub screen_root : (h : ℕ) (f : Forest Row) → have_kinds f ≡ true → has_screen (row_by (is_at h) f) ≡ true →
+pub screen_root : (h : ℕ) (f : Forest Object) → have_kinds f ≡ true → has_screen (object_by (is_at h) f) ≡ true →
     (is_root_at f h ≡ true) × (h ≢ 1) × (h ≢ 2)
 screen_root h Empty a e = cc
-screen_root h (Tree row cs rest) a e = grind (arith, nat_tests, no_screen_below h cs, screen_root h rest)
+screen_root h (Tree object cs rest) a e = grind (arith, nat_tests, no_screen_below h cs, screen_root h rest)
 
-pub root_there : (f : Forest Row) (k : ℕ) → is_root_at f k ≡ true → there f k ≡ true
+pub root_there : (f : Forest Object) (k : ℕ) → is_root_at f k ≡ true → there f k ≡ true
 root_there Empty k i = cc
-root_there (Tree row cs rest) k i = grind (arith, nat_tests, root_there rest k)
+root_there (Tree object cs rest) k i = grind (arith, nat_tests, root_there rest k)
 
--- How deep rows lie, and which are left where a tree is cut out.
-height-tree : (test : Row → Bool) (f : Forest Row) → height (tree_by test f) ≤ height f
+-- How deep objects lie, and which are left where a tree is cut out.
+height-tree : (test : Object → Bool) (f : Forest Object) → height (tree_by test f) ≤ height f
 height-tree test Empty = omega arith
-height-tree test (Tree row cs rest) = grind (arith, height-tree test cs, height-tree test rest)
+height-tree test (Tree object cs rest) = grind (arith, height-tree test cs, height-tree test rest)
 
-pub depth-height : (test : Row → Bool) (f : Forest Row) → depth_by test f ≤ height f
+pub depth-height : (test : Object → Bool) (f : Forest Object) → depth_by test f ≤ height f
 depth-height test Empty = omega arith
-depth-height test (Tree row cs rest) = grind (arith, depth-height test cs, depth-height test rest)
+depth-height test (Tree object cs rest) = grind (arith, depth-height test cs, depth-height test rest)
 
-pub depth-there : (f : Forest Row) (k : ℕ) → there f k ≡ true → 1 ≤ depth_by (is_at k) f
+pub depth-there : (f : Forest Object) (k : ℕ) → there f k ≡ true → 1 ≤ depth_by (is_at k) f
 depth-there Empty k i = cc
-depth-there (Tree row cs rest) k i = grind (arith, nat_tests, depth-there rest k)
+depth-there (Tree object cs rest) k i = grind (arith, nat_tests, depth-there rest k)
 
--- what has a row above it is no root
-pub depth-below : (h : ℕ) (f : Forest Row) → is_some (parent_by (is_at h) None f) ≡ true → 2 ≤ depth_by (is_at h) f
+-- what has an object above it is no root
+pub depth-below : (h : ℕ) (f : Forest Object) → is_some (parent_by (is_at h) None f) ≡ true → 2 ≤ depth_by (is_at h) f
 depth-below h Empty up = cc
-depth-below h (Tree row cs rest) up = grind (arith, nat_tests, depth-there cs h, depth-below h rest)
+depth-below h (Tree object cs rest) up = grind (arith, nat_tests, depth-there cs h, depth-below h rest)
 
-depth-off : (f : Forest Row) (k : ℕ) → there f k ≡ false → depth_by (is_at k) f ≡ 0
+depth-off : (f : Forest Object) (k : ℕ) → there f k ≡ false → depth_by (is_at k) f ≡ 0
 depth-off Empty k off = refl
-depth-off (Tree row cs rest) k off = grind (arith, nat_tests, depth-off rest k)
+depth-off (Tree object cs rest) k off = grind (arith, nat_tests, depth-off rest k)
 
-there_from_cut : (test : Row → Bool) (f : Forest Row) (k : ℕ) → there (cut_by test f) k ≡ true → there f k ≡ true
+there_from_cut : (test : Object → Bool) (f : Forest Object) (k : ℕ) → there (cut_by test f) k ≡ true → there f k ≡ true
 there_from_cut test Empty k i = i
-there_from_cut test (Tree row cs rest) k i = grind (arith, nat_tests, there_from_cut test cs k, there_from_cut test rest k)
+there_from_cut test (Tree object cs rest) k i = grind (arith, nat_tests, there_from_cut test cs k, there_from_cut test rest k)
 
 -- what is left lies no deeper
-pub depth-cut : (test : Row → Bool) (f : Forest Row) (k : ℕ) → IsDistinct f → depth_by (is_at k) (cut_by test f) ≤ depth_by (is_at k) f
+pub depth-cut : (test : Object → Bool) (f : Forest Object) (k : ℕ) → IsDistinct f → depth_by (is_at k) (cut_by test f) ≤ depth_by (is_at k) f
 depth-cut test Empty k d = omega arith
-depth-cut test (Tree row cs rest) k d =
+depth-cut test (Tree object cs rest) k d =
     let below = there_from_cut test cs k in
     let beside = there_from_cut test rest k in
     grind (arith, nat_tests, d.0 k, d.2, below, beside, depth-off rest k, depth-cut test cs k d.3, depth-cut test rest k d.4)
 
--- the row above is the one that was given, or stands in the forest
-above-cases : (h : ℕ) (above p : Row) (f : Forest Row) → parent_by (is_at h) (Some above) f ≡ Some p → there f h ≡ true →
+-- the object above is the one that was given, or stands in the forest
+above-cases : (h : ℕ) (above p : Object) (f : Forest Object) → parent_by (is_at h) (Some above) f ≡ Some p → there f h ≡ true →
     (p ≡ above) ⊎ (parent_by (is_at h) None f ≡ Some p)
 above-cases h above p Empty e i = cc
-above-cases h above p (Tree row cs rest) e i = grind (arith, nat_tests, e, i, above-cases h above p rest)
+above-cases h above p (Tree object cs rest) e i = grind (arith, nat_tests, e, i, above-cases h above p rest)
 
-parent_there : (h : ℕ) (p : Row) (f : Forest Row) → parent_by (is_at h) None f ≡ Some p → there f p.handle ≡ true
+parent_there : (h : ℕ) (p : Object) (f : Forest Object) → parent_by (is_at h) None f ≡ Some p → there f p.handle ≡ true
 parent_there h p Empty e = cc
-parent_there h p (Tree row cs rest) e = grind (arith, nat_tests, e, above-cases h row p cs, parent_there h p cs, parent_there h p rest)
+parent_there h p (Tree object cs rest) e = grind (arith, nat_tests, e, above-cases h object p cs, parent_there h p cs, parent_there h p rest)
 
 -- a tree lies below its parent
-pub parent-depth : (h : ℕ) (p : Row) (f : Forest Row) → IsDistinct f → parent_by (is_at h) None f ≡ Some p →
+pub parent-depth : (h : ℕ) (p : Object) (f : Forest Object) → IsDistinct f → parent_by (is_at h) None f ≡ Some p →
     depth_by (is_at p.handle) f + height (tree_by (is_at h) f) ≤ height f
 parent-depth h p Empty d e = cc
-parent-depth h p (Tree row cs rest) d e =
+parent-depth h p (Tree object cs rest) d e =
     let below = parent-depth h p cs d.3 in
     let beside = parent-depth h p rest d.4 in
     let under = height-tree (is_at h) cs in
-    grind (arith, nat_tests, e, d.0 p.handle, d.1, d.2, above-cases h row p cs, under, parent_there h p cs, parent_there h p rest, below, beside)
+    grind (arith, nat_tests, e, d.0 p.handle, d.1, d.2, above-cases h object p cs, under, parent_there h p cs, parent_there h p rest, below, beside)
 
 -- what was there and is not cut out is left
-pub there-cut : (f : Forest Row) (h k : ℕ) → IsDistinct f → there f k ≡ true →
+pub there-cut : (f : Forest Object) (h k : ℕ) → IsDistinct f → there f k ≡ true →
     there (tree_by (is_at h) f) k ≡ false → there (cut_by (is_at h) f) k ≡ true
 there-cut Empty h k d i out = i
-there-cut (Tree row cs rest) h k d i out =
+there-cut (Tree object cs rest) h k d i out =
     grind (arith, nat_tests, d.0 h, d.2, cut-off cs h, cut-off rest h, there-cut cs h k d.3, there-cut rest h k d.4)
 
--- the row above h is left where h is cut out
-pub parent-left : (f : Forest Row) (h : ℕ) (p : Row) → parent_by (is_at h) None f ≡ Some p → there (cut_by (is_at h) f) p.handle ≡ true
+-- the object above h is left where h is cut out
+pub parent-left : (f : Forest Object) (h : ℕ) (p : Object) → parent_by (is_at h) None f ≡ Some p → there (cut_by (is_at h) f) p.handle ≡ true
 parent-left Empty h p e = cc
-parent-left (Tree row cs rest) h p e = grind (arith, nat_tests, e, above-cases h row p cs, parent-left cs h p, parent-left rest h p)
+parent-left (Tree object cs rest) h p e = grind (arith, nat_tests, e, above-cases h object p cs, parent-left cs h p, parent-left rest h p)

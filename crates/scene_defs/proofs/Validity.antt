@@ -17,39 +17,41 @@ use Rattle.gui_base.specs.Intervals.{is_counted}
 use Rattle.gui_base.specs.Limits.{Bounds}
 use Rattle.scene_defs.specs.declared.Change.{Change}
 use Rattle.scene_defs.specs.declared.Change.TheVariants as change
-use Rattle.scene_defs.specs.Scene.{Row, Scene, is_at, handles_of, row_at, row_by, entry_count, entries_of, spare, new_row}
-use Rattle.scene_defs.specs.Change.{first_short, tests, answer_of, answer_in_range, need_of, freed_by, scene_after, tree_below, parent_row, is_screen, with_screen, with_object, without, last_below, at_index_below, row_after, row_set, with_row}
+use Rattle.scene_defs.specs.declared.Row.{Row}
+use Rattle.scene_defs.specs.Row.{entry_count}
+use Rattle.scene_defs.specs.Scene.{Object, Scene, is_at, handles_of, object_at, object_by, entries_of, spare, new_object}
+use Rattle.scene_defs.specs.Change.{first_short, tests, answer_of, answer_in_range, need_of, freed_by, scene_after, tree_below, parent_object, is_screen, over_row, with_screen, with_object, without, last_below, at_index_below, row_after, row_set, with_row}
 use Rattle.scene_defs.specs.Laws.{SlotsAddUp}
 use Rattle.scene_defs.specs.Ranges.{is_in_range}
-use Rattle.scene_defs.specs.Valid.{is_row, is_root_at, AreTrees, AreRows, FitPools, IsValid, IsChange, FirstIsValid, ChangeKeepsValid, ValidIsShowable}
+use Rattle.scene_defs.specs.Valid.{is_root_object, is_plain, is_root_at, AreTrees, AreRows, FitPools, IsValid, IsChange, FirstIsValid, ChangeKeepsValid, ValidIsShowable}
 use Rattle.scene_defs.proofs.Changes.{Fail, tests-fail, range_done, room_in_range, after_keeps}
 use Rattle.scene_defs.proofs.Distinct.{there, IsDistinct, distinct_once, count-off}
 use Rattle.scene_defs.proofs.Handles.{has-handles, depth-handles, parent-handles, below-handles, height-handles}
 use Rattle.scene_defs.proofs.InRange.{row_in_range}
 use Rattle.scene_defs.proofs.RowKinds.{is_top, fault, faults, root_at, roots-weight, roots-tree, too_low, low-height, screen_root, depth-height, depth-there, depth-below, depth-cut, parent-depth, there-cut, parent-left}
-use Rattle.scene_defs.proofs.Totals.{total, total-cut, one, one_at, size-total, entries-total, count-total, Weighing, weight, Joins, weight-total, weight-below, weight-and_then, weight-put_at, weight-cut, weight-with_children, weight-with_row}
+use Rattle.scene_defs.proofs.Totals.{total, total-cut, one, one_at, entries_at, size-total, entries-total, count-total, Weighing, weight, Joins, weight-total, weight-below, weight-and_then, weight-put_at, weight-cut, weight-with_children, weight-with_row}
 
--- a new screen, or an object below a row
-new_row-in : (n d : ℕ) (kind : Kind) → is_counted NEW_HANDLE n ≡ true → kind ≡ cond (is_top d) Screen Obj → fault d (new_row n kind) ≡ 0
-new_row-in n zero kind new e = rw e (grind (arith, nat_tests, new))
-new_row-in n (suc d) kind new e = rw e (grind (arith, nat_tests, new))
+-- a new screen, or an object below another
+new_object-in : (n d : ℕ) (kind : Kind) → is_counted NEW_HANDLE n ≡ true → kind ≡ cond (is_top d) Screen Obj → fault d (new_object n kind) ≡ 0
+new_object-in n zero kind new e = rw e (grind (arith, nat_tests, new))
+new_object-in n (suc d) kind new e = rw e (grind (arith, nat_tests, new))
 
 -- the roots that each change leaves
 abbrev stays : Scene → ℕ → Bool
 stays scene k = nat_le 1 k && nat_le k 3 || k == scene.active
 
--- the sum over the rows that a change adds, and over those that it removes
-abbrev pub added_sum : Scene → Change → (Row → ℕ) → ℕ
-added_sum scene (change.Screen n) = λ w. w (new_row n.0 Screen)
-added_sum scene (change.New n p kind) = λ w. w (new_row n.0 kind)
+-- the sum over the objects that a change adds, and over those that it removes
+abbrev pub added_sum : Scene → Change → (Object → ℕ) → ℕ
+added_sum scene (change.Screen n) = λ w. w (new_object n.0 Screen)
+added_sum scene (change.New n p kind) = λ w. w (new_object n.0 kind)
 added_sum scene change = λ w. 0
 
-abbrev pub removed_sum : Scene → Change → (Row → ℕ) → ℕ
+abbrev pub removed_sum : Scene → Change → (Object → ℕ) → ℕ
 removed_sum scene (change.Delete h) = λ w. total w (tree_below scene h.0)
 removed_sum scene change = λ w. 0
 
--- What the rows weigh that a change takes away, and those that it brings, and why the trees stay in order.
-record Edit (scene : Scene) (change : Change) (g : Forest Row) (gone come : Weighing → ℕ) : Type 0 where
+-- What the objects weigh that a change takes away, and those that it brings, and why the trees stay in order.
+record Edit (scene : Scene) (change : Change) (g : Forest Object) (gone come : Weighing → ℕ) : Type 0 where
   sums : (w : Weighing) → weight w 0 g + gone w ≡ come w + weight w 0 scene.trees
   once : (k : ℕ) → come (λ d. one_at k) + total (one_at k) scene.trees ≤ gone (λ d. one_at k) + 1
   roots : (k : ℕ) → stays scene k ≡ true → gone (root_at k) ≤ come (root_at k)
@@ -57,7 +59,7 @@ record Edit (scene : Scene) (change : Change) (g : Forest Row) (gone come : Weig
   low : come (too_low MAX_DEPTH) ≤ gone (too_low MAX_DEPTH)
   handles : (k : ℕ) → gone (λ d. one_at k) + added_sum scene change (one_at k) ≡ come (λ d. one_at k) + removed_sum scene change (one_at k)
   objects : gone (λ d. one) + need_of scene change Objects ≡ come (λ d. one) + freed_by scene change Objects
-  entries : gone (λ d. entry_count) + need_of scene change Entries ≡ come (λ d. entry_count) + freed_by scene change Entries
+  entries : gone (λ d. entries_at) + need_of scene change Entries ≡ come (λ d. entries_at) + freed_by scene change Entries
 
 -- what a change that is done leaves, and how many slots it takes and frees
 pub record Leaves (scene : Scene) (change : Change) (after : Scene) : Type 0 where
@@ -81,8 +83,8 @@ module _ (scene : Scene) (change : Change) (v : IsValid scene) where
   once_at : (k : ℕ) → total (one_at k) scene.trees ≤ 1
   once_at k = omega (arith, v.trees.once k, count-total scene.trees k)
 
-  module _ (g : Forest Row) (gone come : Weighing → ℕ) (e : Edit scene change g gone come) where
-    sum_after : (w : Row → ℕ) → total w g + gone (λ d. w) ≡ come (λ d. w) + total w scene.trees
+  module _ (g : Forest Object) (gone come : Weighing → ℕ) (e : Edit scene change g gone come) where
+    sum_after : (w : Object → ℕ) → total w g + gone (λ d. w) ≡ come (λ d. w) + total w scene.trees
     sum_after w = omega (arith, e.sums (λ d. w), weight-total w 0 g, weight-total w 0 scene.trees)
 
     root_after : (k : ℕ) → stays scene k ≡ true → is_root_at scene.trees k ≡ true → is_root_at g k ≡ true
@@ -100,28 +102,28 @@ module _ (scene : Scene) (change : Change) (v : IsValid scene) where
           trees = search (rules, root_after, v.trees);
           rows = record { kinds = sound.0; numbers = sound.1 };
           objects = omega (arith, sum_after one, e.objects, size-total f, size-total g);
-          entries = omega (arith, sum_after entry_count, e.entries, entries-total f, entries-total g);
+          entries = omega (arith, sum_after entries_at, e.entries, entries-total f, entries-total g);
           handles = λ k. omega (arith, sum_after (one_at k), e.handles k, count-total g k, count-total f k);
         }
 
-  -- one row more, at a depth
-  added : (g : Forest Row) (n d : ℕ) (kind : Kind) → ((w : Weighing) → weight w 0 g ≡ weight w d (leaf (new_row n kind)) + weight w 0 scene.trees) →
+  -- one object more, at a depth
+  added : (g : Forest Object) (n d : ℕ) (kind : Kind) → ((w : Weighing) → weight w 0 g ≡ weight w d (leaf (new_object n kind)) + weight w 0 scene.trees) →
       is_counted NEW_HANDLE n ≡ true → kind ≡ cond (is_top d) Screen Obj → has (handles_of scene.trees) n ≡ false → d < MAX_DEPTH →
-      ((w : Row → ℕ) → added_sum scene change w ≡ w (new_row n kind) + removed_sum scene change w) →
+      ((w : Object → ℕ) → added_sum scene change w ≡ w (new_object n kind) + removed_sum scene change w) →
       need_of scene change Objects ≡ freed_by scene change Objects + 1 → need_of scene change Entries ≡ freed_by scene change Entries →
       Leaves scene change (record scene { trees = g })
   added g n d kind sums fits new off low rows objects entries =
       let absent = count-off scene.trees n (sym (has-handles scene.trees n) ∙ off) in
-      let once : (k : ℕ) → one_at k (new_row n kind) + total (one_at k) scene.trees ≤ 0 + 1 =
+      let once : (k : ℕ) → one_at k (new_object n kind) + total (one_at k) scene.trees ≤ 0 + 1 =
       λ k. grind (arith, nat_tests, absent, count-total scene.trees k, once_at k) in
-      let sound = new_row-in n d kind fits new in
-      let shallow : too_low MAX_DEPTH d (new_row n kind) ≡ 0 = grind (arith, nat_tests, low) in
-      edited g (λ w. 0) (λ w. w d (new_row n kind)) (search rules)
+      let sound = new_object-in n d kind fits new in
+      let shallow : too_low MAX_DEPTH d (new_object n kind) ≡ 0 = grind (arith, nat_tests, low) in
+      edited g (λ w. 0) (λ w. w d (new_object n kind)) (search rules)
 
   -- the tree at h below p
-  moved : (h p : ℕ) (g : Forest Row → Forest Row) → Joins (tree_below scene h) g → is_some (parent_row scene h) ≡ true →
+  moved : (h p : ℕ) (g : Forest Object → Forest Object) → Joins (tree_below scene h) g → is_some (parent_object scene h) ≡ true →
       there (without scene.trees h) p ≡ true → depth_by (is_at p) scene.trees + height (tree_below scene h) ≤ MAX_DEPTH →
-      ((w : Row → ℕ) → added_sum scene change w ≡ removed_sum scene change w) →
+      ((w : Object → ℕ) → added_sum scene change w ≡ removed_sum scene change w) →
       need_of scene change Objects ≡ freed_by scene change Objects → need_of scene change Entries ≡ freed_by scene change Entries →
       Leaves scene change (record scene { trees = with_children_by (is_at p) g (without scene.trees h) })
   moved h p g joins up on deep rows objects entries =
@@ -135,26 +137,26 @@ module _ (scene : Scene) (change : Change) (v : IsValid scene) where
       let new-is : depth_by (is_at p) left ≡ suc new = omega (arith, depth-there left p on) in
       let out = λ (w : Weighing). weight-cut w 0 (suc old) h f distinct (omega arith) in
       let put = λ (w : Weighing). weight-with_children w t g joins 0 (suc new) p left left_once on (omega arith) in
-      let same = λ (w : Weighing) (flat : (d : ℕ) (row : Row) → w (suc d) row ≡ w 1 row).
+      let same = λ (w : Weighing) (flat : (d : ℕ) (object : Object) → w (suc d) object ≡ w 1 object).
       weight-below w flat old t ∙ sym (weight-below w flat new t) in
-      let level = λ (w : Row → ℕ). same (λ d. w) (λ d row. refl) in
-      let roots = λ (k : ℕ). same (root_at k) (λ d row. refl) in
-      let faults = same fault (λ d row. refl) in
+      let level = λ (w : Object → ℕ). same (λ d. w) (λ d object. refl) in
+      let roots = λ (k : ℕ). same (root_at k) (λ d object. refl) in
+      let faults = same fault (λ d object. refl) in
       let above = depth-cut (is_at h) f p distinct in
       let low : weight (too_low MAX_DEPTH) (suc new) t ≡ 0 = grind (arith, nat_tests, low-height MAX_DEPTH (suc new) t, above, new-is, deep) in
       edited (with_children_by (is_at p) g left) (λ w. weight w (suc old) t) (λ w. weight w (suc new) t)
-      (search (rules, once_at, level one, level entry_count, rows))
+      (search (rules, once_at, level one, level entries_at, rows))
 
   -- the tree at h elsewhere below its own parent, where it has room
-  moved_beside : (h : ℕ) (g : Forest Row → Forest Row) (after : Option Row → Forest Row) → Joins (tree_below scene h) g →
-      ((p : Row) → after (Some p) ≡ with_children_by (is_at p.handle) g (without scene.trees h)) →
+  moved_beside : (h : ℕ) (g : Forest Object → Forest Object) (after : Option Object → Forest Object) → Joins (tree_below scene h) g →
+      ((p : Object) → after (Some p) ≡ with_children_by (is_at p.handle) g (without scene.trees h)) →
       not (is_some (parent_of (handles_of scene.trees) h)) ≡ false →
-      ((w : Row → ℕ) → added_sum scene change w ≡ removed_sum scene change w) →
+      ((w : Object → ℕ) → added_sum scene change w ≡ removed_sum scene change w) →
       need_of scene change Objects ≡ freed_by scene change Objects → need_of scene change Entries ≡ freed_by scene change Entries →
-      Leaves scene change (record scene { trees = after (parent_row scene h) })
+      Leaves scene change (record scene { trees = after (parent_object scene h) })
   moved_beside h g after joins each below_row rows objects entries =
       let up = sym (parent-handles scene.trees h) ∙ not-false _ below_row in
-      let p = found (parent_row scene h) up in
+      let p = found (parent_object scene h) up in
       let below = parent-depth h p.0 scene.trees distinct p.1 in
       rw (p.1, each p.0) (moved h p.0.handle g joins up (parent-left scene.trees h p.0 p.1) (omega (arith, v.trees.low, below)) rows objects entries)
 
@@ -168,16 +170,16 @@ cut_out scene h v on out =
     let cut = λ (w : Weighing). weight-cut w 0 e h.0 f (distinct_once f v.trees.once) (omega arith) in
     let once = once_at scene (change.Delete h) v in
     let roots = λ (k : ℕ) (stay : stays scene k ≡ true). roots-tree h.0 k e f (grind (arith, nat_tests, out, stay)) in
-    let sums = λ (w : Row → ℕ). weight-total w e t in
+    let sums = λ (w : Object → ℕ). weight-total w e t in
     edited scene (change.Delete h) v (without f h.0) (λ w. weight w e t) (λ w. 0) (search (rules, sums, size-total t, entries-total t))
 
 -- One row.
 -- one entry more where the property is not set yet
-pub needs : (scene : Scene) (change : Change) (h : Handle) (row : Row) → row_set change ≡ Some h → row_at scene h.0 ≡ Some row →
-    entry_count (row_after change row) ≡ need_of scene change Entries + entry_count row
-needs scene (change.Local a part BgColor value) h row set at = let is : row_at scene a.0 ≡ Some row = cc in rw is (grind arith)
-needs scene (change.Local a part BgOpa value) h row set at = let is : row_at scene a.0 ≡ Some row = cc in rw is (grind arith)
-needs scene change h row set at = omega arith
+pub needs : (scene : Scene) (change : Change) (h : Handle) (object : Object) → row_set change ≡ Some h → object_at scene h.0 ≡ Some object →
+    entry_count (row_after change object.row) ≡ need_of scene change Entries + entry_count object.row
+needs scene (change.Local a part BgColor value) h object set at = let is : object_at scene a.0 ≡ Some object = cc in rw is (grind arith)
+needs scene (change.Local a part BgOpa value) h object set at = let is : object_at scene a.0 ≡ Some object = cc in rw is (grind arith)
+needs scene change h object set at = omega arith
 
 -- it takes and frees nothing else
 pub set_slots : (scene : Scene) (change : Change) (h : Handle) → row_set change ≡ Some h →
@@ -185,8 +187,8 @@ pub set_slots : (scene : Scene) (change : Change) (h : Handle) → row_set chang
 set_slots scene (change.Screen n) h set = (cc, cc, cc)
 set_slots scene change h set = (cc, cc, cc)
 
--- it adds no row and removes none
-pub set_sums : (scene : Scene) (change : Change) (h : Handle) (w : Row → ℕ) → row_set change ≡ Some h →
+-- it adds no object and removes none
+pub set_sums : (scene : Scene) (change : Change) (h : Handle) (w : Object → ℕ) → row_set change ≡ Some h →
     (added_sum scene change w ≡ 0) × (removed_sum scene change w ≡ 0)
 set_sums scene (change.Screen n) h w set = (cc, cc)
 set_sums scene change h w set = (cc, cc)
@@ -197,18 +199,22 @@ set_only scene change h set Entries = inl refl
 set_only scene (change.Screen n) h set pool = cc
 set_only scene change h set pool = inr (cc)
 
-row_there : (f : Forest Row) (h : ℕ) → there f h ≡ true → is_some (row_by (is_at h) f) ≡ true
-row_there Empty h i = cc
-row_there (Tree row cs rest) h i = grind (arith, nat_tests, row_there cs h, row_there rest h)
+object_there : (f : Forest Object) (h : ℕ) → there f h ≡ true → is_some (object_by (is_at h) f) ≡ true
+object_there Empty h i = cc
+object_there (Tree object cs rest) h i = grind (arith, nat_tests, object_there cs h, object_there rest h)
 
-no_worse : (kind old new : Bool) → (old ≡ true → new ≡ true) → cond (kind && new) 0 1 ≤ cond (kind && old) 0 1
-no_worse kind old new kept = grind (arith, nat_tests, kept)
+kind_kept : (change : Change) (row : Row) → (row_after change row).kind ≡ row.kind
+kind_kept (change.Local h part BgColor value) row = refl
+kind_kept change row = refl
 
--- the row stands where it stood, and is in order where it was
-row_kept : (change : Change) (row : Row) (d k : ℕ) → is_in_range change ≡ true →
-    (one_at k (row_after change row) ≡ one_at k row) × (fault d (row_after change row) ≤ fault d row)
-row_kept (change.Flag h flag on) row d k fits = (refl, omega arith)
-row_kept change row d k fits = (refl, no_worse _ (is_row row) (is_row (row_after change row)) (row_in_range change row fits))
+no_worse : (kind named old new : Bool) → (old ≡ true → new ≡ true) → cond (kind && (named && new)) 0 1 ≤ cond (kind && (named && old)) 0 1
+no_worse kind named old new kept = grind (arith, nat_tests, kept)
+
+-- the object is in order where it was
+row_kept : (change : Change) (object : Object) (d : ℕ) → is_in_range change ≡ true →
+    fault d (over_row (row_after change) object) ≤ fault d object
+row_kept change object d fits =
+    rw (kind_kept change object.row) (no_worse (cond (is_top d) (is_root_object object) (is_plain object)) _ _ _ (row_in_range change object.row fits))
 
 abbrev handle_in : Option Handle → Handle
 handle_in None = record { 0 = 0 }
@@ -218,15 +224,15 @@ row_left : (scene : Scene) (change : Change) (h : Handle) → IsValid scene → 
     is_in_range change ≡ true → Leaves scene change (with_row scene h.0 (row_after change))
 row_left scene change h v set on fits =
     let f = scene.trees in
-    let new = row_after change in
+    let new = over_row (row_after change) in
     let slots = set_slots scene change h set in
     let e = depth_by (is_at h.0) f - 1 in
     let at : depth_by (is_at h.0) f ≡ suc e = omega (arith, depth-there f h.0 on) in
-    let r = found (row_by (is_at h.0) f) (row_there f h.0 on) in
+    let r = found (object_by (is_at h.0) f) (object_there f h.0 on) in
     let sums = λ (w : Weighing). weight-with_row w 0 e h.0 new r.0 f (distinct_once f v.trees.once) r.1 (omega arith) in
     let once = once_at scene change v in
     let rows = λ (k : ℕ). set_sums scene change h (one_at k) set in
-    let kept = λ (k : ℕ). row_kept change r.0 e k fits in
+    let kept = row_kept change r.0 e fits in
     let need = needs scene change h r.0 set r.1 in
     edited scene change v _ (λ w. w e r.0) (λ w. w e (new r.0)) (search (rules, kept, rows))
 
@@ -237,11 +243,11 @@ loaded scene h v screen =
 leaves : (scene : Scene) (change : Change) → IsValid scene → is_in_range change ≡ true → IsChange change → Fail (tests scene change) →
     Leaves scene change (scene_after scene change)
 leaves scene (change.Screen n) v fits c t =
-    let sums = λ (w : Weighing). weight-and_then w (leaf (new_row n.0 Screen)) 0 scene.trees in
+    let sums = λ (w : Weighing). weight-and_then w (leaf (new_object n.0 Screen)) 0 scene.trees in
     added scene (change.Screen n) v (with_screen scene.trees n.0) n.0 0 Screen sums fits refl t.0 (omega arith) (λ w. omega arith) refl refl
 leaves scene (change.New n p kind) v fits c t =
     let f = scene.trees in
-    let new = leaf (new_row n.0 kind) in
+    let new = leaf (new_object n.0 kind) in
     let d = depth_by (is_at p.0) f - 1 in
     let on = sym (has-handles f p.0) ∙ not-false _ t.0 in
     let at : depth_by (is_at p.0) f ≡ suc d = omega (arith, depth-there f p.0 on) in

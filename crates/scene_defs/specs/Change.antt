@@ -20,41 +20,42 @@ use Rattle.gui_base.specs.Refusing.{move_tests, parent_tests, Kind as WrongKind,
 use Rattle.scene_defs.specs.declared.Change.{Change}
 use Rattle.scene_defs.specs.declared.Change.TheVariants as change
 use Rattle.scene_defs.specs.Ranges.{is_in_range}
-use Rattle.scene_defs.specs.Scene.{Locals, Row, Scene, is_at, handles_of, row_at, local_of, entries_of}
-use Rattle.scene_defs.specs.Scene.{spare, new_row}
+use Rattle.scene_defs.specs.declared.Row.{Row}
+use Rattle.scene_defs.specs.Row.{local_of}
+use Rattle.scene_defs.specs.Scene.{Object, Scene, is_at, handles_of, object_at, entries_of, spare, new_object}
 
 -- the tree at h alone
-abbrev pub tree_below : Scene → ℕ → Forest Row
+abbrev pub tree_below : Scene → ℕ → Forest Object
 tree_below scene h = tree_by (is_at h) scene.trees
 
--- the row above h, which a root has not
-abbrev pub parent_row : Scene → ℕ → Option Row
-parent_row scene h = parent_by (is_at h) None scene.trees
+-- the object above h, which a root has not
+abbrev pub parent_object : Scene → ℕ → Option Object
+parent_object scene h = parent_by (is_at h) None scene.trees
 
 -- whether a pool has fewer free slots than are needed
 abbrev pub lacks : Scene → Pool → ℕ → Bool
 lacks scene pool need = nat_lt (spare scene pool) need
 
--- whether a row is there and has the property set
-abbrev pub sets : Option Row → Prop → Bool
+-- whether there is an object that has the property set
+abbrev pub sets : Option Object → Prop → Bool
 sets None prop = false
-sets (Some row) prop = is_some (local_of row.locals prop)
+sets (Some object) prop = is_some (local_of object.row prop)
 
 abbrev pub is_set : Scene → ℕ → Prop → Bool
-is_set scene h prop = sets (row_at scene h) prop
+is_set scene h prop = sets (object_at scene h) prop
 
 abbrev pub is_screen_kind : Kind → Bool
 is_screen_kind Screen = true
 is_screen_kind Layer = false
 is_screen_kind Obj = false
 
--- whether a row is there and is that of a screen
-abbrev pub has_screen : Option Row → Bool
+-- whether there is an object that is a screen
+abbrev pub has_screen : Option Object → Bool
 has_screen None = false
-has_screen (Some row) = is_screen_kind row.kind
+has_screen (Some object) = is_screen_kind object.row.kind
 
 abbrev pub is_screen : Scene → ℕ → Bool
-is_screen scene h = has_screen (row_at scene h)
+is_screen scene h = has_screen (object_at scene h)
 
 -- how many slots of a pool a change takes
 abbrev pub need_of : Scene → Change → Pool → ℕ
@@ -105,44 +106,44 @@ answer_of scene change = if is_in_range change then answer_in_range scene change
 -- The trees after a change.
 
 -- one root more, the last
-abbrev pub with_screen : Forest Row → ℕ → Forest Row
-with_screen trees n = and_then trees (leaf (new_row n Screen))
+abbrev pub with_screen : Forest Object → ℕ → Forest Object
+with_screen trees n = and_then trees (leaf (new_object n Screen))
 
 -- one child of p more, the last
-abbrev pub with_object : Forest Row → ℕ → ℕ → Kind → Forest Row
-with_object trees n p kind = added_by (is_at p) (new_row n kind) trees
+abbrev pub with_object : Forest Object → ℕ → ℕ → Kind → Forest Object
+with_object trees n p kind = added_by (is_at p) (new_object n kind) trees
 
 -- without h and all below it
-abbrev pub without : Forest Row → ℕ → Forest Row
+abbrev pub without : Forest Object → ℕ → Forest Object
 without trees h = cut_by (is_at h) trees
 
 -- the tree at h becomes the last child of p
-abbrev pub moved_last : Forest Row → ℕ → ℕ → Forest Row
+abbrev pub moved_last : Forest Object → ℕ → ℕ → Forest Object
 moved_last trees h p = moved_last_by (is_at h) (is_at p) trees
 
 -- the tree at h becomes the child of p before which so many others stand, or the last
-abbrev pub moved_to : Forest Row → ℕ → ℕ → ℕ → Forest Row
+abbrev pub moved_to : Forest Object → ℕ → ℕ → ℕ → Forest Object
 moved_to trees h p n = moved_by (is_at h) (is_at p) n trees
 
--- the same for the row of p, if there is one
-abbrev pub last_below : Option Row → Forest Row → ℕ → Forest Row
+-- the same for p, if there is one
+abbrev pub last_below : Option Object → Forest Object → ℕ → Forest Object
 last_below None trees h = trees
 last_below (Some p) trees h = moved_last trees h p.handle
 
-abbrev pub at_index_below : Option Row → Forest Row → ℕ → ℕ → Forest Row
+abbrev pub at_index_below : Option Object → Forest Object → ℕ → ℕ → Forest Object
 at_index_below None trees h n = trees
 at_index_below (Some p) trees h n = moved_to trees h p.handle n
 
-abbrev pub set_local : Prop → ℤ → Locals → Locals
-set_local BgColor value locals = record locals { bg_color = Some value }
-set_local BgOpa value locals = record locals { bg_opa = Some value }
+abbrev pub set_local : Prop → ℤ → Row → Row
+set_local BgColor value row = record row { bg_color = Some value }
+set_local BgOpa value row = record row { bg_opa = Some value }
 
 -- what a change makes of the row that it sets
 abbrev pub row_after : Change → Row → Row
 row_after (change.Flag h flag on) row = record row { flags = with_bit row.flags (flag_bit flag) on }
 row_after (change.Pos h x y) row = record row { x = x; y = y }
 row_after (change.Size h width height) row = record row { width = width; height = height }
-row_after (change.Local h part prop value) row = record row { locals = set_local prop value row.locals }
+row_after (change.Local h part prop value) row = set_local prop value row
 row_after change row = row
 
 -- the object whose row a change sets, and nothing else
@@ -153,9 +154,13 @@ row_set (change.Size h width height) = Some h
 row_set (change.Local h part prop value) = Some h
 row_set change = None
 
+-- an object with f of its row
+abbrev pub over_row : (Row → Row) → Object → Object
+over_row f object = record object { row = f object.row }
+
 -- the scene with f of the row of h
 abbrev pub with_row : Scene → ℕ → (Row → Row) → Scene
-with_row scene h f = record scene { trees = with_row_by (is_at h) f scene.trees }
+with_row scene h f = record scene { trees = with_row_by (is_at h) (over_row f) scene.trees }
 
 abbrev pub with_row_set : Scene → Option Handle → (Row → Row) → Scene
 with_row_set scene None f = scene
@@ -168,11 +173,11 @@ scene_after scene (change.New n p kind) = record scene { trees = with_object sce
 scene_after scene (change.Delete h) = record scene { trees = without scene.trees h.0 }
 scene_after scene (change.Parent h p) = record scene { trees = moved_last scene.trees h.0 p.0 }
 scene_after scene (change.Index h n) =
-    record scene { trees = at_index_below (parent_row scene h.0) scene.trees h.0 n }
+    record scene { trees = at_index_below (parent_object scene h.0) scene.trees h.0 n }
 scene_after scene (change.Front h) =
-    record scene { trees = last_below (parent_row scene h.0) scene.trees h.0 }
+    record scene { trees = last_below (parent_object scene h.0) scene.trees h.0 }
 scene_after scene (change.Back h) =
-    record scene { trees = at_index_below (parent_row scene h.0) scene.trees h.0 0 }
+    record scene { trees = at_index_below (parent_object scene h.0) scene.trees h.0 0 }
 scene_after scene (change.Load h) = record scene { active = h.0 }
 scene_after scene change = with_row_set scene (row_set change) (row_after change)
 

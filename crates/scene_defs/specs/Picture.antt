@@ -13,7 +13,9 @@ use Rattle.gui_base.specs.Area.{Rect, has, is_empty, common}
 use Rattle.gui_base.specs.Color.{color, black, mix}
 use Rattle.gui_base.specs.Forest.{Forest, Empty, Tree, has_by, and_then, preorder}
 use Rattle.gui_base.specs.Ppm.{ppm}
-use Rattle.scene_defs.specs.Scene.{Row, Scene, is_at, is_on, is_root, handles_of, row_at, value_of}
+use Rattle.scene_defs.specs.declared.Row.{Row}
+use Rattle.scene_defs.specs.Row.{is_on, is_root, value_of}
+use Rattle.scene_defs.specs.Scene.{Object, Scene, is_at, handles_of, row_at}
 
 -- the area from a corner with these sizes in pixels
 abbrev pub area_at : ℤ → ℤ → ℕ → ℕ → Rect
@@ -34,11 +36,11 @@ placed panel parent row =
     else area_at (parent.x1 +ℤ row.x) (parent.y1 +ℤ row.y) (pixels_of row.width) (pixels_of row.height)
 
 -- the area of h, if it is among these trees, whose parent has the area `parent`
-abbrev pub place_in : Rect → Rect → Forest Row → ℕ → Option Rect
+abbrev pub place_in : Rect → Rect → Forest Object → ℕ → Option Rect
 place_in panel parent Empty h = None
-place_in panel parent (Tree row cs rest) h =
-    if is_at h row then Some (placed panel parent row)
-    else if has_by (is_at h) cs then place_in panel (placed panel parent row) cs h
+place_in panel parent (Tree object cs rest) h =
+    if is_at h object then Some (placed panel parent object.row)
+    else if has_by (is_at h) cs then place_in panel (placed panel parent object.row) cs h
     else place_in panel parent rest h
 
 -- the area of h, if it is there
@@ -61,24 +63,24 @@ holds None x y = false
 holds (Some area) x y = has area x y
 
 -- what is seen of an object through a clip: nothing of a hidden one
-abbrev pub seen_of : (ℕ → Option Rect) → Option Rect → Row → Option Rect
-seen_of place clip row = if is_on row.flags Hidden then None else met clip (place row.handle)
+abbrev pub seen_of : (ℕ → Option Rect) → Option Rect → Object → Option Rect
+seen_of place clip object = if is_on object.row.flags Hidden then None else met clip (place object.handle)
 
 -- what is seen of h among these trees; the clip is what is seen of their parent
-abbrev pub visible_in : (ℕ → Option Rect) → Option Rect → Forest Row → ℕ → Option Rect
+abbrev pub visible_in : (ℕ → Option Rect) → Option Rect → Forest Object → ℕ → Option Rect
 visible_in place clip Empty h = None
-visible_in place clip (Tree row cs rest) h =
-    if is_at h row then seen_of place clip row
-    else if has_by (is_at h) cs then visible_in place (seen_of place clip row) cs h
+visible_in place clip (Tree object cs rest) h =
+    if is_at h object then seen_of place clip object
+    else if has_by (is_at h) cs then visible_in place (seen_of place clip object) cs h
     else visible_in place clip rest h
 
 -- the tree of the root h
-abbrev pub root_tree : Forest Row → ℕ → Forest Row
+abbrev pub root_tree : Forest Object → ℕ → Forest Object
 root_tree Empty h = Empty
-root_tree (Tree row cs rest) h = if is_at h row then Tree row cs Empty else root_tree rest h
+root_tree (Tree object cs rest) h = if is_at h object then Tree object cs Empty else root_tree rest h
 
 -- the active screen, and the layers above it
-abbrev pub shown_trees : Scene → Forest Row
+abbrev pub shown_trees : Scene → Forest Object
 shown_trees scene =
     and_then (root_tree scene.trees scene.active)
     (and_then (root_tree scene.trees 1) (root_tree scene.trees 2))

@@ -16,7 +16,9 @@ use Rattle.scene_defs.specs.declared.Change.{Change}
 use Rattle.scene_defs.specs.declared.Change.TheVariants as change
 use Rattle.scene_defs.specs.Change.{changed, is_screen_kind}
 use Rattle.scene_defs.specs.Ranges.{is_size, is_value}
-use Rattle.scene_defs.specs.Scene.{Row, Scene, is_at, is_root, handles_of, entries_of, first_scene}
+use Rattle.scene_defs.specs.declared.Row.{Row}
+use Rattle.scene_defs.specs.Row.{is_root}
+use Rattle.scene_defs.specs.Scene.{Object, Scene, is_at, handles_of, entries_of, first_scene}
 use Rattle.scene_defs.specs.Walk.{IsShowable}
 
 -- a wanted coordinate in pixels
@@ -38,37 +40,41 @@ is_local prop (Some value) = is_value prop value
 -- whether each number of a row lies in its interval
 abbrev pub is_row : Row → Bool
 is_row row =
-    is_counted HANDLE row.handle
-    && (is_within COORDINATE row.x && (is_within COORDINATE row.y && (is_size row.width && (is_size row.height
-    && (is_local BgColor row.locals.bg_color && is_local BgOpa row.locals.bg_opa)))))
+    is_within COORDINATE row.x && (is_within COORDINATE row.y && (is_size row.width && (is_size row.height
+    && (is_local BgColor row.bg_color && is_local BgOpa row.bg_opa))))
 
 abbrev pub IsRow : Row → Type 0
 IsRow row = is_row row ≡ true
+
+-- whether the handle and each number of an object do
+abbrev pub in_intervals : Object → Bool
+in_intervals object = is_counted HANDLE object.handle && is_row object.row
 
 abbrev pub is_layer_kind : Kind → Bool
 is_layer_kind Screen = false
 is_layer_kind Layer = true
 is_layer_kind Obj = false
 
--- whether a row is that of a layer at 1 and 2, and that of a screen elsewhere
-abbrev pub is_root_row : Row → Bool
-is_root_row row =
-    if row.handle == 1 || row.handle == 2 then is_layer_kind row.kind else is_screen_kind row.kind
+-- whether an object is a layer at 1 and 2, and a screen elsewhere
+abbrev pub is_root_object : Object → Bool
+is_root_object object =
+    if object.handle == 1 || object.handle == 2 then is_layer_kind object.row.kind
+    else is_screen_kind object.row.kind
 
-abbrev pub is_object : Row → Bool
-is_object row = not (is_root row.kind)
+abbrev pub is_plain : Object → Bool
+is_plain object = not (is_root object.row.kind)
 
--- whether roots are layers and screens, and all below them are objects
-abbrev pub have_kinds : Forest Row → Bool
+-- whether roots are layers and screens, and all below them are plain objects
+abbrev pub have_kinds : Forest Object → Bool
 have_kinds Empty = true
-have_kinds (Tree row cs rest) = is_root_row row && (all_by is_object cs && have_kinds rest)
+have_kinds (Tree object cs rest) = is_root_object object && (all_by is_plain cs && have_kinds rest)
 
 -- whether h is a root
-abbrev pub is_root_at : Forest Row → ℕ → Bool
+abbrev pub is_root_at : Forest Object → ℕ → Bool
 is_root_at trees h = list_any (is_at h) (roots trees)
 
 -- trees, and the screen among them that is shown, are in order
-pub record AreTrees (trees : Forest Row) (screen : ℕ) : Type 0 where
+pub record AreTrees (trees : Forest Object) (screen : ℕ) : Type 0 where
   pub once : StandsOnce (handles_of trees)
   pub top_layer : is_root_at trees 1 ≡ true
   pub system_layer : is_root_at trees 2 ≡ true
@@ -79,9 +85,9 @@ pub record AreTrees (trees : Forest Row) (screen : ℕ) : Type 0 where
   pub low : height trees ≤ MAX_DEPTH
 
 -- the rows of trees are in order
-pub record AreRows (trees : Forest Row) : Type 0 where
+pub record AreRows (trees : Forest Object) : Type 0 where
   pub kinds : have_kinds trees ≡ true
-  pub numbers : all_by is_row trees ≡ true
+  pub numbers : all_by in_intervals trees ≡ true
 
 -- no pool is over its count
 pub record FitPools (scene : Scene) : Type 0 where

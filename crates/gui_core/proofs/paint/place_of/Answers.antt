@@ -30,7 +30,7 @@ area_from-requires-clause-corner c =
     let down = offset_bounds c.args.row.now.y c.requires.offset.1 in search rules
 
 pub returns-in-Obj : goal.returns-in-Obj
-returns-in-Obj c = λ h.
+returns-in-Obj c =
     let parent_x : FitsSigned w32 c.args.parent.x1 = search rules in
     let parent_y : FitsSigned w32 c.args.parent.y1 = search rules in
     let near = c.requires.near in

@@ -15,7 +15,7 @@ added c =
     let answer = object-answer p c.args.self.now.kept c.args.n c.args.parent c.args.kind ∙ sym c.add.ensures.answer in
     grown p c.args.self.now.kept (change.New c.args.n c.args.parent c.args.kind) c.requires.in_range c.requires.plain c.add.new.self (with_child p.tree c.args.parent.0 c.args.n.0) c.add.result _ _ _ _
     answer c.in_ok-add.was c.add.ensures.ok c.insert_row.ensures
-    (fine-object p c.args.self.now.kept c.args.n c.args.parent c.args.kind c.new.result (grind (arith, nat_tests, new)) (c.new.ensures c.args.n.0))
+    (fine-object p c.args.self.now.kept c.args.n c.args.parent c.args.kind c.new_row.result (grind (arith, nat_tests, new)) c.new_row.ensures)
 
 pub returns-in_err-add : goal.returns-in_err-add
 returns-in_err-add c =

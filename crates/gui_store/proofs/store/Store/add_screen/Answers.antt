@@ -12,7 +12,7 @@ added c =
     let answer = screen-answer p c.args.self.now.kept c.args.n ∙ sym c.add_root.ensures.answer in
     grown p c.args.self.now.kept (change.Screen c.args.n) c.requires tt c.add_root.new.self (with_root p.tree c.args.n.0) c.add_root.result _ _ _ _
     answer c.in_ok-add_root.was c.add_root.ensures.ok c.insert_row.ensures
-    (fine-screen p c.args.self.now.kept c.args.n c.new.result (grind (arith, nat_tests, c.requires)) (c.new.ensures c.args.n.0))
+    (fine-screen p c.args.self.now.kept c.args.n c.new_row.result (grind (arith, nat_tests, c.requires)) c.new_row.ensures)
 
 pub returns-in_err-add_root : goal.returns-in_err-add_root
 returns-in_err-add_root c =

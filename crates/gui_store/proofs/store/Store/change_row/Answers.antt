@@ -8,16 +8,16 @@ read : (c : In-Some) → Some c.in-Some.row ≡ value_at c.args.self.now.rows c.
 read c = sym c.in-Some.is ∙ c.copied.ensures ∙ c.get.ensures
 
 facts : (c : After-entry_count-2) → Some c.in-Some.row ≡ value_at c.args.self.now.rows c.args.h.0 →
-    RowSet (parts_of c.args.self.now) c.args.self.now.kept c.args.change.now c.args.h c.change.new.self (c.args.self.now.entries - c.entry_count.result + c.entry_count-2.result)
+    RowSet (parts_of c.args.self.now) c.args.self.now.kept c.args.change.now c.args.h c.set_row.new.row (c.args.self.now.entries - c.entry_count.result + c.entry_count-2.result)
 facts c is =
     let pass = ok-none _ _ (sym c.check_row.ensures ∙ c.in_ok-check_row.was) in
-    row-set (parts_of c.args.self.now) c.args.self.now.kept c.args.change.now c.args.h c.in-Some.row c.change.new.self
-    c.entry_count.result c.entry_count-2.result c.requires.row pass is c.change.ensures c.entry_count.ensures.count c.entry_count-2.ensures.count
+    row-set (parts_of c.args.self.now) c.args.self.now.kept c.args.change.now c.args.h c.in-Some.row c.set_row.new.row
+    c.entry_count.result c.entry_count-2.result c.requires.row pass is c.set_row.ensures c.entry_count.ensures.count c.entry_count-2.ensures.count
 
-set_done : (c : After-replace) → RowSet (parts_of c.args.self.now) c.args.self.now.kept c.args.change.now c.args.h c.change.new.self (c.args.self.now.entries - c.entry_count.result + c.entry_count-2.result) →
+set_done : (c : After-replace) → RowSet (parts_of c.args.self.now) c.args.self.now.kept c.args.change.now c.args.h c.set_row.new.row (c.args.self.now.entries - c.entry_count.result + c.entry_count-2.result) →
     Left (parts_of c.args.self.now) c.args.change.now (record (parts_of c.args.self.now) { rows = c.replace.new.self; entries = c.args.self.now.entries - c.entry_count.result + c.entry_count-2.result }) (Ok tt)
 set_done c r =
-    row-done (parts_of c.args.self.now) c.args.self.now.kept c.args.change.now c.args.h c.change.new.self _ r
+    row-done (parts_of c.args.self.now) c.args.self.now.kept c.args.change.now c.args.h c.set_row.new.row _ r
     c.requires.in_range c.requires.plain (grind (arith, nat_tests, c.if-entries-self.false)) _ c.replace.ensures.replaces
 
 pub returns-in_err-check_row : goal.returns-in_err-check_row
@@ -50,7 +50,7 @@ returns-then-entries-self c =
     let p = parts_of c.args.self.now in
     let at = goal.at.returns-then-entries-self c in
     let r = facts at.After-entry_count-2 (read at.In-Some) in
-    let why = row-answer p c.args.self.now.kept c.args.change.now c.args.h c.change.new.self _ r true (grind (arith, nat_tests, c.if-entries-self.true)) in
+    let why = row-answer p c.args.self.now.kept c.args.change.now c.args.h c.set_row.new.row _ r true (grind (arith, nat_tests, c.if-entries-self.true)) in
     refused p c.args.self.now.kept c.args.change.now (Full Entries) why
 
 pub invariant_of-self : goal.invariant_of-self

@@ -12,7 +12,7 @@ opened c =
     let t = c.in-Ok.ensures in
     rw (c.insert_row-3.ensures, c.insert_row-2.ensures, c.insert_row.ensures)
     (first-kept c.in_ok-tree.tree (bounds_of c.args.limits.now) c.args.limits.now.pools.least_objects c.in_ok-tree.ensures
-    c.in-Ok.rows t.keys t.empty t.spare c.new.result c.new-2.result c.new-3.result c.new.ensures c.new-2.ensures c.new-3.ensures)
+    c.in-Ok.rows t.keys t.empty t.spare c.new_row.result c.new_row-2.result c.new_row-3.result c.new_row.ensures c.new_row-2.ensures c.new_row-3.ensures)
 
 pub invariant_of-result : goal.invariant_of-result
 invariant_of-result c = record { kept = (opened (goal.at.invariant_of-result c).After-insert_row-3).0 }

@@ -17,10 +17,10 @@ use Rattle.gui_base.specs.declared.words.Kind.TheVariants.{Screen}
 use Rattle.gui_base.specs.declared.words.Prop.{Prop}
 use Rattle.gui_base.specs.declared.words.Prop.TheVariants.{BgColor, BgOpa}
 use Rattle.scene_defs.specs.declared.Row.{Row}
-use Rattle.scene_defs.specs.Row.{is_on, is_root, value_of, default_of}
+use Rattle.scene_defs.specs.Row.{is_local, is_on, is_root, value_of, default_of}
 use Rattle.scene_defs.specs.Scene.{Object}
 use Rattle.scene_defs.specs.Picture.{placed, area_at, pixels_of, rgb_of, opa_of}
-use Rattle.scene_defs.specs.Valid.{IsRow, IsOffset, IsSize, IsValue, is_local}
+use Rattle.scene_defs.specs.Valid.{IsRow, IsOffset, IsSize, IsValue}
 use Rattle.scene_defs.specs.Walk.{clipped}
 use Rattle.scene_defs.proofs.InRange.{numbers_of}
 use Rattle.gui_color.specs.Buffer.{Buffer}

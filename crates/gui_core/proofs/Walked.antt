@@ -12,7 +12,7 @@ use Rattle.scene_defs.specs.Row.{is_on}
 use Rattle.scene_defs.specs.Scene.{Object}
 use Rattle.scene_defs.specs.Picture.{Seen, placed, some_area, met, holds, items_of, paint_seen, paint_item}
 use Rattle.scene_defs.specs.Walk.{clipped, seen_object, walked}
-use Rattle.scene_defs.proofs.Walks.{walked-none}
+use Rattle.scene_defs.proofs.Walks.{nothing_below_nothing}
 use Rattle.gui_core.specs.Painting.{painted, painted_row}
 use Rattle.gui_core.proofs.Fills.{empty_has}
 
@@ -79,7 +79,7 @@ module _ (panel : Rect) (x y : ℤ) where
   -- what is not seen paints nothing, and so does what stands on it
   pub painted-unseen : (parent : Rect) (trees : Forest Object) (under : Rgb565) → painted panel None parent trees x y under ≡ under
   unfolding painted
-  painted-unseen parent trees under = rw (walked-none panel parent trees) refl
+  painted-unseen parent trees under = rw (nothing_below_nothing panel parent trees) refl
 
   -- whether the pixel lies in the clip is all that counts
   pub painted-same : (a b : Option Rect) (parent : Rect) (trees : Forest Object) (under : Rgb565) → holds a x y ≡ holds b x y → painted panel a parent trees x y under ≡ painted panel b parent trees x y under

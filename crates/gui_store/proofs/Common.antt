@@ -25,9 +25,9 @@ pub use Rattle.gui_tree.specs.Trees.{Answer, full_answer, Trees, opened, add_roo
 pub use Rattle.scene_defs.proofs.Changes.{tests-fail, room_in_range, none_short, one_short, first-then, first-some, sets_row_alone, after_keeps}
 pub use Rattle.scene_defs.proofs.Totals.{total, total-cut, total-parts, total-object, one, one_at, entries_at, size-total, entries-total, count-total}
 pub use Rattle.scene_defs.proofs.Validity.{added_sum, removed_sum, first_is_valid, needs, set_slots, set_sums, set_only, after_leaves, after_valid}
-pub use Rattle.scene_defs.specs.Change.{is_screen_kind, answer_in_range, tests, first_short, scene_after, tree_below, parent_object, over_row, at_index_below, last_below, row_after, row_set, need_of, freed_by}
+pub use Rattle.scene_defs.specs.Change.{is_screen_kind, answer_in_range, tests, first_short, scene_after, tree_below, parent_object, over_row, at_index_below, last_below, need_of, freed_by}
 pub use Rattle.scene_defs.specs.Ranges.{is_in_range}
-pub use Rattle.scene_defs.specs.Row.{entry_count, new_row, value_of}
+pub use Rattle.scene_defs.specs.Row.{entry_count, new_row, value_of, row_after, row_set, Setter, setter_of}
 pub use Rattle.scene_defs.specs.Scene.{is_there, Object, Scene, is_at, handles_of, entries_of, new_object, first_scene, object_at, object_by, row_at}
 pub use Rattle.scene_defs.specs.Valid.{IsValid, IsChange, is_root_at, IsRow, in_intervals}
 pub use Rattle.scene_defs.specs.declared.Change.{Change}

@@ -2,4 +2,5 @@ pub mod Changed
 pub mod Parts
 pub mod Removed
 pub mod Rows
+pub mod Setters
 pub mod Views

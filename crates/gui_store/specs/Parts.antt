@@ -21,7 +21,8 @@ pub record Parts : Type 0 where
 
 -- the trees with the object of each handle
 abbrev pub scene_in : Parts → Scene
-scene_in p = record { trees = map_forest (object_in p.rows) p.tree.forest; active = p.active; limits = p.limits }
+scene_in p =
+    record { trees = map_forest (object_in p.rows) p.tree.forest; active = p.active; limits = p.limits }
 
 -- what holds of the parts at all times
 pub record AreKept (p : Parts) : Type 0 where

@@ -1,10 +1,12 @@
-//! The row of an object, as it is made and changed.
-ghost use Rattle.std.specs.Prelude.{◌≡◌, ◌≤◌};
+//! The row of an object: its first values, and the changes that set it.
+ghost use Rattle.std.specs.Prelude.{◌≡◌, ◌≤◌, false, true, option_map};
 ghost use Rattle.gui_base.specs.Bits.{flag_bit, with_bit};
-ghost use Rattle.scene_defs.specs.Change.{row_after};
-ghost use Rattle.scene_defs.specs.Row.{new_row, flags_of, entry_count};
+ghost use Rattle.scene_defs.specs.Row.{new_row, flags_of, entry_count, is_size, is_value};
+ghost use Rattle.scene_defs.specs.Row.{setter_of, row_after};
+ghost use Rattle.gui_store.specs.Setters.{asked_of};
 
-use gui_base::{Bits, Flag, Kind, Length, Part, Prop};
+use gui_base::intervals::{COLOR, COORDINATE, EXTENT, OPACITY};
+use gui_base::{Bits, Flag, Handle, Kind, Length, Part, Prop};
 use scene_defs::{Change, Row};
 
 /// The flags of a new screen or object.
@@ -37,15 +39,67 @@ pub(crate) fn new_row(kind: Kind) -> Row
     }
 }
 
-/// How many properties are set in a row.
-pub(crate) fn entry_count(row: &Row) -> u32
-    ensures count { result ≡ entry_count row.now }
-    ensures most { result ≤ 2 }
-{
-    u32::from(row.bg_color.is_some()) + u32::from(row.bg_opa.is_some())
+/// What a change of one object's row asks for.
+#[derive(Clone, Copy)]
+pub(crate) struct Setter {
+    /// Whose row.
+    pub(crate) handle: Handle,
+    /// Each number that it sets lies in its interval.
+    pub(crate) fits: bool,
+    /// Roots refuse it.
+    pub(crate) needs_parent: bool,
 }
 
-/// Makes a change of a row to it. Any other change leaves it.
+impl Setter {
+    /// One for any object.
+    fn of_any(handle: Handle, fits: bool) -> Setter
+        ensures { result ≡ record { handle = handle; fits = fits; needs_parent = false } }
+    {
+        Setter {
+            handle,
+            fits,
+            needs_parent: false,
+        }
+    }
+
+    /// One for objects that have a parent.
+    fn of_child(handle: Handle, fits: bool) -> Setter
+        ensures { result ≡ record { handle = handle; fits = fits; needs_parent = true } }
+    {
+        Setter {
+            handle,
+            fits,
+            needs_parent: true,
+        }
+    }
+}
+
+/// What a change asks for, where it sets the row of one object and does nothing else.
+pub(crate) fn setter_of(change: &Change) -> Option<Setter>
+    ensures { result ≡ option_map asked_of (setter_of change.now) }
+{
+    match *change {
+        Change::Flag(h, _, _) => Some(Setter::of_any(h, true)),
+        Change::Pos(h, x, y) => {
+            let fits = COORDINATE.holds(x) && COORDINATE.holds(y);
+            Some(Setter::of_child(h, fits))
+        }
+        Change::Size(h, width, height) => {
+            Some(Setter::of_child(h, is_size(width) && is_size(height)))
+        }
+        Change::Local(h, _, prop, value) => Some(Setter::of_any(h, is_value(prop, value))),
+        Change::Screen(_)
+        | Change::New(_, _, _)
+        | Change::Delete(_)
+        | Change::Parent(_, _)
+        | Change::Index(_, _)
+        | Change::Front(_)
+        | Change::Back(_)
+        | Change::Load(_) => None,
+    }
+}
+
+/// Makes such a change to the row. Any other change leaves it.
 pub(crate) fn set_row(row: &mut Row, change: &Change)
     ensures { row.new ≡ row_after change.now row.old }
 {
@@ -63,6 +117,31 @@ pub(crate) fn set_row(row: &mut Row, change: &Change)
         Change::Local(_, Part::Main, Prop::BgOpa, value) => row.bg_opa = Some(value),
         _ => {}
     }
+}
+
+fn is_size(length: Length) -> bool
+    ensures { result ≡ is_size length }
+{
+    match length {
+        Length::Pixels(n) => EXTENT.holds(n),
+    }
+}
+
+fn is_value(prop: Prop, value: i32) -> bool
+    ensures { result ≡ is_value prop value }
+{
+    match prop {
+        Prop::BgColor => COLOR.holds(value),
+        Prop::BgOpa => OPACITY.holds(value),
+    }
+}
+
+/// How many properties are set in a row.
+pub(crate) fn entry_count(row: &Row) -> u32
+    ensures count { result ≡ entry_count row.now }
+    ensures most { result ≤ 2 }
+{
+    u32::from(row.bg_color.is_some()) + u32::from(row.bg_opa.is_some())
 }
 
 /// The flags with one of them switched on or off.

@@ -1,22 +1,23 @@
 //! The store.
 ghost use Rattle.std.specs.Prelude.{◌≡◌, ◌<◌, ◌^◌, IfOk, IfSome, Some, None, true, length};
-ghost use Rattle.std.specs.Prelude.{option_map, sum_by};
+ghost use Rattle.std.specs.Prelude.{is_some, option_map, sum_by};
 ghost use Rattle.std.specs.Option.{option_copied};
 ghost use Rattle.gui_base.specs.Bounded.{bounds_of};
 ghost use Rattle.gui_base.specs.Intervals.{is_counted};
 ghost use Rattle.gui_base.specs.Refusing.{first_of, result_of, move_tests};
-ghost use Rattle.scene_defs.specs.Row.{value_of};
+ghost use Rattle.scene_defs.specs.Row.{value_of, setter_of};
 ghost use Rattle.scene_defs.specs.Scene.{handles_of, is_there, row_at, first_scene};
-ghost use Rattle.scene_defs.specs.Change.{answer_of, changed, tests, row_set};
+ghost use Rattle.scene_defs.specs.Change.{answer_of, changed, tests};
 ghost use Rattle.scene_defs.specs.Ranges.{is_in_range};
 ghost use Rattle.scene_defs.specs.Valid.{IsValid, IsChange, IsRow};
 ghost use Rattle.gui_pool.specs.Table.{value_at, value_inserted};
 ghost use Rattle.gui_store.specs.Parts.{AreKept};
 ghost use Rattle.gui_store.specs.Removed.{removed_by};
 ghost use Rattle.gui_store.specs.Rows.{entries_in, HaveRows, rows_without};
+ghost use Rattle.gui_store.specs.Setters.{asked_of};
 
 use crate::range::is_in_range;
-use crate::row::{entry_count, new_row, set_row};
+use crate::row::{Setter, entry_count, new_row, set_row, setter_of};
 use gui_base::intervals::HANDLE;
 use gui_base::{Handle, Kind, Limits, NoMemory, Part, Pool, Prop, Refusal};
 use gui_pool::Table;
@@ -198,10 +199,7 @@ impl Store {
             Change::Front(h) => self.tree.move_to_index(h, u16::MAX),
             Change::Back(h) => self.tree.move_to_index(h, 0),
             Change::Load(h) => self.load(h),
-            Change::Flag(h, _, _)
-            | Change::Pos(h, _, _)
-            | Change::Size(h, _, _)
-            | Change::Local(h, _, _, _) => self.change_row(h, change),
+            _ => self.change_row(change),
         }
     }
 
@@ -254,18 +252,6 @@ impl Store {
         }
     }
 
-    /// Whether such a change of a row is for an object that is there.
-    fn check_row(&self, h: Handle, change: &Change) -> Result<(), Refusal>
-        requires row { row_set change.now ≡ Some h }
-        requires there { is_there (scene_of self.now) h.0 ≡ true }
-        ensures { result ≡ result_of (first_of (tests (scene_of self.now) change.now) None) }
-    {
-        match *change {
-            Change::Pos(_, _, _) | Change::Size(_, _, _) => self.check_parent(h),
-            _ => Ok(()),
-        }
-    }
-
     /// Whether an object that is there has a parent.
     fn check_parent(&self, h: Handle) -> Result<(), Refusal>
         requires { is_there (scene_of self.now) h.0 ≡ true }
@@ -277,17 +263,33 @@ impl Store {
         Ok(())
     }
 
+    /// Whether a setter is for an object that is there.
+    fn check_row(&self, setter: Setter, change: &Change) -> Result<(), Refusal>
+        requires setter { Some setter ≡ option_map asked_of (setter_of change.now) }
+        requires there { is_there (scene_of self.now) setter.handle.0 ≡ true }
+        ensures { result ≡ result_of (first_of (tests (scene_of self.now) change.now) None) }
+    {
+        if setter.needs_parent {
+            return self.check_parent(setter.handle);
+        }
+        Ok(())
+    }
+
     /// Changes the row of an object alone.
-    fn change_row(&mut self, h: Handle, change: &Change) -> Result<(), Refusal>
-        requires row { row_set change.now ≡ Some h }
+    fn change_row(&mut self, change: &Change) -> Result<(), Refusal>
+        requires setter { is_some (setter_of change.now) ≡ true }
         requires in_range { is_in_range change.now ≡ true }
         requires plain { IsChange change.now }
         ensures { Changes self.old self.new change.now result }
     {
+        let Some(setter) = setter_of(change) else {
+            unreachable!()
+        };
+        let h = setter.handle;
         let Some(mut row) = self.rows.get(h.0 as u32).copied() else {
             return Err(Refusal::Unknown);
         };
-        self.check_row(h, change)?;
+        self.check_row(setter, change)?;
         let others = self.entries - entry_count(&row);
         set_row(&mut row, change);
         let entries = others + entry_count(&row);

@@ -16,7 +16,8 @@ use Rattle.gui_base.specs.declared.intervals.TheConstants.{HANDLE, NEW_HANDLE, I
 use Rattle.gui_base.specs.declared.words.Kind.TheVariants.{Obj}
 use Rattle.gui_base.specs.declared.words.Prop.{Prop}
 use Rattle.gui_base.specs.declared.words.Prop.TheVariants.{BgColor, BgOpa}
-use Rattle.scene_defs.specs.Ranges.{is_size, is_value, is_in_range}
+use Rattle.scene_defs.specs.Ranges.{is_in_range}
+use Rattle.scene_defs.specs.Row.{is_size, is_value}
 use Rattle.scene_defs.specs.Valid.{IsChange}
 use Rattle.run_defs.specs.declared.names.Name.{Name}
 use Rattle.run_defs.specs.declared.names.Name.TheVariants as name

@@ -79,27 +79,32 @@ pub enum Outcome {
 }
 
 /// A log shows the outcomes of its frames.
+#[tactic(auto, using(crate::proofs::Readings::shows_outcomes))]
 pub fn log_shows_outcomes()
     ensures { ShowsOutcomes }
 {}
 
 /// What a line says has each number in its interval.
+#[tactic(auto, using(crate::proofs::Ranges::says_in_range))]
 pub fn lines_say_in_range()
     ensures { SaysInRange }
 {}
 
 /// A line that is read says what its words say: what stands in for a word at fault is never part of it.
+#[tactic(auto, using(crate::proofs::Fields::no_stand_in, crate::proofs::Fields::fault_stays))]
 pub fn lines_hold_no_stand_in<T>()
     ensures no_stand_in { NoStandIn T }
     ensures no_fault_before { FaultStays T }
 {}
 
 /// A carriage return before a newline says nothing.
+#[tactic(auto, using(crate::proofs::SameSaying::return_says_nothing))]
 pub fn carriage_returns_say_nothing()
     ensures { ReturnSaysNothing }
 {}
 
 /// Lines of the same words say the same.
+#[tactic(auto, using(crate::proofs::SameSaying::same_words_say_same))]
 pub fn same_words_say_the_same()
     ensures { SameWordsSaySame }
 {}

@@ -136,3 +136,7 @@ tests-fail (t ∷ ts) short e = grind (arith, e, tests-fail ts short)
 pub sets_row_alone : SetsRowAlone
 sets_row_alone scene (change.Screen n) h e = cc
 sets_row_alone scene change h e = cc
+
+pub ruleset refusals = (refused_changes_nothing, range_comes_first)
+
+pub ruleset fullness = (full_without_room, done_with_room, refused_whatever_limits)

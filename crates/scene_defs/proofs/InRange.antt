@@ -4,10 +4,10 @@ use Rattle.std.proofs.lemmas.Bool.{and_parts}
 use Rattle.gui_base.specs.declared.words.Prop.TheVariants.{BgColor, BgOpa}
 use Rattle.scene_defs.specs.declared.Change.{Change}
 use Rattle.scene_defs.specs.declared.Change.TheVariants as change
-use Rattle.scene_defs.specs.Change.{row_after}
+use Rattle.scene_defs.specs.Row.{row_after, is_local}
 use Rattle.scene_defs.specs.Ranges.{is_in_range}
 use Rattle.scene_defs.specs.declared.Row.{Row}
-use Rattle.scene_defs.specs.Valid.{IsOffset, IsSize, IsRow, is_local}
+use Rattle.scene_defs.specs.Valid.{IsOffset, IsSize, IsRow}
 
 -- the numbers of a row in range, one by one
 pub record Numbers (row : Row) : Type 0 where
@@ -29,8 +29,5 @@ numbers_of row r =
 
 -- a change in range leaves a row in range
 pub row_in_range : (change : Change) (row : Row) → is_in_range change ≡ true → IsRow row → IsRow (row_after change row)
-row_in_range (change.Pos h x y) row e r = let n = numbers_of row r in grind (arith, e, rw (n.x, n.y) at r)
-row_in_range (change.Size h width height) row e r = let n = numbers_of row r in grind (arith, e, rw (n.width, n.height) at r)
-row_in_range (change.Local h part BgColor value) row e r = let n = numbers_of row r in grind (arith, e, rw n.bg_color at r)
-row_in_range (change.Local h part BgOpa value) row e r = let n = numbers_of row r in grind (arith, e, rw n.bg_opa at r)
-row_in_range change row e r = r
+row_in_range (change.Local h part BgColor value) row e r = grind (arith, e, r)
+row_in_range change row e r = let n = numbers_of row r in simp (n.x, n.y, n.width, n.height, n.bg_color, n.bg_opa) (grind (arith, e))

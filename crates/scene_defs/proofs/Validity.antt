@@ -18,9 +18,9 @@ use Rattle.gui_base.specs.Limits.{Bounds}
 use Rattle.scene_defs.specs.declared.Change.{Change}
 use Rattle.scene_defs.specs.declared.Change.TheVariants as change
 use Rattle.scene_defs.specs.declared.Row.{Row}
-use Rattle.scene_defs.specs.Row.{entry_count}
+use Rattle.scene_defs.specs.Row.{entry_count, is_row, row_after, row_set}
 use Rattle.scene_defs.specs.Scene.{Object, Scene, is_at, handles_of, object_at, object_by, entries_of, spare, new_object}
-use Rattle.scene_defs.specs.Change.{first_short, tests, answer_of, answer_in_range, need_of, freed_by, scene_after, tree_below, parent_object, is_screen, over_row, with_screen, with_object, without, last_below, at_index_below, row_after, row_set, with_row}
+use Rattle.scene_defs.specs.Change.{first_short, tests, answer_of, answer_in_range, need_of, freed_by, scene_after, tree_below, parent_object, is_screen, over_row, with_screen, with_object, without, last_below, at_index_below, with_row}
 use Rattle.scene_defs.specs.Laws.{SlotsAddUp}
 use Rattle.scene_defs.specs.Ranges.{is_in_range}
 use Rattle.scene_defs.specs.Valid.{is_root_object, is_plain, is_root_at, AreTrees, AreRows, FitPools, IsValid, IsChange, FirstIsValid, ChangeKeepsValid, ValidIsShowable}

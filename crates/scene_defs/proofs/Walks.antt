@@ -17,9 +17,9 @@ use Rattle.scene_defs.specs.Picture.{Item, Seen, panel_of, placed, place_in, pla
 use Rattle.scene_defs.specs.Walk.{clipped, seen_object, walked, ShownByWalk, NothingBelowNothing, IsSeenInside, WalkedInside, ShownInside}
 use Rattle.scene_defs.proofs.Distinct.{there, IsDistinct, distinct_once, there-and_then, there_from_root, distinct-three}
 
-pub walked-none : NothingBelowNothing
-walked-none panel parent Empty = refl
-walked-none panel parent (Tree object cs rest) = grind (arith, walked-none panel (placed panel parent object.row) cs, walked-none panel parent rest)
+pub nothing_below_nothing : NothingBelowNothing
+nothing_below_nothing panel parent Empty = refl
+nothing_below_nothing panel parent (Tree object cs rest) = grind (arith, nothing_below_nothing panel (placed panel parent object.row) cs, nothing_below_nothing panel parent rest)
 
 -- the row of k
 abbrev row_in : Forest Object → ℕ → Option Row

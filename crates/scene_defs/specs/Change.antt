@@ -11,17 +11,15 @@ use Rattle.gui_base.specs.declared.refusal.Refusal.TheVariants.{Range, Full}
 use Rattle.gui_base.specs.declared.words.Kind.{Kind}
 use Rattle.gui_base.specs.declared.words.Kind.TheVariants.{Screen, Layer, Obj}
 use Rattle.gui_base.specs.declared.words.Prop.{Prop}
-use Rattle.gui_base.specs.declared.words.Prop.TheVariants.{BgColor, BgOpa}
-use Rattle.gui_base.specs.Bits.{flag_bit, with_bit}
 use Rattle.gui_base.specs.Forest.{Forest, and_then, leaf, added_by, cut_by, moved_by, moved_last_by, size}
 use Rattle.gui_base.specs.Forest.{tree_by, parent_by, with_row_by}
-use Rattle.gui_base.specs.Refusing.{Test, first_of, absent, root_tests, child_tests, removal_tests}
-use Rattle.gui_base.specs.Refusing.{move_tests, parent_tests, Kind as WrongKind, Place}
+use Rattle.gui_base.specs.Refusing.{Test, first_of, absent, parentless, root_tests, child_tests}
+use Rattle.gui_base.specs.Refusing.{removal_tests, move_tests, parent_tests, Kind as WrongKind, Place}
 use Rattle.scene_defs.specs.declared.Change.{Change}
 use Rattle.scene_defs.specs.declared.Change.TheVariants as change
 use Rattle.scene_defs.specs.Ranges.{is_in_range}
 use Rattle.scene_defs.specs.declared.Row.{Row}
-use Rattle.scene_defs.specs.Row.{local_of}
+use Rattle.scene_defs.specs.Row.{Setter, setter_of, local_of}
 use Rattle.scene_defs.specs.Scene.{Object, Scene, is_at, handles_of, object_at, entries_of, spare, new_object}
 
 -- the tree at h alone
@@ -76,22 +74,27 @@ first_short scene change [] = None
 first_short scene change (pool ∷ others) =
     if lacks scene pool (need_of scene change pool) then Some pool else first_short scene change others
 
+abbrev pub setter_tests : Forest ℕ → Setter → List Test
+setter_tests f setter =
+    absent f setter.handle.0 ∷ (if setter.needs_parent then parentless f setter.handle.0 ∷ [] else [])
+
 -- The tests of a change, in order: what is asked whatever room there is.
-abbrev pub tests : Scene → Change → List Test
-tests scene (change.Screen n) = root_tests (handles_of scene.trees) n.0
-tests scene (change.New n p kind) = child_tests (handles_of scene.trees) n.0 p.0
-tests scene (change.Delete h) =
+abbrev pub tests_by : Option Setter → Scene → Change → List Test
+tests_by (Some setter) scene change = setter_tests (handles_of scene.trees) setter
+tests_by None scene (change.Screen n) = root_tests (handles_of scene.trees) n.0
+tests_by None scene (change.New n p kind) = child_tests (handles_of scene.trees) n.0 p.0
+tests_by None scene (change.Delete h) =
     removal_tests (handles_of scene.trees) h.0 ++ (h.0 == scene.active, Place) ∷ []
-tests scene (change.Parent h p) = parent_tests (handles_of scene.trees) h.0 p.0
-tests scene (change.Index h n) = move_tests (handles_of scene.trees) h.0
-tests scene (change.Front h) = move_tests (handles_of scene.trees) h.0
-tests scene (change.Back h) = move_tests (handles_of scene.trees) h.0
-tests scene (change.Load h) =
+tests_by None scene (change.Parent h p) = parent_tests (handles_of scene.trees) h.0 p.0
+tests_by None scene (change.Index h n) = move_tests (handles_of scene.trees) h.0
+tests_by None scene (change.Front h) = move_tests (handles_of scene.trees) h.0
+tests_by None scene (change.Back h) = move_tests (handles_of scene.trees) h.0
+tests_by None scene (change.Load h) =
     absent (handles_of scene.trees) h.0 ∷ (not (is_screen scene h.0), WrongKind) ∷ []
-tests scene (change.Flag h flag on) = absent (handles_of scene.trees) h.0 ∷ []
-tests scene (change.Pos h x y) = move_tests (handles_of scene.trees) h.0
-tests scene (change.Size h width height) = move_tests (handles_of scene.trees) h.0
-tests scene (change.Local h part prop value) = absent (handles_of scene.trees) h.0 ∷ []
+tests_by None scene change = []
+
+abbrev pub tests : Scene → Change → List Test
+tests scene change = tests_by (setter_of change) scene change
 
 -- the first refusal of a change whose numbers lie in their intervals: the first test that holds, or the first
 -- pool without room; none where it is done
@@ -134,26 +137,6 @@ abbrev pub at_index_below : Option Object → Forest Object → ℕ → ℕ → 
 at_index_below None trees h n = trees
 at_index_below (Some p) trees h n = moved_to trees h p.handle n
 
-abbrev pub set_local : Prop → ℤ → Row → Row
-set_local BgColor value row = record row { bg_color = Some value }
-set_local BgOpa value row = record row { bg_opa = Some value }
-
--- what a change makes of the row that it sets
-abbrev pub row_after : Change → Row → Row
-row_after (change.Flag h flag on) row = record row { flags = with_bit row.flags (flag_bit flag) on }
-row_after (change.Pos h x y) row = record row { x = x; y = y }
-row_after (change.Size h width height) row = record row { width = width; height = height }
-row_after (change.Local h part prop value) row = set_local prop value row
-row_after change row = row
-
--- the object whose row a change sets, and nothing else
-abbrev pub row_set : Change → Option Handle
-row_set (change.Flag h flag on) = Some h
-row_set (change.Pos h x y) = Some h
-row_set (change.Size h width height) = Some h
-row_set (change.Local h part prop value) = Some h
-row_set change = None
-
 -- an object with f of its row
 abbrev pub over_row : (Row → Row) → Object → Object
 over_row f object = record object { row = f object.row }
@@ -162,24 +145,25 @@ over_row f object = record object { row = f object.row }
 abbrev pub with_row : Scene → ℕ → (Row → Row) → Scene
 with_row scene h f = record scene { trees = with_row_by (is_at h) (over_row f) scene.trees }
 
-abbrev pub with_row_set : Scene → Option Handle → (Row → Row) → Scene
-with_row_set scene None f = scene
-with_row_set scene (Some h) f = with_row scene h.0 f
-
 -- the scene after a change that is done
-abbrev pub scene_after : Scene → Change → Scene
-scene_after scene (change.Screen n) = record scene { trees = with_screen scene.trees n.0 }
-scene_after scene (change.New n p kind) = record scene { trees = with_object scene.trees n.0 p.0 kind }
-scene_after scene (change.Delete h) = record scene { trees = without scene.trees h.0 }
-scene_after scene (change.Parent h p) = record scene { trees = moved_last scene.trees h.0 p.0 }
-scene_after scene (change.Index h n) =
+abbrev pub after_by : Option Setter → Scene → Change → Scene
+after_by (Some setter) scene change = with_row scene setter.handle.0 setter.after
+after_by None scene (change.Screen n) = record scene { trees = with_screen scene.trees n.0 }
+after_by None scene (change.New n p kind) =
+    record scene { trees = with_object scene.trees n.0 p.0 kind }
+after_by None scene (change.Delete h) = record scene { trees = without scene.trees h.0 }
+after_by None scene (change.Parent h p) = record scene { trees = moved_last scene.trees h.0 p.0 }
+after_by None scene (change.Index h n) =
     record scene { trees = at_index_below (parent_object scene h.0) scene.trees h.0 n }
-scene_after scene (change.Front h) =
+after_by None scene (change.Front h) =
     record scene { trees = last_below (parent_object scene h.0) scene.trees h.0 }
-scene_after scene (change.Back h) =
+after_by None scene (change.Back h) =
     record scene { trees = at_index_below (parent_object scene h.0) scene.trees h.0 0 }
-scene_after scene (change.Load h) = record scene { active = h.0 }
-scene_after scene change = with_row_set scene (row_set change) (row_after change)
+after_by None scene (change.Load h) = record scene { active = h.0 }
+after_by None scene change = scene
+
+abbrev pub scene_after : Scene → Change → Scene
+scene_after scene change = after_by (setter_of change) scene change
 
 -- the scene after a change with this answer: a refusal leaves it as it is
 abbrev pub scene_by : Option Refusal → Scene → Change → Scene

@@ -8,8 +8,8 @@ use Rattle.gui_base.specs.declared.refusal.Refusal.TheVariants.{Range, Full}
 use Rattle.scene_defs.specs.declared.Change.{Change}
 use Rattle.scene_defs.specs.Ranges.{is_in_range}
 use Rattle.scene_defs.specs.Scene.{Scene, spare}
-use Rattle.scene_defs.specs.Change.{answer_of, need_of, freed_by, changed, scene_after, row_set, row_after}
-use Rattle.scene_defs.specs.Change.{with_row}
+use Rattle.scene_defs.specs.Row.{row_set, row_after}
+use Rattle.scene_defs.specs.Change.{answer_of, need_of, freed_by, changed, scene_after, with_row}
 use Rattle.scene_defs.specs.Valid.{IsValid, IsChange}
 
 abbrev pub ChangeKeepsLimits : Type 0

@@ -8,16 +8,14 @@ use Rattle.gui_base.specs.declared.words.Kind.{Kind}
 use Rattle.gui_base.specs.declared.words.Kind.TheVariants.{Screen, Layer, Obj}
 use Rattle.gui_base.specs.declared.words.Length.{Length}
 use Rattle.gui_base.specs.declared.words.Prop.{Prop}
-use Rattle.gui_base.specs.declared.words.Prop.TheVariants.{BgColor, BgOpa}
 use Rattle.gui_base.specs.Forest.{Forest, Empty, Tree, all_by, roots, size, height, StandsOnce}
 use Rattle.gui_base.specs.Intervals.{is_counted, is_within}
 use Rattle.gui_base.specs.Limits.{Bounds}
 use Rattle.scene_defs.specs.declared.Change.{Change}
 use Rattle.scene_defs.specs.declared.Change.TheVariants as change
 use Rattle.scene_defs.specs.Change.{changed, is_screen_kind}
-use Rattle.scene_defs.specs.Ranges.{is_size, is_value}
 use Rattle.scene_defs.specs.declared.Row.{Row}
-use Rattle.scene_defs.specs.Row.{is_root}
+use Rattle.scene_defs.specs.Row.{is_root, is_row, is_size, is_value}
 use Rattle.scene_defs.specs.Scene.{Object, Scene, is_at, handles_of, entries_of, first_scene}
 use Rattle.scene_defs.specs.Walk.{IsShowable}
 
@@ -31,17 +29,6 @@ IsSize length = is_size length ≡ true
 
 abbrev pub IsValue : Prop → ℤ → Type 0
 IsValue prop value = is_value prop value ≡ true
-
--- whether a property is not set, or set to one of its values
-abbrev pub is_local : Prop → Option ℤ → Bool
-is_local prop None = true
-is_local prop (Some value) = is_value prop value
-
--- whether each number of a row lies in its interval
-abbrev pub is_row : Row → Bool
-is_row row =
-    is_within COORDINATE row.x && (is_within COORDINATE row.y && (is_size row.width && (is_size row.height
-    && (is_local BgColor row.bg_color && is_local BgOpa row.bg_opa))))
 
 abbrev pub IsRow : Row → Type 0
 IsRow row = is_row row ≡ true

@@ -6,11 +6,13 @@ ghost use Rattle.scene_defs.specs.Valid.{FirstIsValid, ChangeKeepsValid, ValidIs
 ghost use Rattle.scene_defs.specs.Walk.{ShownByWalk, NothingBelowNothing, WalkedInside, ShownInside};
 
 /// A change leaves the limits.
+#[tactic(auto, using(crate::proofs::Changes::change_keeps_limits))]
 pub fn change_keeps_limits()
     ensures { ChangeKeepsLimits }
 {}
 
 /// A refused change leaves the scene, and a number outside its interval is refused before all else.
+#[tactic(auto, using(crate::proofs::Changes::refusals))]
 pub fn refusals_change_nothing()
     ensures nothing { RefusedChangesNothing }
     ensures range { RangeComesFirst }
@@ -18,6 +20,7 @@ pub fn refusals_change_nothing()
 
 /// A change is refused for a full pool where it needs more slots than are free. All other refusals come
 /// before, and do not look at the limits.
+#[tactic(auto, using(crate::proofs::Changes::fullness))]
 pub fn full_by_count()
     ensures without_room { FullWithoutRoom }
     ensures with_room { DoneWithRoom }
@@ -25,22 +28,26 @@ pub fn full_by_count()
 {}
 
 /// A change takes from each pool the slots that it needs, and gives back those that it frees.
+#[tactic(auto, using(crate::proofs::Validity::slots_add_up))]
 pub fn slots_add_up()
     ensures { SlotsAddUp }
 {}
 
 /// A change that sets the row of an object does nothing else.
+#[tactic(auto, using(crate::proofs::Changes::sets_row_alone))]
 pub fn setters_set_one_row()
     ensures { SetsRowAlone }
 {}
 
 /// One walk down the trees meets what is shown, in its order, and goes no further where nothing is seen.
+#[tactic(auto, using(crate::proofs::Walks::shown_by_walk, crate::proofs::Walks::nothing_below_nothing))]
 pub fn shown_by_walk()
     ensures same { ShownByWalk }
     ensures nothing { NothingBelowNothing }
 {}
 
 /// What is shown lies inside the panel, and what a walk meets inside its clip.
+#[tactic(auto, using(crate::proofs::Walks::shown_inside, crate::proofs::Walks::walked_inside))]
 pub fn shown_inside()
     ensures shown { ShownInside }
     ensures walked { WalkedInside }

@@ -28,8 +28,8 @@ index_done c =
     (moved_beside (parts_of c.args.self.now) c.args.self.now.kept (change.Index c.in-Index.h c.in-Index.index) fits tt refl (λ w. refl) refl refl refl refl
     c.move_to_index.new.self c.move_to_index.result e.refused c.in-Index.h.0 c.in-Index.index refl refl e.answer e.ok)
 
-pub invariant_of-self-in-Index-1 : goal.invariant_of-self-in-Index-1
-invariant_of-self-in-Index-1 c = record { kept = (index_done c).kept }
+pub invariant_of-self-in-Index : goal.invariant_of-self-in-Index
+invariant_of-self-in-Index c = record { kept = (index_done c).kept }
 
 pub returns-in-Index : goal.returns-in-Index
 returns-in-Index c = (index_done (goal.at.returns-in-Index c).After-move_to_index).is
@@ -43,8 +43,8 @@ front_done c =
     (moved_beside (parts_of c.args.self.now) c.args.self.now.kept (change.Front c.in-Front.h) fits tt refl (λ w. refl) refl refl refl refl
     c.move_to_index-in-Front.new.self c.move_to_index-in-Front.result e.refused c.in-Front.h.0 65535 refl (last-after _ c.args.self.now.kept c.in-Front.h 65535 (omega (arith, c.args.self.now.limits.pools.most_objects))) e.answer e.ok)
 
-pub invariant_of-self-in-Front-1 : goal.invariant_of-self-in-Front-1
-invariant_of-self-in-Front-1 c = record { kept = (front_done c).kept }
+pub invariant_of-self-in-Front : goal.invariant_of-self-in-Front
+invariant_of-self-in-Front c = record { kept = (front_done c).kept }
 
 pub returns-in-Front : goal.returns-in-Front
 returns-in-Front c = (front_done (goal.at.returns-in-Front c).After-move_to_index-in-Front).is
@@ -58,8 +58,8 @@ back_done c =
     (moved_beside (parts_of c.args.self.now) c.args.self.now.kept (change.Back c.in-Back.h) fits tt refl (λ w. refl) refl refl refl refl
     c.move_to_index-in-Back.new.self c.move_to_index-in-Back.result e.refused c.in-Back.h.0 0 refl refl e.answer e.ok)
 
-pub invariant_of-self-in-Back-1 : goal.invariant_of-self-in-Back-1
-invariant_of-self-in-Back-1 c = record { kept = (back_done c).kept }
+pub invariant_of-self-in-Back : goal.invariant_of-self-in-Back
+invariant_of-self-in-Back c = record { kept = (back_done c).kept }
 
 pub returns-in-Back : goal.returns-in-Back
 returns-in-Back c = (back_done (goal.at.returns-in-Back c).After-move_to_index-in-Back).is

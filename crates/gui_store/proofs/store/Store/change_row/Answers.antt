@@ -1,23 +1,26 @@
-use Rattle.gui_store.proofs.Common.{tests, first-some, ◌≡◌, ◌∙◌, ◌+◌, ◌-◌, sym, Some, Ok, true, arith, nat_tests, err_from_is_err_and, Entries, Full, Unknown, value_at, parts_of, scene_of}
+use Rattle.gui_store.proofs.Common.{tests, first-some, ◌≡◌, ◌∙◌, ◌+◌, ◌-◌, sym, Some, Ok, true, arith, nat_tests, err_from_is_err_and, row_set, Entries, Full, Unknown, value_at, parts_of, scene_of}
 use Rattle.gui_store.proofs.Edits.{row-done, RowSet, row-set, row-entries, row-absent, row-answer}
 use Rattle.gui_store.proofs.Kept.{Left, there-is, read-off, refused, err-some, ok-none}
 use Rattle.gui_store.proofs.store.Store.change_row.Goals as goal
-use Rattle.gui_store.proofs.store.Store.change_row.Goals.{In-Some, After-entry_count-2, After-replace}
+use Rattle.gui_store.proofs.store.Store.change_row.Goals.{In-Some, In-Some-copied, After-entry_count-2, After-replace}
 
-read : (c : In-Some) → Some c.in-Some.row ≡ value_at c.args.self.now.rows c.args.h.0
-read c = sym c.in-Some.is ∙ c.copied.ensures ∙ c.get.ensures
+sets : (c : In-Some) → row_set c.args.change.now ≡ Some c.in-Some.setter.handle
+sets c = grind (arith, c.in-Some.is, c.setter_of.ensures)
 
-facts : (c : After-entry_count-2) → Some c.in-Some.row ≡ value_at c.args.self.now.rows c.args.h.0 →
-    RowSet (parts_of c.args.self.now) c.args.self.now.kept c.args.change.now c.args.h c.set_row.new.row (c.args.self.now.entries - c.entry_count.result + c.entry_count-2.result)
-facts c is =
+read : (c : In-Some-copied) → Some c.in-Some-copied.row ≡ value_at c.args.self.now.rows c.in-Some.setter.handle.0
+read c = sym c.in-Some-copied.is ∙ c.copied.ensures ∙ c.get.ensures
+
+facts : (c : After-entry_count-2) → row_set c.args.change.now ≡ Some c.in-Some.setter.handle → Some c.in-Some-copied.row ≡ value_at c.args.self.now.rows c.in-Some.setter.handle.0 →
+    RowSet (parts_of c.args.self.now) c.args.self.now.kept c.args.change.now c.in-Some.setter.handle c.set_row.new.row (c.args.self.now.entries - c.entry_count.result + c.entry_count-2.result)
+facts c set is =
     let pass = ok-none _ _ (sym c.check_row.ensures ∙ c.in_ok-check_row.was) in
-    row-set (parts_of c.args.self.now) c.args.self.now.kept c.args.change.now c.args.h c.in-Some.row c.set_row.new.row
-    c.entry_count.result c.entry_count-2.result c.requires.row pass is c.set_row.ensures c.entry_count.ensures.count c.entry_count-2.ensures.count
+    row-set (parts_of c.args.self.now) c.args.self.now.kept c.args.change.now c.in-Some.setter.handle c.in-Some-copied.row c.set_row.new.row
+    c.entry_count.result c.entry_count-2.result set pass is c.set_row.ensures c.entry_count.ensures.count c.entry_count-2.ensures.count
 
-set_done : (c : After-replace) → RowSet (parts_of c.args.self.now) c.args.self.now.kept c.args.change.now c.args.h c.set_row.new.row (c.args.self.now.entries - c.entry_count.result + c.entry_count-2.result) →
+set_done : (c : After-replace) → RowSet (parts_of c.args.self.now) c.args.self.now.kept c.args.change.now c.in-Some.setter.handle c.set_row.new.row (c.args.self.now.entries - c.entry_count.result + c.entry_count-2.result) →
     Left (parts_of c.args.self.now) c.args.change.now (record (parts_of c.args.self.now) { rows = c.replace.new.self; entries = c.args.self.now.entries - c.entry_count.result + c.entry_count-2.result }) (Ok tt)
 set_done c r =
-    row-done (parts_of c.args.self.now) c.args.self.now.kept c.args.change.now c.args.h c.set_row.new.row _ r
+    row-done (parts_of c.args.self.now) c.args.self.now.kept c.args.change.now c.in-Some.setter.handle c.set_row.new.row _ r
     c.requires.in_range c.requires.plain (grind (arith, nat_tests, c.if-entries-self.false)) _ c.replace.ensures.replaces
 
 pub returns-in_err-check_row : goal.returns-in_err-check_row
@@ -27,35 +30,37 @@ returns-in_err-check_row c =
     let why = first-some (tests (scene_of c.args.self.now) c.args.change.now) _ _ (err-some _ _ (sym c.check_row.ensures ∙ c.in_err-check_row.was)) in
     rw (q.1, q.2) (refused p c.args.self.now.kept c.args.change.now _ why)
 
-pub returns-in_default : goal.returns-in_default
-returns-in_default c =
+pub returns-in_default-copied : goal.returns-in_default-copied
+returns-in_default-copied c =
     let p = parts_of c.args.self.now in
     let k = c.args.self.now.kept in
-    let off = there-is p c.args.h.0 ∙ read-off p k c.args.h.0 (sym c.in_default.is ∙ c.copied.ensures ∙ c.get.ensures) in
-    refused p k c.args.change.now Unknown (row-absent p k c.args.change.now c.args.h c.requires.row off)
+    let h = c.in-Some.setter.handle in
+    let off = there-is p h.0 ∙ read-off p k h.0 (sym c.in_default-copied.is ∙ c.copied.ensures ∙ c.get.ensures) in
+    refused p k c.args.change.now Unknown (row-absent p k c.args.change.now h (sets (goal.at.returns-in_default-copied c).In-Some) off)
 
 pub check_row-requires-clause-there : goal.check_row-requires-clause-there
 check_row-requires-clause-there c =
-    let is = read (goal.at.check_row-requires-clause-there c).In-Some in
-    grind (arith, is, there-is (parts_of c.args.self.now) c.args.h.0, c.args.self.now.kept.rows c.args.h.0)
+    let is = read (goal.at.check_row-requires-clause-there c).In-Some-copied in
+    let h = c.in-Some.setter.handle.0 in
+    grind (arith, is, there-is (parts_of c.args.self.now) h, c.args.self.now.kept.rows h)
 
 pub overflow_sub-others : goal.overflow_sub-others
 overflow_sub-others c =
     let p = parts_of c.args.self.now in
-    let is = read (goal.at.overflow_sub-others c).In-Some in
-    (row-entries p c.args.self.now.kept c.args.h c.in-Some.row c.entry_count.result is c.entry_count.ensures.count).1
+    let is = read (goal.at.overflow_sub-others c).In-Some-copied in
+    (row-entries p c.args.self.now.kept c.in-Some.setter.handle c.in-Some-copied.row c.entry_count.result is c.entry_count.ensures.count).1
 
 pub returns-then-entries-self : goal.returns-then-entries-self
 returns-then-entries-self c =
     let p = parts_of c.args.self.now in
     let at = goal.at.returns-then-entries-self c in
-    let r = facts at.After-entry_count-2 (read at.In-Some) in
-    let why = row-answer p c.args.self.now.kept c.args.change.now c.args.h c.set_row.new.row _ r true (grind (arith, nat_tests, c.if-entries-self.true)) in
+    let r = facts at.After-entry_count-2 (sets at.In-Some) (read at.In-Some-copied) in
+    let why = row-answer p c.args.self.now.kept c.args.change.now c.in-Some.setter.handle c.set_row.new.row _ r true (grind (arith, nat_tests, c.if-entries-self.true)) in
     refused p c.args.self.now.kept c.args.change.now (Full Entries) why
 
 pub invariant_of-self : goal.invariant_of-self
 invariant_of-self c =
-    let at = goal.at.invariant_of-self c in record { kept = (set_done at.After-replace (facts at.After-entry_count-2 (read at.In-Some))).kept }
+    let at = goal.at.invariant_of-self c in record { kept = (set_done at.After-replace (facts at.After-entry_count-2 (sets at.In-Some) (read at.In-Some-copied))).kept }
 
 pub returns : goal.returns
-returns c = let at = goal.at.returns c in (set_done at.After-replace (facts at.After-entry_count-2 (read at.In-Some))).is
+returns c = let at = goal.at.returns c in (set_done at.After-replace (facts at.After-entry_count-2 (sets at.In-Some) (read at.In-Some-copied))).is

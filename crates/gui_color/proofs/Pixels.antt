@@ -6,9 +6,9 @@ use Rattle.gui_base.specs.declared.color.Rgb565.{Rgb565}
 use Rattle.gui_base.specs.Area.{has, count_between}
 use Rattle.gui_base.specs.Color.{mix, black}
 use Rattle.gui_base.proofs.Areas.{between_has}
-use Rattle.gui_color.specs.Buffer.{Buffer, IsWhole, distance, place, pixel_at, row_of, with_row, row_area}
+use Rattle.gui_color.specs.Buffer.{Buffer, IsWhole, HoldsRow, distance, place, pixel_at, row_of, with_row, row_area}
 use Rattle.gui_color.proofs.Places.{place_fits, place_along, place_end, count_is, outside_row}
-use Rattle.gui_color.proofs.Runs.{run_inside, run_before, run_after, part_at, length-part, length-with_run}
+use Rattle.gui_color.proofs.Runs.{run_inside, run_before, run_after, part_at, length-part}
 
 -- row y of the buffer has the columns from x1 to x2
 pub record HasRow (buf : Buffer) (y x1 x2 : ℤ) : Type 0 where
@@ -46,11 +46,6 @@ length-row_of buf y x1 x2 h =
     let fits = run_fits buf y x1 x2 h in
     length-part buf.pixels (place buf.area x1 y) (place buf.area x2 y + 1) (omega (arith, end)) (omega (arith, end, fits)) ∙ omega (arith, end)
 
--- writing over a part of a row keeps a colour for each pixel
-pub with_row_whole : (buf : Buffer) (y x1 x2 : ℤ) (ws : List Rgb565) → HasRow buf y x1 x2 → length ws ≡ count_between x1 x2 → IsWhole (with_row buf y x1 ws)
-with_row_whole buf y x1 x2 ws h n =
-    length-with_run buf.pixels (place buf.area x1 y) ws (omega (arith, run_fits buf y x1 x2 h, n)) ∙ h.whole
-
 -- a pixel that was written over
 pub pixel_at-with_row_in : (buf : Buffer) (y x1 x2 x : ℤ) (ws : List Rgb565) → HasRow buf y x1 x2 → length ws ≡ count_between x1 x2 → x1 ≤ℤ x → x ≤ℤ x2
     → pixel_at (with_row buf y x1 ws) x y ≡ slice_index_or ws (distance x1 x) black
@@ -69,6 +64,24 @@ pixel_at-with_row_out buf y x1 x2 x v ws h n i o =
       | inl before ↦ run_before buf.pixels (place buf.area x1 y) ws (place buf.area x v) black before (omega (arith, fits, n))
       | inr after ↦ run_after buf.pixels (place buf.area x1 y) ws (place buf.area x v) black (omega (arith, end, n, after)) (omega (arith, fits, n))
     ]
+
+-- what is so of each column of a row is so of its pixels
+in_row : (y x1 x2 x v : ℤ) (P : ℤ → Type 0) → (x1 ≤ℤ x → x ≤ℤ x2 → P y) → has (row_area y x1 x2) x v ≡ true → P v
+in_row y x1 x2 x v P each e =
+    let b = between_has (row_area y x1 x2) x v e in
+    subst P (omega (arith, ints, b.top, b.bottom)) (each b.left b.right)
+
+row_cases : (buf : Buffer) (y x1 x2 x v : ℤ) (ws : List Rgb565) → HasRow buf y x1 x2 → length ws ≡ count_between x1 x2 → has buf.area x v ≡ true → (inside : Bool) → has (row_area y x1 x2) x v ≡ inside
+    → pixel_at (with_row buf y x1 ws) x v ≡ (if inside then slice_index_or ws (distance x1 x) black else pixel_at buf x v)
+row_cases buf y x1 x2 x v ws h n i true e =
+    in_row y x1 x2 x v (λ z. pixel_at (with_row buf y x1 ws) x z ≡ slice_index_or ws (distance x1 x) black) (pixel_at-with_row_in buf y x1 x2 x ws h n) e
+row_cases buf y x1 x2 x v ws h n i false e = pixel_at-with_row_out buf y x1 x2 x v ws h n i e
+
+pub holds_row : (buf : Buffer) (y x1 x2 : ℤ) → HasRow buf y x1 x2 → HoldsRow buf y x1 x2
+holds_row buf y x1 x2 h = record {
+  colors = λ x v. in_row y x1 x2 x v (λ z. slice_index_or (row_of buf y x1 x2) (distance x1 x) black ≡ pixel_at buf x z) (slice_index_or-row_of buf y x1 x2 x h);
+  written = λ ws n x v i. row_cases buf y x1 x2 x v ws h n i (has (row_area y x1 x2) x v) refl;
+}
 
 -- what filling a row writes
 abbrev pub filled : Rgb565 → ℕ → List Rgb565 → List Rgb565

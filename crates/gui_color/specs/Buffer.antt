@@ -1,9 +1,9 @@
 -- What callers see of a draw buffer.
-use Rattle.std.specs.Prelude.{◌≡◌, ℕ, ◌+◌, ◌*◌, ℤ, pos, negsuc, ◌-ℤ◌}
+use Rattle.std.specs.Prelude.{◌≡◌, ℕ, ◌+◌, ◌*◌, true, if◌then◌else◌, ℤ, pos, negsuc, ◌-ℤ◌}
 use Rattle.std.specs.Prelude.{List, ◌++◌, take, drop, length, slice_index_or, slice_range}
 use Rattle.std.specs.Int.RustNames.{unsigned_abs}
 use Rattle.gui_base.specs.declared.color.Rgb565.{Rgb565}
-use Rattle.gui_base.specs.Area.{Rect, width_of, size_of}
+use Rattle.gui_base.specs.Area.{Rect, has, count_between, width_of, size_of}
 use Rattle.gui_base.specs.Color.{black}
 
 -- an area, the colours of its pixels row by row, and how many pixels there may be
@@ -32,6 +32,10 @@ place area x y = distance area.y1 y * width_of area + distance area.x1 x
 unfoldable pub pixel_at : Buffer → ℤ → ℤ → Rgb565
 pixel_at buf x y = slice_index_or buf.pixels (place buf.area x y) black
 
+-- each pixel is black
+abbrev pub IsBlack : Buffer → Type 0
+IsBlack buf = (x y : ℤ) → has buf.area x y ≡ true → pixel_at buf x y ≡ black
+
 -- the colours of row y from column x1 to column x2
 unfoldable pub row_of : Buffer → ℤ → ℤ → ℤ → List Rgb565
 row_of buf y x1 x2 = slice_range buf.pixels (place buf.area x1 y) (place buf.area x2 y + 1)
@@ -47,3 +51,11 @@ with_row buf y x1 ws = record buf { pixels = with_run buf.pixels (place buf.area
 -- the pixels of row y from column x1 to column x2
 abbrev pub row_area : ℤ → ℤ → ℤ → Rect
 row_area y x1 x2 = record { x1 = x1; y1 = y; x2 = x2; y2 = y }
+
+-- the colours of a row are those of its pixels, and what is written over them becomes theirs alone
+pub record HoldsRow (buf : Buffer) (y x1 x2 : ℤ) : Type 0 where
+  pub colors : (x v : ℤ) → has (row_area y x1 x2) x v ≡ true →
+      slice_index_or (row_of buf y x1 x2) (distance x1 x) black ≡ pixel_at buf x v
+  pub written : (ws : List Rgb565) → length ws ≡ count_between x1 x2 → (x v : ℤ) → has buf.area x v ≡ true →
+      pixel_at (with_row buf y x1 ws) x v
+      ≡ (if has (row_area y x1 x2) x v then slice_index_or ws (distance x1 x) black else pixel_at buf x v)

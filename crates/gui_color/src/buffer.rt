@@ -4,7 +4,8 @@ ghost use Rattle.std.specs.Borrow.{sem};
 ghost use Rattle.gui_base.specs.Area.{has, is_empty, size_of, count_between};
 ghost use Rattle.gui_base.specs.Color.{black};
 ghost use Rattle.gui_base.specs.Corners.{rect_of};
-ghost use Rattle.gui_color.specs.Buffer.{no_pixel, distance, place, row_of, IsWhole};
+ghost use Rattle.gui_color.specs.Buffer.{no_pixel, distance, place, row_of};
+ghost use Rattle.gui_color.specs.Buffer.{IsWhole, IsBlack, HoldsRow};
 ghost use Rattle.gui_color.specs.Lending.{LendsRow};
 
 use gui_base::{Area, NoMemory, Rgb565, Steps};
@@ -63,6 +64,7 @@ impl DrawBuf {
         requires fits { size_of (rect_of area) ≤ self.old.limit }
         ensures area { self.new.area ≡ rect_of area }
         ensures black { self.new.pixels ≡ replicate (size_of (rect_of area)) black }
+        ensures each_black { IsBlack self.new }
         ensures limit { self.new.limit ≡ self.old.limit }
         ensures steps { steps.new ≡ steps.old + size_of (rect_of area) }
     {
@@ -96,6 +98,7 @@ impl DrawBuf {
         ensures row { result.now ≡ row_of self.old y x1 x2 }
         ensures len { length result.now ≡ count_between x1 x2 }
         ensures whole { IsWhole self.old }
+        ensures pixels { HoldsRow self.old y x1 x2 }
     {
         let start = place_of(self.area, x1, y);
         let len = distance_between(x1, x2) + 1;

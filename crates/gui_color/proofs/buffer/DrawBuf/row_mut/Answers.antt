@@ -4,6 +4,7 @@ use Rattle.std.proofs.lemmas.List.{length-take-le}
 use Rattle.gui_base.specs.Area.{size_of}
 use Rattle.gui_base.specs.Corners.{rect_of}
 use Rattle.gui_color.specs.Buffer.{distance, place, row_of}
+use Rattle.gui_color.proofs.Pixels.{holds_row}
 use Rattle.gui_color.proofs.Places.{place_fits, place_end, count_is}
 use Rattle.gui_color.proofs.Runs.{with_run_is, part_of_front}
 use Rattle.gui_color.proofs.buffer.DrawBuf.row_mut.Goals as goal
@@ -46,5 +47,6 @@ returns c =
         row = c.slice_mut.ensures.value ∙ rw (← c.self.view_is, to, start) (part_of_front p.items size (place area c.args.x1 c.args.y) (place area c.args.x2 c.args.y + 1) (omega (arith, fits)));
         len = rw (count_is c.args.x1 c.args.x2 c.requires.order) long;
         whole = rw (← c.self.view_is) (length-take-le size p.items (omega arith));
+        pixels = holds_row _ c.args.y c.args.x1 c.args.x2 (record { whole = rw (← c.self.view_is) (length-take-le size p.items (omega arith)); order = c.requires.order; first = c.requires.first; last = c.requires.last });
       },
     )

@@ -1,0 +1,5 @@
+pub mod Bands
+pub mod Counts
+pub mod Lines
+pub mod Steps
+pub mod Visits

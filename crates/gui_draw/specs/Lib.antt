@@ -1,0 +1,4 @@
+pub mod Counts
+pub mod Drawing
+pub mod Parts
+pub mod Rings

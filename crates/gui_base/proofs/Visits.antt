@@ -1,8 +1,9 @@
--- A walk through a forest of handles, by first children and next neighbours.
-use Rattle.std.proofs.Common.{◌≡◌, ◌≤◌, ℕ, ◌+◌, Bool, true, false, ◌||◌, cond, eqb, Some, None, refl, sym, ap, subst, ◌∙◌, inl, inr, arith, eq-eqb, true≢false}
+-- A walk through trees of named nodes, by first children and next neighbours.
+use Rattle.std.proofs.Common.{◌≡◌, ◌∙◌, ◌≤◌, ◌<◌, ℕ, ◌+◌, Bool, true, false, eqb, eq-eqb, Option, Some, None, option_map, inl, inr, refl, sym, ap, subst, arith}
 use Rattle.std.proofs.lemmas.Bool.{cases_Bool, false≢true}
-use Rattle.std.proofs.lemmas.Bool.Decides.{eqb_tells, nat_tests}
-use Rattle.gui_base.specs.Forest.{Forest, Empty, Tree, size, first_root, has, tree_at, children_of, list_from, list_after, next_to, count, StandsOnce}
+use Rattle.std.proofs.lemmas.Bool.Decides.{nat_tests}
+use Rattle.gui_base.specs.declared.Handle.{Handle}
+use Rattle.gui_base.specs.Forest.{Forest, Empty, Tree, map_forest, size, first_root, has, has_by, tree_by, children_by, from_by, next_by, count, StandsOnce}
 
 pub count-has : (f : Forest ℕ) (k : ℕ) → has f k ≡ true → 1 ≤ count f k
 count-has Empty k i = absurd (false≢true i)
@@ -12,167 +13,132 @@ pub count-off : (f : Forest ℕ) (k : ℕ) → has f k ≡ false → count f k �
 count-off Empty k i = refl
 count-off (Tree h cs rest) k i = grind (arith, nat_tests, count-off cs k, count-off rest k)
 
-count-root : (h : ℕ) (cs rest : Forest ℕ) → count (Tree h cs rest) h ≡ 1 + (count cs h + count rest h)
-count-root h cs rest = rw (eq-eqb h h refl) refl
+module _ {A : Type 0} (name : A → ℕ) where
+  abbrev pub is_named : ℕ → A → Bool
+  is_named h a = eqb (name a) h
 
--- what stands once stands once below, and beside
-pub once-below : (h : ℕ) (cs rest : Forest ℕ) → StandsOnce (Tree h cs rest) → StandsOnce cs
-once-below h cs rest once k = let o : cond (eqb h k) 1 0 + (count cs k + count rest k) ≤ 1 = once k in omega arith
+  abbrev pub there : Forest A → ℕ → Bool
+  there f k = has_by (is_named k) f
 
-pub once-beside : (h : ℕ) (cs rest : Forest ℕ) → StandsOnce (Tree h cs rest) → StandsOnce rest
-once-beside h cs rest once k = let o : cond (eqb h k) 1 0 + (count cs k + count rest k) ≤ 1 = once k in omega arith
+  -- no two nodes have the same name
+  abbrev pub IsDistinct : Forest A → Type 0
+  IsDistinct Empty = Unit {0}
+  IsDistinct (Tree a cs rest) =
+      ((k : ℕ) → there cs k ≡ true → there rest k ≡ false) × (there cs (name a) ≡ false) × (there rest (name a) ≡ false) × IsDistinct cs × IsDistinct rest
 
--- a list begins with its tree
-pub from-opens : (f : Forest ℕ) (h : ℕ) → has f h ≡ true → list_from f h ≡ Tree h (children_of f h) (list_after f h)
-from-opens Empty h i = absurd (false≢true i)
-from-opens (Tree k cs rest) h i =
-    elim (eqb_tells k h) [
-      | inl is ↦ rw is.0 (ap (λ j. Tree j cs rest) is.1)
-      | inr isnt ↦ rw isnt.0 (elim (cases_Bool (has cs h)) [
-        | inl there ↦ rw there (from-opens cs h there)
-        | inr gone ↦ rw gone (from-opens rest h (rw (isnt.0, gone) at i))
-      ])
+  count-there : (f : Forest A) (k : ℕ) → there f k ≡ true → 1 ≤ count (map_forest name f) k
+  count-there Empty k i = absurd (false≢true i)
+  count-there (Tree a cs rest) k i = grind (arith, nat_tests, count-there cs k, count-there rest k)
+
+  pub distinct_once : (f : Forest A) → StandsOnce (map_forest name f) → IsDistinct f
+  distinct_once Empty once = tt
+  distinct_once (Tree a cs rest) once =
+      let below = distinct_once cs (λ k. omega (arith, once k)) in
+      let beside = distinct_once rest (λ k. omega (arith, once k)) in
+      let apart = λ (k : ℕ). let o : count (map_forest name (Tree a cs rest)) k ≤ 1 = once k in o in
+      grind (arith, nat_tests, apart, count-there cs, count-there rest, below, beside)
+
+  abbrev pub name_of : Option A → Option Handle
+  name_of o = option_map (λ a. record { 0 = name a }) o
+
+  -- the first tree of this name, and the trees that stand beside it after it
+  abbrev pub trees_from : Option Handle → Forest A → Forest A
+  trees_from None f = Empty
+  trees_from (Some h) f = from_by (is_named h.0) f
+
+  -- these trees stand side by side in the forest
+  abbrev Stands : Forest A → Forest A → Type 0
+  Stands f g = trees_from (name_of (first_root g)) f ≡ g
+
+  stands_all : (f : Forest A) → Stands f f
+  stands_all Empty = refl
+  stands_all (Tree a cs rest) = rw (eq-eqb (name a) (name a) refl) refl
+
+  from-there : (f : Forest A) (b : A) (ds es : Forest A) (k : ℕ) → from_by (is_named k) f ≡ Tree b ds es → there f k ≡ true
+  from-there Empty b ds es k e = cc
+  from-there (Tree a cs rest) b ds es k e = grind (arith, nat_tests, from-there cs b ds es k, from-there rest b ds es k)
+
+  stands_below : (a : A) (cs rest g : Forest A) → IsDistinct (Tree a cs rest) → Stands cs g → Stands (Tree a cs rest) g
+  stands_below a cs rest Empty d e = refl
+  stands_below a cs rest (Tree b ds es) d e = let i = from-there cs b ds es (name b) e in grind (arith, nat_tests)
+
+  stands_beside : (a : A) (cs rest g : Forest A) → IsDistinct (Tree a cs rest) → Stands rest g → Stands (Tree a cs rest) g
+  stands_beside a cs rest Empty d e = refl
+  stands_beside a cs rest (Tree b ds es) d e = let i = from-there rest b ds es (name b) e in let out = d.0 (name b) in grind (arith, nat_tests)
+
+  stands_children : (f : Forest A) (h : ℕ) → IsDistinct f → Stands f (children_by (is_named h) f)
+  stands_children Empty h d = refl
+  stands_children (Tree a cs rest) h d = elim (cases_Bool (is_named h a)) [
+    | inl is ↦ rw is (stands_below a cs rest cs d (stands_all cs))
+    | inr isnt ↦ elim (cases_Bool (there cs h)) [
+      | inl inner ↦ rw (isnt, inner) (stands_below a cs rest (children_by (is_named h) cs) d (stands_children cs h d.3))
+      | inr gone ↦ rw (isnt, gone) (stands_beside a cs rest (children_by (is_named h) rest) d (stands_children rest h d.4))
     ]
+  ]
 
-pub from-none : (f : Forest ℕ) (h : ℕ) → has f h ≡ false → list_from f h ≡ Empty
-from-none Empty h i = refl
-from-none (Tree k cs rest) h i =
-    elim (eqb_tells k h) [
-      | inl is ↦ absurd (true≢false (rw is.0 at i))
-      | inr isnt ↦ rw isnt.0 (elim (cases_Bool (has cs h)) [
-        | inl there ↦ absurd (true≢false (rw (isnt.0, there) at i))
-        | inr gone ↦ rw gone (from-none rest h (rw (isnt.0, gone) at i))
-      ])
+  stands_later : (f : Forest A) (b : A) (ds es : Forest A) → IsDistinct f → Stands f (Tree b ds es) → Stands f es
+  stands_later Empty b ds es d e = cc
+  stands_later (Tree a cs rest) b ds es d e = elim (cases_Bool (is_named (name b) a)) [
+    | inl is ↦ let same : rest ≡ es = let i = rw is at e in cc in subst (Stands (Tree a cs rest)) same (stands_beside a cs rest rest d (stands_all rest))
+    | inr isnt ↦ elim (cases_Bool (there cs (name b))) [
+      | inl inner ↦ stands_below a cs rest es d (stands_later cs b ds es d.3 (rw (isnt, inner) at e))
+      | inr gone ↦ stands_beside a cs rest es d (stands_later rest b ds es d.4 (rw (isnt, gone) at e))
     ]
+  ]
 
--- the next neighbour is the first of those after
-pub first-after : (f : Forest ℕ) (h : ℕ) → first_root (list_after f h) ≡ next_to f h
-first-after Empty h = refl
-first-after (Tree k cs rest) h =
-    elim (eqb_tells k h) [
-      | inl is ↦ rw is.0 refl
-      | inr isnt ↦ rw isnt.0 (elim (cases_Bool (has cs h)) [ inl there ↦ rw there (first-after cs h) | inr gone ↦ rw gone (first-after rest h) ])
-    ]
+  -- what is found by the name of the first tree of such a list
+  from-opens : (f : Forest A) (k : ℕ) (a : A) (cs rest : Forest A) → from_by (is_named k) f ≡ Tree a cs rest → (tree_by (is_named k) f ≡ Tree a cs Empty) × (next_by (is_named k) f ≡ first_root rest)
+  from-opens Empty k a cs rest e = cc
+  from-opens (Tree b ds es) k a cs rest e = (grind (arith, nat_tests, from-opens ds k a cs rest, from-opens es k a cs rest), grind (arith, nat_tests, from-opens ds k a cs rest, from-opens es k a cs rest))
 
-pub first-none : (f : Forest ℕ) → first_root f ≡ None → f ≡ Empty
-first-none Empty e = refl
-first-none (Tree k cs rest) e = cc
+  pub tree-opens : (f : Forest A) (k : ℕ) (a : A) → first_root (tree_by (is_named k) f) ≡ Some a → tree_by (is_named k) f ≡ Tree a (children_by (is_named k) f) Empty
+  tree-opens Empty k a e = cc
+  tree-opens (Tree b ds es) k a e = grind (arith, nat_tests, tree-opens ds k a, tree-opens es k a)
 
--- the roots of a forest are there
-first-has : (f : Forest ℕ) (k : ℕ) → first_root f ≡ Some k → has f k ≡ true
-first-has Empty k e = cc
-first-has (Tree h cs rest) k e = let same : h ≡ k = cc in rw (eq-eqb h k same) refl
+  next_stands : (f g : Forest A) (next : Option Handle) → next ≡ name_of (first_root g) → Stands f g → trees_from next f ≡ g
+  next_stands f g next is stands = ap (λ (o : Option Handle). trees_from o f) is ∙ stands
 
-either_true : (a b : Bool) → (a || (true || b)) ≡ true
-either_true true b = refl
-either_true false b = refl
+  -- a walk over the children of h has come to the trees from `next` on
+  abbrev pub HasCome : Forest A → ℕ → Option Handle → Type 0
+  HasCome f h next = (next ≡ name_of (first_root (trees_from next f))) × (size (trees_from next f) ≤ size (children_by (is_named h) f))
 
-last_true : (a b : Bool) → (a || (b || true)) ≡ true
-last_true true b = refl
-last_true false true = refl
-last_true false false = refl
+  come_to : (f g : Forest A) (h : ℕ) (next : Option Handle) → next ≡ name_of (first_root g) → trees_from next f ≡ g → size g ≤ size (children_by (is_named h) f) → HasCome f h next
+  come_to f g h next is e few = (is ∙ ap (λ t. name_of (first_root t)) (sym e), rw e few)
 
--- a tree with a row k below h, and not at h
-at-below : (h k : ℕ) (cs rest : Forest ℕ) → StandsOnce (Tree h cs rest) → has cs k ≡ true → list_from (Tree h cs rest) k ≡ list_from cs k
-at-below h k cs rest once i =
-    elim (eqb_tells h k) [
-      | inl is ↦
-          let o : 1 + (count cs h + count rest h) ≤ 1 = rw (count-root h cs rest) at (once h) in
-          let c : 1 ≤ count cs h = subst (λ j. 1 ≤ count cs j) (sym is.1) (count-has cs k i) in
-          absurd (omega arith)
-      | inr isnt ↦ rw (isnt.0, i) refl
-    ]
+  -- it begins with the first child
+  pub walk_begins : (f : Forest A) (h : ℕ) (first : Option Handle) → IsDistinct f → first ≡ name_of (first_root (children_by (is_named h) f)) → (trees_from first f ≡ children_by (is_named h) f) × HasCome f h first
+  walk_begins f h first d is =
+      let e = next_stands f (children_by (is_named h) f) first is (stands_children f h d) in
+      (e, come_to f (children_by (is_named h) f) h first is e (omega arith))
 
--- or beside it
-at-beside : (h k : ℕ) (cs rest : Forest ℕ) → StandsOnce (Tree h cs rest) → has rest k ≡ true → list_from (Tree h cs rest) k ≡ list_from rest k
-at-beside h k cs rest once i =
-    let c = count-has rest k i in
-    let o : cond (eqb h k) 1 0 + (count cs k + count rest k) ≤ 1 = once k in
-    elim (eqb_tells h k) [
-      | inl is ↦ let p : 1 + (count cs k + count rest k) ≤ 1 = rw is.0 at o in absurd (omega arith)
-      | inr isnt ↦ rw isnt.0 (elim (cases_Bool (has cs k)) [
-        | inl there ↦ let d = count-has cs k there in absurd (omega arith)
-        | inr gone ↦ rw gone refl
-      ])
-    ]
+-- it goes on from a child to the trees beside it
+pub record GoesOn {A : Type 0} (name : A → ℕ) (f : Forest A) (h : ℕ) (child : Handle) (next : Option Handle) : Type 0 where
+  pub node : A
+  pub children : Forest A
+  pub rest : Forest A
+  pub from : trees_from name (Some child) f ≡ Tree node children rest
+  pub tree : tree_by (is_named name child.0) f ≡ Tree node children Empty
+  pub small : size (Tree node children rest) ≤ size (children_by (is_named name h) f)
+  pub later : trees_from name next f ≡ rest
+  pub come : HasCome name f h next
 
-children-has : (f : Forest ℕ) (h k : ℕ) → has (children_of f h) k ≡ true → has f k ≡ true
-children-has Empty h k i = i
-children-has (Tree j cs rest) h k i =
-    elim (eqb_tells j h) [
-      | inl is ↦ rw (rw is.0 at i) (either_true (eqb j k) (has rest k))
-      | inr isnt ↦ elim (cases_Bool (has cs h)) [
-        | inl there ↦ rw (children-has cs h k (rw (isnt.0, there) at i)) (either_true (eqb j k) (has rest k))
-        | inr gone ↦ rw (children-has rest h k (rw (isnt.0, gone) at i)) (last_true (eqb j k) (has cs k))
-      ]
-    ]
+module _ {A : Type 0} (name : A → ℕ) where
+  goes_on : (f g : Forest A) (h : ℕ) (child : Handle) (next : Option Handle) → IsDistinct name f → trees_from name (Some child) f ≡ g → Some child ≡ name_of name (first_root g) → size g ≤ size (children_by (is_named name h) f) → next ≡ name_of name (next_by (is_named name child.0) f) → GoesOn name f h child next
+  goes_on f Empty h child next d e first few is = cc
+  goes_on f (Tree a cs rest) h child next d e first few is =
+      let found = from-opens name f child.0 a cs rest e in
+      let same : name a ≡ child.0 = let c : child ≡ record { 0 = name a } = cc in sym (ap (λ (k : Handle). k.0) c) in
+      let first_is : next ≡ name_of name (first_root rest) = is ∙ ap (name_of name) found.1 in
+      let later = next_stands name f rest next first_is (stands_later name f a cs rest d (rw same e)) in
+      record { node = a; children = cs; rest = rest; from = e; tree = found.0; small = few; later = later; come = come_to name f rest h next first_is later (omega arith) }
 
-after-has : (f : Forest ℕ) (h k : ℕ) → has (list_after f h) k ≡ true → has f k ≡ true
-after-has Empty h k i = i
-after-has (Tree j cs rest) h k i =
-    elim (eqb_tells j h) [
-      | inl is ↦ rw (rw is.0 at i) (last_true (eqb j k) (has cs k))
-      | inr isnt ↦ elim (cases_Bool (has cs h)) [
-        | inl there ↦ rw (after-has cs h k (rw (isnt.0, there) at i)) (either_true (eqb j k) (has rest k))
-        | inr gone ↦ rw (after-has rest h k (rw (isnt.0, gone) at i)) (last_true (eqb j k) (has cs k))
-      ]
-    ]
+  pub walk_goes_on : (f : Forest A) (h : ℕ) (child : Handle) (next : Option Handle) → IsDistinct name f → HasCome name f h (Some child) → next ≡ name_of name (next_by (is_named name child.0) f) → GoesOn name f h child next
+  walk_goes_on f h child next d come is = goes_on f (trees_from name (Some child) f) h child next d refl come.0 come.1 is
 
-list-first : (f : Forest ℕ) (k : ℕ) → first_root f ≡ Some k → list_from f k ≡ f
-list-first Empty k e = refl
-list-first (Tree h cs rest) k e = let same : h ≡ k = cc in rw (eq-eqb h k same) refl
+-- the same by handles alone
+by_itself : (f : Forest ℕ) → map_forest (λ h. h) f ≡ f
+by_itself Empty = refl
+by_itself (Tree h cs rest) = rw (by_itself cs, by_itself rest) refl
 
--- the children of a handle are the list from the first child on
-pub children-from : (f : Forest ℕ) (h k : ℕ) → StandsOnce f → first_root (children_of f h) ≡ Some k → children_of f h ≡ list_from f k
-children-from Empty h k once e = refl
-children-from (Tree j cs rest) h k once e =
-    elim (eqb_tells j h) [
-      | inl is ↦
-          let first : first_root cs ≡ Some k = rw is.0 at e in
-          rw is.0 (sym (at-below j k cs rest once (first-has cs k first) ∙ list-first cs k first))
-      | inr isnt ↦ rw isnt.0 (elim (cases_Bool (has cs h)) [
-        | inl there ↦
-            let first : first_root (children_of cs h) ≡ Some k = rw (isnt.0, there) at e in
-            rw there (children-from cs h k (once-below j cs rest once) first ∙ sym (at-below j k cs rest once (children-has cs h k (first-has (children_of cs h) k first))))
-        | inr gone ↦
-            let first : first_root (children_of rest h) ≡ Some k = rw (isnt.0, gone) at e in
-            rw gone (children-from rest h k (once-beside j cs rest once) first ∙ sym (at-beside j k cs rest once (children-has rest h k (first-has (children_of rest h) k first))))
-      ])
-    ]
-
--- those after a handle are the list from the next on
-pub after-from : (f : Forest ℕ) (h k : ℕ) → StandsOnce f → next_to f h ≡ Some k → list_after f h ≡ list_from f k
-after-from f h k once e = go f once (first-after f h ∙ e)
-  where
-    go : (g : Forest ℕ) → StandsOnce g → first_root (list_after g h) ≡ Some k → list_after g h ≡ list_from g k
-    go Empty o first = refl
-    go (Tree j cs rest) o first =
-        elim (eqb_tells j h) [
-          | inl is ↦
-              let top : first_root rest ≡ Some k = rw is.0 at first in
-              rw is.0 (sym (at-beside j k cs rest o (first-has rest k top) ∙ list-first rest k top))
-          | inr isnt ↦ rw isnt.0 (elim (cases_Bool (has cs h)) [
-            | inl there ↦
-                let top : first_root (list_after cs h) ≡ Some k = rw (isnt.0, there) at first in
-                rw there (go cs (once-below j cs rest o) top ∙ sym (at-below j k cs rest o (after-has cs h k (first-has (list_after cs h) k top))))
-            | inr gone ↦
-                let top : first_root (list_after rest h) ≡ Some k = rw (isnt.0, gone) at first in
-                rw gone (go rest (once-beside j cs rest o) top ∙ sym (at-beside j k cs rest o (after-has rest h k (first-has (list_after rest h) k top))))
-          ])
-        ]
-
--- the tree at a handle
-pub tree-opens : (f : Forest ℕ) (h : ℕ) → has f h ≡ true → tree_at f h ≡ Tree h (children_of f h) Empty
-tree-opens Empty h i = absurd (false≢true i)
-tree-opens (Tree k cs rest) h i =
-    elim (eqb_tells k h) [
-      | inl is ↦ rw is.0 (ap (λ j. Tree j cs Empty) is.1)
-      | inr isnt ↦ rw isnt.0 (elim (cases_Bool (has cs h)) [
-        | inl there ↦ rw there (tree-opens cs h there)
-        | inr gone ↦ rw gone (tree-opens rest h (rw (isnt.0, gone) at i))
-      ])
-    ]
-
--- a walk comes to an end: the list of the children, and that of the next, are shorter
-pub from-size : (f : Forest ℕ) (h : ℕ) → has f h ≡ true → size (list_from f h) ≡ size (children_of f h) + size (list_after f h) + 1
-from-size f h i = ap size (from-opens f h i)
+pub distinct_handles : (f : Forest ℕ) → StandsOnce f → IsDistinct (λ h. h) f
+distinct_handles f once = distinct_once (λ h. h) f (rw by_itself once)

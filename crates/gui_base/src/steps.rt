@@ -4,8 +4,8 @@ ghost use Rattle.std.specs.Prelude.{◌≡◌, ◌+◌, ◌<◌};
 use std::marker::Model;
 use std::sync::ledger::{Book, Ledger, Share};
 
-/// How many steps were taken. Today a step is a pixel that is made black as a draw buffer turns to an area;
-/// the mixing that follows is not counted yet. Only `tick` changes it.
+/// How many steps were taken. A step is a pixel that is made black as a draw buffer turns to an area, or one
+/// that a colour is mixed over. Only `tick` changes it.
 #[derive(Drop)]
 pub struct Steps<L: Ledger> {
     book: Book<L>,

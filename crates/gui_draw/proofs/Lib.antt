@@ -2,4 +2,3 @@ pub mod Bands
 pub mod Counts
 pub mod Lines
 pub mod Steps
-pub mod Visits

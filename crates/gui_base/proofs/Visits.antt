@@ -1,9 +1,10 @@
 -- A walk through trees of named nodes, by first children and next neighbours.
-use Rattle.std.proofs.Common.{◌≡◌, ◌∙◌, ◌≤◌, ◌<◌, ℕ, ◌+◌, Bool, true, false, eqb, eq-eqb, Option, Some, None, option_map, inl, inr, refl, sym, ap, subst, arith}
-use Rattle.std.proofs.lemmas.Bool.{cases_Bool, false≢true}
+use Rattle.std.proofs.Common.{◌≡◌, ◌∙◌, ◌≤◌, ℕ, Bool, true, false, eqb, eq-eqb, Option, Some, None, option_map, inl, inr, refl, sym, ap, subst, arith}
+use Rattle.std.proofs.lemmas.Bool.{cases_Bool, or_left, or_right, false≢true}
 use Rattle.std.proofs.lemmas.Bool.Decides.{nat_tests}
+use Rattle.std.specs.List.{list_any}
 use Rattle.gui_base.specs.declared.Handle.{Handle}
-use Rattle.gui_base.specs.Forest.{Forest, Empty, Tree, map_forest, size, first_root, has, has_by, tree_by, children_by, from_by, next_by, count, StandsOnce}
+use Rattle.gui_base.specs.Forest.{Forest, Empty, Tree, map_forest, size, first_root, has, has_by, tree_by, children_by, from_by, next_by, roots, count, StandsOnce}
 
 pub count-has : (f : Forest ℕ) (k : ℕ) → has f k ≡ true → 1 ≤ count f k
 count-has Empty k i = absurd (false≢true i)
@@ -98,18 +99,23 @@ module _ {A : Type 0} (name : A → ℕ) where
   next_stands : (f g : Forest A) (next : Option Handle) → next ≡ name_of (first_root g) → Stands f g → trees_from next f ≡ g
   next_stands f g next is stands = ap (λ (o : Option Handle). trees_from o f) is ∙ stands
 
+  abbrev pub is_root : Forest A → ℕ → Bool
+  is_root f k = list_any (is_named k) (roots f)
+
   -- a walk over the children of h has come to the trees from `next` on
   abbrev pub HasCome : Forest A → ℕ → Option Handle → Type 0
   HasCome f h next = (next ≡ name_of (first_root (trees_from next f))) × (size (trees_from next f) ≤ size (children_by (is_named h) f))
+      × ((k : ℕ) → is_root (trees_from next f) k ≡ true → is_root (children_by (is_named h) f) k ≡ true)
 
-  come_to : (f g : Forest A) (h : ℕ) (next : Option Handle) → next ≡ name_of (first_root g) → trees_from next f ≡ g → size g ≤ size (children_by (is_named h) f) → HasCome f h next
-  come_to f g h next is e few = (is ∙ ap (λ t. name_of (first_root t)) (sym e), rw e few)
+  come_to : (f g : Forest A) (h : ℕ) (next : Option Handle) → next ≡ name_of (first_root g) → trees_from next f ≡ g → size g ≤ size (children_by (is_named h) f) →
+      ((k : ℕ) → is_root g k ≡ true → is_root (children_by (is_named h) f) k ≡ true) → HasCome f h next
+  come_to f g h next is e few kids = (is ∙ ap (λ t. name_of (first_root t)) (sym e), rw e few, rw e kids)
 
   -- it begins with the first child
   pub walk_begins : (f : Forest A) (h : ℕ) (first : Option Handle) → IsDistinct f → first ≡ name_of (first_root (children_by (is_named h) f)) → (trees_from first f ≡ children_by (is_named h) f) × HasCome f h first
   walk_begins f h first d is =
       let e = next_stands f (children_by (is_named h) f) first is (stands_children f h d) in
-      (e, come_to f (children_by (is_named h) f) h first is e (omega arith))
+      (e, come_to f (children_by (is_named h) f) h first is e (omega arith) (λ k i. i))
 
 -- it goes on from a child to the trees beside it
 pub record GoesOn {A : Type 0} (name : A → ℕ) (f : Forest A) (h : ℕ) (child : Handle) (next : Option Handle) : Type 0 where
@@ -119,21 +125,23 @@ pub record GoesOn {A : Type 0} (name : A → ℕ) (f : Forest A) (h : ℕ) (chil
   pub from : trees_from name (Some child) f ≡ Tree node children rest
   pub tree : tree_by (is_named name child.0) f ≡ Tree node children Empty
   pub small : size (Tree node children rest) ≤ size (children_by (is_named name h) f)
+  pub below : is_root name (children_by (is_named name h) f) child.0 ≡ true
   pub later : trees_from name next f ≡ rest
   pub come : HasCome name f h next
 
 module _ {A : Type 0} (name : A → ℕ) where
-  goes_on : (f g : Forest A) (h : ℕ) (child : Handle) (next : Option Handle) → IsDistinct name f → trees_from name (Some child) f ≡ g → Some child ≡ name_of name (first_root g) → size g ≤ size (children_by (is_named name h) f) → next ≡ name_of name (next_by (is_named name child.0) f) → GoesOn name f h child next
-  goes_on f Empty h child next d e first few is = cc
-  goes_on f (Tree a cs rest) h child next d e first few is =
+  goes_on : (f g : Forest A) (h : ℕ) (child : Handle) (next : Option Handle) → IsDistinct name f → trees_from name (Some child) f ≡ g → Some child ≡ name_of name (first_root g) → size g ≤ size (children_by (is_named name h) f) →
+      ((k : ℕ) → is_root name g k ≡ true → is_root name (children_by (is_named name h) f) k ≡ true) → next ≡ name_of name (next_by (is_named name child.0) f) → GoesOn name f h child next
+  goes_on f Empty h child next d e first few kids is = cc
+  goes_on f (Tree a cs rest) h child next d e first few kids is =
       let found = from-opens name f child.0 a cs rest e in
       let same : name a ≡ child.0 = let c : child ≡ record { 0 = name a } = cc in sym (ap (λ (k : Handle). k.0) c) in
       let first_is : next ≡ name_of name (first_root rest) = is ∙ ap (name_of name) found.1 in
       let later = next_stands name f rest next first_is (stands_later name f a cs rest d (rw same e)) in
-      record { node = a; children = cs; rest = rest; from = e; tree = found.0; small = few; later = later; come = come_to name f rest h next first_is later (omega arith) }
+      record { node = a; children = cs; rest = rest; from = e; tree = found.0; small = few; below = kids child.0 (or_left _ _ (eq-eqb _ _ same)); later = later; come = come_to name f rest h next first_is later (omega arith) (λ k i. kids k (or_right _ _ i)) }
 
   pub walk_goes_on : (f : Forest A) (h : ℕ) (child : Handle) (next : Option Handle) → IsDistinct name f → HasCome name f h (Some child) → next ≡ name_of name (next_by (is_named name child.0) f) → GoesOn name f h child next
-  walk_goes_on f h child next d come is = goes_on f (trees_from name (Some child) f) h child next d refl come.0 come.1 is
+  walk_goes_on f h child next d come is = goes_on f (trees_from name (Some child) f) h child next d refl come.0 come.1 come.2 is
 
 -- the same by handles alone
 by_itself : (f : Forest ℕ) → map_forest (λ h. h) f ≡ f

@@ -3,8 +3,9 @@ use Rattle.std.specs.Prelude.{ℕ, Bool, true, false, Some, None, Ok, Err, ◌+�
 use Rattle.std.specs.Prelude.{◌++◌, codes, decimal}
 use Rattle.std.specs.declared.option.Option.{Option}
 use Rattle.std.specs.List.{count_by, filter_map, flat_map, fold, list_any}
+use Rattle.gui_base.specs.Ppm.{ppm}
 use Rattle.scene_defs.specs.Scene.{Scene}
-use Rattle.scene_defs.specs.Picture.{frame_file}
+use Rattle.scene_defs.specs.Picture.{picture}
 use Rattle.run_defs.specs.declared.Line.TheVariants.{Blank, Frame, Make}
 use Rattle.run_defs.specs.declared.Outcome.{Outcome}
 use Rattle.run_defs.specs.declared.Outcome.TheVariants.{Done, Fault}
@@ -126,6 +127,10 @@ done_scene (Framed number frame scene Fault) = None
 -- the scenes of the frames that were done
 abbrev pub done_scenes : List Told → List Scene
 done_scenes ts = filter_map done_scene ts
+
+-- the picture of a scene as a file
+abbrev pub frame_file : Scene → List ℕ
+frame_file scene = ppm scene.limits.width scene.limits.height (picture scene)
 
 -- the files of their pictures, one after another
 abbrev pub frame_files : List Told → List ℕ

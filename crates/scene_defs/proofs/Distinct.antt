@@ -1,39 +1,24 @@
 -- Rows whose handles stand once each.
 use Rattle.std.proofs.Common.{◌≡◌, ◌≢◌, ◌+◌, ◌≤◌, ℕ, Bool, true, false, ◌||◌, refl, arith}
-use Rattle.std.proofs.lemmas.Bool.{false≢true}
 use Rattle.std.proofs.lemmas.Bool.Decides.{nat_tests}
 use Rattle.gui_base.specs.Forest.{Forest, Empty, Tree, and_then, has_by, count, StandsOnce}
-use Rattle.scene_defs.specs.Scene.{Object, is_at, handles_of}
-use Rattle.scene_defs.specs.Picture.{root_tree}
+use Rattle.gui_base.proofs.Visits.{IsDistinct as NoTwo, distinct_once as no_two_once}
+use Rattle.scene_defs.specs.Scene.{Object, handle_of, is_at, handles_of}
+use Rattle.scene_defs.specs.Visible.{root_tree}
 
 abbrev pub there : Forest Object → ℕ → Bool
 there f k = has_by (is_at k) f
 
 -- each handle stands once
 abbrev pub IsDistinct : Forest Object → Type 0
-IsDistinct Empty = Unit {0}
-IsDistinct (Tree object cs rest) =
-    ((k : ℕ) → there cs k ≡ true → there rest k ≡ false) × (there cs object.handle ≡ false) × (there rest object.handle ≡ false)
-    × IsDistinct cs × IsDistinct rest
+IsDistinct f = NoTwo handle_of f
 
-count-there : (f : Forest Object) (k : ℕ) → there f k ≡ true → 1 ≤ count (handles_of f) k
-count-there Empty k i = absurd (false≢true i)
-count-there (Tree object cs rest) k i = grind (arith, nat_tests, count-there cs k, count-there rest k)
+pub distinct_once : (f : Forest Object) → StandsOnce (handles_of f) → IsDistinct f
+distinct_once = no_two_once handle_of
 
 pub count-off : (f : Forest Object) (k : ℕ) → there f k ≡ false → count (handles_of f) k ≡ 0
 count-off Empty k off = refl
 count-off (Tree object cs rest) k off = grind (arith, nat_tests, count-off cs k, count-off rest k)
-
-pub distinct_once : (f : Forest Object) → StandsOnce (handles_of f) → IsDistinct f
-distinct_once Empty once = tt
-distinct_once (Tree object cs rest) once =
-    let below = distinct_once cs (λ k. omega (arith, once k)) in
-    let beside = distinct_once rest (λ k. omega (arith, once k)) in
-    let apart = λ (k : ℕ). let o : count (handles_of (Tree object cs rest)) k ≤ 1 = once k in o in
-    grind (arith, nat_tests, apart, count-there cs, count-there rest, below, beside)
-
-pub other_than : (object : Object) (f : Forest Object) (k : ℕ) → there f object.handle ≡ false → there f k ≡ true → is_at k object ≡ false
-other_than object f k out i = grind (arith, nat_tests)
 
 pub there-and_then : (f g : Forest Object) (k : ℕ) → there (and_then f g) k ≡ (there f k || there g k)
 there-and_then Empty g k = refl

@@ -1,8 +1,13 @@
 pub mod Change
+pub mod Items
 pub mod Laws
 pub mod Picture
+pub mod Place
+pub mod Placing
 pub mod Ranges
 pub mod Row
 pub mod Scene
+pub mod Shown
 pub mod Valid
+pub mod Visible
 pub mod Walk

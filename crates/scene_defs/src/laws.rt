@@ -2,6 +2,7 @@
 ghost use Rattle.scene_defs.specs.Laws.{ChangeKeepsLimits, RefusedChangesNothing, RangeComesFirst};
 ghost use Rattle.scene_defs.specs.Laws.{FullWithoutRoom, DoneWithRoom, RefusedWhateverLimits};
 ghost use Rattle.scene_defs.specs.Laws.{SetsRowAlone, SlotsAddUp};
+ghost use Rattle.scene_defs.specs.Placing.{RootsFillPanel, ChildrenInParents, PlacesNear};
 ghost use Rattle.scene_defs.specs.Valid.{FirstIsValid, ChangeKeepsValid, ValidIsShowable};
 ghost use Rattle.scene_defs.specs.Walk.{ShownByWalk, NothingBelowNothing, WalkedInside, ShownInside};
 
@@ -37,6 +38,15 @@ pub fn slots_add_up()
 #[tactic(auto, using(crate::proofs::Changes::sets_row_alone))]
 pub fn setters_set_one_row()
     ensures { SetsRowAlone }
+{}
+
+/// A root fills the panel, and any other object has the place that it wants in its parent's. No object stands
+/// far from the panel.
+#[tactic(auto, using(crate::proofs::Places::laws))]
+pub fn places_follow_parents()
+    ensures roots { RootsFillPanel }
+    ensures children { ChildrenInParents }
+    ensures near { PlacesNear }
 {}
 
 /// One walk down the trees meets what is shown, in its order, and goes no further where nothing is seen.

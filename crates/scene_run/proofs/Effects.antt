@@ -9,11 +9,10 @@ use Rattle.std.proofs.lemmas.List.{append-nil}
 use Rattle.std.proofs.lemmas.List.Elements.{filter_map-append}
 use Rattle.std.proofs.lemmas.List.Sums.{fold-append}
 use Rattle.scene_defs.specs.Scene.{Scene}
-use Rattle.scene_defs.specs.Picture.{frame_file}
 use Rattle.run_defs.specs.declared.Outcome.{Outcome}
 use Rattle.run_defs.specs.declared.Outcome.TheVariants.{Done, Fault}
 use Rattle.run_defs.specs.declared.Reply.{Reply}
-use Rattle.run_defs.specs.Run.{Replies, Frames, Told, Replied, Framed, log_lines, frame_line, done_scene, done_scenes, frame_files, last_done}
+use Rattle.run_defs.specs.Run.{Replies, Frames, Told, Replied, Framed, log_lines, frame_line, done_scene, done_scenes, frame_file, frame_files, last_done}
 use Rattle.run_defs.proofs.Runs.{fault_count-append}
 use Rattle.gui_edge.specs.Causes.{Rose}
 use Rattle.gui_edge.specs.Panel.{PanelState}

@@ -3,11 +3,10 @@ use Rattle.std.specs.Prelude.{◌≡◌, ◌+◌, ◌≤◌, ◌⊎◌, List, []
 use Rattle.std.specs.declared.option.Option.{Option}
 use Rattle.std.specs.Io.KnownBytes.{Appends}
 use Rattle.scene_defs.specs.Scene.{Scene}
-use Rattle.scene_defs.specs.Picture.{frame_file}
 use Rattle.run_defs.specs.declared.Outcome.{Outcome}
 use Rattle.run_defs.specs.Script.{Said}
 use Rattle.run_defs.specs.Run.{Moment, Entry, Told, entry, after_all, entries, told, frame_count, log_text}
-use Rattle.run_defs.specs.Run.{frame_files, file_asked, last_done, fault_count}
+use Rattle.run_defs.specs.Run.{frame_file, frame_files, file_asked, last_done, fault_count}
 use Rattle.gui_edge.specs.Causes.{Rose}
 use Rattle.gui_edge.specs.Sink.{SinkState, AppendsPrefix}
 use Rattle.gui_edge.specs.Panel.{PanelState, HasSizes}

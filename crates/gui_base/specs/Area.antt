@@ -14,6 +14,15 @@ pub record Rect : Type 0 where
   pub x2 : ℤ
   pub y2 : ℤ
 
+-- the area from a corner with these sizes in pixels
+abbrev pub area_at : ℤ → ℤ → ℕ → ℕ → Rect
+area_at x y width height =
+    record { x1 = x; y1 = y; x2 = (x +ℤ pos width) -ℤ pos 1; y2 = (y +ℤ pos height) -ℤ pos 1 }
+
+-- a number that stays a coordinate where at most 2^29 pixels are added to it
+abbrev pub IsInner : ℤ → Type 0
+IsInner n = (negsuc 536870911 ≤ℤ n) × (n ≤ℤ pos 536870912)
+
 -- whether the pixel is in it
 abbrev pub has : Rect → ℤ → ℤ → Bool
 has area x y = (le_z area.x1 x && le_z x area.x2) && (le_z area.y1 y && le_z y area.y2)

@@ -1,8 +1,8 @@
 //! Areas of pixels.
-ghost use Rattle.std.specs.Prelude.{◌≡◌, ◌↔◌, ◌≤◌, ◌&&◌, ◌||◌, IsTrue, true, ℕ, ℤ, pos, ◌≤ℤ◌};
+ghost use Rattle.std.specs.Prelude.{◌≡◌, ◌↔◌, ◌≤◌, ◌^◌, ◌&&◌, ◌||◌, IsTrue, true, ℕ, ℤ, pos, ◌≤ℤ◌};
 ghost use Rattle.std.specs.Int.{int_max, int_min};
 ghost use Rattle.std.specs.Int.Signed.{le_z, lt_z};
-ghost use Rattle.gui_base.specs.Area.{IsCoordinate, Rect, has, is_empty, count_between, size_of, width_of};
+ghost use Rattle.gui_base.specs.Area.{IsCoordinate, IsInner, Rect, area_at, has, is_empty, count_between, size_of, width_of};
 ghost use Rattle.gui_base.specs.Area.{height_of, common, joined, Covers, has_corners};
 
 /// The pixels between two corners, both included, counted from the top left. It is empty where the second
@@ -21,6 +21,20 @@ pub struct Area {
 
 impl Area {
     ghost use Rattle.gui_base.specs.Corners.{rect_of};
+
+    /// The area with this first corner and with these sizes.
+    pub fn at(x: i32, y: i32, width: u32, height: u32) -> Area
+        requires corner { IsInner x × IsInner y }
+        requires sizes { (width ≤ 2 ^ 29) × (height ≤ 2 ^ 29) }
+        ensures { rect_of result ≡ area_at x y width height }
+    {
+        Area {
+            x1: x,
+            y1: y,
+            x2: x + width as i32 - 1,
+            y2: y + height as i32 - 1,
+        }
+    }
 
     /// Whether it has no pixel.
     pub fn is_empty(self) -> bool

@@ -1,14 +1,14 @@
 -- What writing a part of a row leaves of each pixel of a draw buffer.
-use Rattle.std.proofs.Common.{◌≡◌, ℕ, ◌+◌, ◌<◌, ◌≤◌, List, length, map, replicate, slice_index_or, Bool, true, false, if◌then◌else◌, ℤ, ◌≤ℤ◌, refl, sym, ap, subst, ◌∙◌, arith, inl, inr}
-use Rattle.std.proofs.lemmas.List.{places, length-map, get_or-map}
+use Rattle.std.proofs.Common.{◌≡◌, ℕ, ◌+◌, ◌<◌, ◌≤◌, List, length, replicate, slice_index_or, Bool, true, false, if◌then◌else◌, ℤ, ◌≤ℤ◌, refl, sym, ap, subst, ◌∙◌, arith, inl, inr}
+use Rattle.std.proofs.lemmas.List.{places}
 use Rattle.std.proofs.lemmas.Int.{ints}
 use Rattle.gui_base.specs.declared.color.Rgb565.{Rgb565}
 use Rattle.gui_base.specs.Area.{has, count_between}
-use Rattle.gui_base.specs.Color.{mix, black}
+use Rattle.gui_base.specs.Color.{black}
 use Rattle.gui_base.proofs.Areas.{between_has}
 use Rattle.gui_color.specs.Buffer.{Buffer, IsWhole, HoldsRow, distance, place, pixel_at, row_of, with_row, row_area}
 use Rattle.gui_color.proofs.Places.{place_fits, place_along, place_end, count_is, outside_row}
-use Rattle.gui_color.proofs.Runs.{run_inside, run_before, run_after, part_at, length-part}
+use Rattle.gui_color.proofs.Runs.{run_inside, run_before, run_after, part_at}
 
 -- row y of the buffer has the columns from x1 to x2
 pub record HasRow (buf : Buffer) (y x1 x2 : ℤ) : Type 0 where
@@ -38,13 +38,6 @@ unfolding row_of pixel_at
 slice_index_or-row_of buf y x1 x2 x h p q =
     part_at buf.pixels (place buf.area x1 y) (place buf.area x2 y + 1) (distance x1 x) black (omega (arith, run_end buf y x1 x2 h, distance_in x1 x2 x p q))
     ∙ ap (λ k. slice_index_or buf.pixels k black) (sym (place_in buf y x1 x2 x h p))
-
-pub length-row_of : (buf : Buffer) (y x1 x2 : ℤ) → HasRow buf y x1 x2 → length (row_of buf y x1 x2) ≡ count_between x1 x2
-unfolding row_of
-length-row_of buf y x1 x2 h =
-    let end = run_end buf y x1 x2 h in
-    let fits = run_fits buf y x1 x2 h in
-    length-part buf.pixels (place buf.area x1 y) (place buf.area x2 y + 1) (omega (arith, end)) (omega (arith, end, fits)) ∙ omega (arith, end)
 
 -- a pixel that was written over
 pub pixel_at-with_row_in : (buf : Buffer) (y x1 x2 x : ℤ) (ws : List Rgb565) → HasRow buf y x1 x2 → length ws ≡ count_between x1 x2 → x1 ≤ℤ x → x ≤ℤ x2
@@ -82,34 +75,6 @@ holds_row buf y x1 x2 h = record {
   colors = λ x v. in_row y x1 x2 x v (λ z. slice_index_or (row_of buf y x1 x2) (distance x1 x) black ≡ pixel_at buf x z) (slice_index_or-row_of buf y x1 x2 x h);
   written = λ ws n x v i. row_cases buf y x1 x2 x v ws h n i (has (row_area y x1 x2) x v) refl;
 }
-
--- what filling a row writes
-abbrev pub filled : Rgb565 → ℕ → List Rgb565 → List Rgb565
-filled fg opa row = map (λ bg. mix fg bg opa) row
-
-pub length-filled : (buf : Buffer) (y x1 x2 : ℤ) (fg : Rgb565) (opa : ℕ) → HasRow buf y x1 x2 → length (filled fg opa (row_of buf y x1 x2)) ≡ count_between x1 x2
-length-filled buf y x1 x2 fg opa h = length-map (row_of buf y x1 x2) (λ bg. mix fg bg opa) ∙ length-row_of buf y x1 x2 h
-
--- filling a part of a row mixes once into each of its pixels, and into no other
-pub pixel_at-fill_in : (buf : Buffer) (y x1 x2 x : ℤ) (fg : Rgb565) (opa : ℕ) → HasRow buf y x1 x2 → x1 ≤ℤ x → x ≤ℤ x2
-    → pixel_at (with_row buf y x1 (filled fg opa (row_of buf y x1 x2))) x y ≡ mix fg (pixel_at buf x y) opa
-pixel_at-fill_in buf y x1 x2 x fg opa h p q =
-    pixel_at-with_row_in buf y x1 x2 x _ h (length-filled buf y x1 x2 fg opa h) p q
-    ∙ get_or-map (λ bg. mix fg bg opa) (row_of buf y x1 x2) (distance x1 x) black black (omega (arith, length-row_of buf y x1 x2 h, distance_in x1 x2 x p q))
-    ∙ ap (λ bg. mix fg bg opa) (slice_index_or-row_of buf y x1 x2 x h p q)
-
-fill_cases : (buf : Buffer) (y x1 x2 x v : ℤ) (fg : Rgb565) (opa : ℕ) → HasRow buf y x1 x2 → has buf.area x v ≡ true → (inside : Bool) → has (row_area y x1 x2) x v ≡ inside
-    → pixel_at (with_row buf y x1 (filled fg opa (row_of buf y x1 x2))) x v ≡ (if inside then mix fg (pixel_at buf x v) opa else pixel_at buf x v)
-fill_cases buf y x1 x2 x v fg opa h i true e =
-    let b = between_has (row_area y x1 x2) x v e in
-    let same : y ≡ v = omega (arith, ints, b.top, b.bottom) in
-    let P : ℤ → Type 0 = λ z. pixel_at (with_row buf y x1 (filled fg opa (row_of buf y x1 x2))) x z ≡ mix fg (pixel_at buf x z) opa in
-    subst P same (pixel_at-fill_in buf y x1 x2 x fg opa h b.left b.right)
-fill_cases buf y x1 x2 x v fg opa h i false e = pixel_at-with_row_out buf y x1 x2 x v _ h (length-filled buf y x1 x2 fg opa h) i e
-
-pub pixel_at-fill : (buf : Buffer) (y x1 x2 x v : ℤ) (fg : Rgb565) (opa : ℕ) → HasRow buf y x1 x2 → has buf.area x v ≡ true
-    → pixel_at (with_row buf y x1 (filled fg opa (row_of buf y x1 x2))) x v ≡ (if has (row_area y x1 x2) x v then mix fg (pixel_at buf x v) opa else pixel_at buf x v)
-pixel_at-fill buf y x1 x2 x v fg opa h i = fill_cases buf y x1 x2 x v fg opa h i (has (row_area y x1 x2) x v) refl
 
 -- a black buffer
 pub pixel_at-black : (buf : Buffer) (n : ℕ) (x y : ℤ) → buf.pixels ≡ replicate n black → pixel_at buf x y ≡ black

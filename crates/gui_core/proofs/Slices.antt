@@ -1,18 +1,17 @@
 -- How a draw buffer holds a slice of a picture.
-use Rattle.std.proofs.Common.{◌≡◌, ◌∙◌, refl, sym, ap, subst, ℕ, ◌+◌, ◌*◌, ◌<◌, pos, length, slice_index_or, replicate, true, arith}
+use Rattle.std.proofs.Common.{◌≡◌, ◌∙◌, refl, sym, ap, subst, ℕ, ◌+◌, ◌*◌, ◌<◌, pos, length, slice_index_or, true, arith}
 use Rattle.std.specs.Prelude.{Some}
 use Rattle.std.proofs.lemmas.Int.{ints}
 use Rattle.std.proofs.lemmas.Bool.Decides.{nat_tests}
 use Rattle.std.proofs.lemmas.Grind.{common_steps, rows}
 use Rattle.std.proofs.lemmas.Option.{slice_get-get_or}
 use Rattle.gui_base.specs.declared.color.Rgb565.{Rgb565}
-use Rattle.gui_base.specs.Area.{Rect, has, width_of, height_of, size_of}
+use Rattle.gui_base.specs.Area.{Rect, has, width_of, height_of}
 use Rattle.gui_base.specs.Color.{black}
 use Rattle.gui_color.specs.Buffer.{Buffer, IsWhole, distance, place, pixel_at}
-use Rattle.gui_color.proofs.Pixels.{pixel_at-black}
+use Rattle.gui_draw.specs.Drawing.{ShowsColors}
 use Rattle.scene_defs.specs.Scene.{Scene}
 use Rattle.scene_defs.specs.Picture.{paint}
-use Rattle.gui_core.specs.Painting.{Paints, painted_scene}
 use Rattle.gui_core.specs.Panels.{ArePainted, slice_rect}
 
 line_place : (w n x y : ℕ) → x < w → y < n → y * w + x < w * n
@@ -50,12 +49,8 @@ slice_from_pixels scene from n buf whole is each = record {
       ∙ ap (λ (c : Rgb565). Some c) (ap (λ (i : ℕ). slice_index_or buf.pixels i black) (sym at_place) ∙ each x y a b);
 }
 
--- a buffer that was black holds a slice of a scene that was painted over it
-pub scene_slice : (scene : Scene) (from n : ℕ) (begun painted : Buffer) → begun.area ≡ slice_rect scene.limits.width from n → begun.pixels ≡ replicate (size_of (slice_rect scene.limits.width from n)) black →
-    Paints begun painted (painted_scene scene) → IsWhole painted → ArePainted scene from n painted.pixels
-unfolding painted_scene
-scene_slice scene from n begun painted is none paints whole =
-    slice_from_pixels scene from n painted whole (paints.area_stays ∙ is) (λ x y a b.
-    let inside : has begun.area (pos x) (pos (from + y)) ≡ true = subst (λ (area : Rect). has area (pos x) (pos (from + y)) ≡ true) (sym is) (in_lines scene.limits.width from n x y a b) in
-    paints.pixels (pos x) (pos (from + y)) inside
-    ∙ ap (painted_scene scene (pos x) (pos (from + y))) (pixel_at-black begun (size_of (slice_rect scene.limits.width from n)) (pos x) (pos (from + y)) none))
+-- a buffer that shows the picture of a scene holds a slice of it
+pub scene_slice : (scene : Scene) (from n : ℕ) (begun painted : Buffer) → begun.area ≡ slice_rect scene.limits.width from n → ShowsColors begun painted (paint scene) → IsWhole painted → ArePainted scene from n painted.pixels
+scene_slice scene from n begun painted is shows whole =
+    slice_from_pixels scene from n painted whole (shows.area_stays ∙ is) (λ x y a b.
+    shows.pixels (pos x) (pos (from + y)) (subst (λ (area : Rect). has area (pos x) (pos (from + y)) ≡ true) (sym is) (in_lines scene.limits.width from n x y a b)))

@@ -1,4 +1,2 @@
 pub mod Machines
-pub mod Painting
 pub mod Panels
-pub mod Spots

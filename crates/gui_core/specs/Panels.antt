@@ -1,10 +1,10 @@
 -- What a refresh does to a panel.
 use Rattle.std.specs.Prelude.{◌≡◌, ℕ, ◌+◌, ◌*◌, ◌<◌, ◌≤◌, List, slice_get, Some, IsSome, IfSome, pos}
 use Rattle.gui_base.specs.declared.color.Rgb565.{Rgb565}
-use Rattle.gui_base.specs.Area.{Rect}
+use Rattle.gui_base.specs.Area.{Rect, area_at}
 use Rattle.gui_base.specs.Limits.{Bounds}
 use Rattle.scene_defs.specs.Scene.{Scene}
-use Rattle.scene_defs.specs.Picture.{area_at, paint, picture}
+use Rattle.scene_defs.specs.Picture.{paint, picture}
 use Rattle.gui_edge.specs.Box.{Box}
 use Rattle.gui_edge.specs.Panel.{PanelState, HasSizes, FlushDone}
 use Rattle.gui_core.specs.declared.Refreshed.{Refreshed}

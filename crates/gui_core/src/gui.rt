@@ -7,11 +7,11 @@ ghost use Rattle.gui_store.specs.Views.{scene_of};
 ghost use Rattle.gui_core.specs.Panels.{Refreshes, IsSlice, ShowsSlice, slice_box, slice_rect};
 
 use crate::Refreshed;
-use crate::area::area_from;
-use crate::paint::paint;
 use gui_base::{Area, Limits, NoMemory, Steps};
 use gui_color::DrawBuf;
+use gui_draw::Picture;
 use gui_edge::{Failed, Panel, Sink};
+use gui_paint::Shown;
 use gui_store::Store;
 use run_defs::{Command, Reply};
 use scene_defs::Change;
@@ -85,7 +85,7 @@ impl Gui {
     }
 
     /// Sends the picture of the scene, in slices of at most the panel's limit, and stops at the first fault.
-    /// `steps` counts the pixels that are written black as each slice begins.
+    /// `steps` counts the pixels that are made black as each slice begins, and those that a fill is mixed over.
     pub fn refresh<P: Panel, B: Ledger>(&mut self, panel: &mut P, steps: &mut Steps<B>) -> Refreshed
         requires { HasSizes (P.state panel.old) (machine_of self.old).scene.limits }
         ensures machine { machine_of self.new ≡ machine_of self.old }
@@ -124,7 +124,7 @@ impl Gui {
     {
         let area = slice_area(self.store.limits().width, from, height);
         self.buffer.begin(area, steps);
-        paint(&self.store, &mut self.buffer);
+        Shown { store: &self.store }.slice(&mut self.buffer, steps);
         panel.flush(area, self.buffer.pixels())
     }
 }
@@ -137,5 +137,5 @@ fn slice_area(width: u32, from: u32, height: u32) -> Area
     ensures place { box_of result ≡ slice_box width from height }
     ensures corners { rect_of result ≡ slice_rect width from height }
 {
-    area_from(0, from as i32, width, height)
+    Area::at(0, from as i32, width, height)
 }

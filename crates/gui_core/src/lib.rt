@@ -1,10 +1,7 @@
 //! The machine: a scene, and how it comes to a panel.
 #![tactic(auto)]
 
-mod area;
-mod fill;
 mod gui;
-mod paint;
 
 pub use gui::Gui;
 pub use run_defs::Reply;

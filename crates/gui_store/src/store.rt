@@ -151,7 +151,8 @@ impl Store {
 
     /// The screen that is shown.
     pub fn active(&self) -> Handle
-        ensures { result.0 ≡ (scene_of self.now).active }
+        ensures screen { result.0 ≡ (scene_of self.now).active }
+        ensures valid { IsValid (scene_of self.now) }
     {
         self.active
     }

@@ -65,7 +65,7 @@ near place trees room =
     let l = room.left in let r = room.right in let t = room.top in let b = room.bottom in
     record { left = omega (arith, ints); right = omega (arith, ints); top = omega (arith, ints); bottom = omega (arith, ints) }
 
-offset_bounds : (n : ℤ) → IsOffset n → (negsuc 3999 ≤ℤ n) × (n ≤ℤ pos 4000)
+pub offset_bounds : (n : ℤ) → IsOffset n → (negsuc 3999 ≤ℤ n) × (n ≤ℤ pos 4000)
 offset_bounds n e = (grind (arith, ints, nat_tests, e), grind (arith, ints, nat_tests, e))
 
 module _ (scene : Scene) (parent : Rect) (object : Object) (cs rest : Forest Object) (room : HasRoom parent (Tree object cs rest)) where

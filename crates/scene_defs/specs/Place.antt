@@ -1,18 +1,13 @@
 -- Where objects stand.
-use Rattle.std.specs.Prelude.{ℕ, if◌then◌else◌, Some, None, ℤ, pos, ◌+ℤ◌, ◌-ℤ◌}
+use Rattle.std.specs.Prelude.{ℕ, if◌then◌else◌, Some, None, pos, ◌+ℤ◌}
 use Rattle.std.specs.declared.option.Option.{Option}
 use Rattle.gui_base.specs.declared.words.Length.{Length}
 use Rattle.gui_base.specs.declared.words.Length.TheVariants.{Pixels}
-use Rattle.gui_base.specs.Area.{Rect}
+use Rattle.gui_base.specs.Area.{Rect, area_at}
 use Rattle.gui_base.specs.Forest.{Forest, Empty, Tree, has_by}
 use Rattle.scene_defs.specs.declared.Row.{Row}
 use Rattle.scene_defs.specs.Row.{is_root}
 use Rattle.scene_defs.specs.Scene.{Object, Scene, is_at}
-
--- the area from a corner with these sizes in pixels
-abbrev pub area_at : ℤ → ℤ → ℕ → ℕ → Rect
-area_at x y width height =
-    record { x1 = x; y1 = y; x2 = (x +ℤ pos width) -ℤ pos 1; y2 = (y +ℤ pos height) -ℤ pos 1 }
 
 abbrev pub panel_of : Scene → Rect
 panel_of scene = area_at (pos 0) (pos 0) scene.limits.width scene.limits.height

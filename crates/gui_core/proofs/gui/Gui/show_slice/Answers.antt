@@ -1,7 +1,6 @@
-use Rattle.std.proofs.Common.{◌≡◌, ap, subst, ℕ, replicate}
+use Rattle.std.proofs.Common.{◌≡◌, ap, subst, ℕ}
 use Rattle.std.proofs.lemmas.Result.{on_ok_weaker}
-use Rattle.gui_base.specs.Area.{Rect, size_of}
-use Rattle.gui_base.specs.Color.{black}
+use Rattle.gui_base.specs.Area.{Rect}
 use Rattle.gui_base.specs.Corners.{rect_of}
 use Rattle.gui_base.specs.Limits.{Bounds}
 use Rattle.gui_edge.specs.Panel.Areas.{box_of}
@@ -19,10 +18,9 @@ returns-clause-ok g c =
     let corners = subst (λ (w : ℕ). rect_of c.slice_area-area.result ≡ slice_rect w from height) width c.slice_area-area.ensures.corners in
     let place = subst (λ (w : ℕ). box_of c.slice_area-area.result ≡ slice_box w from height) width c.slice_area-area.ensures.place in
     let begun = subst (λ (area : Rect). c.begin.new.self.area ≡ area) corners c.begin.ensures.area in
-    let none = subst (λ (area : Rect). c.begin.new.self.pixels ≡ replicate (size_of area) black) corners c.begin.ensures.black in
-    let is_slice = scene_slice scene from height c.begin.new.self c.paint.new.buf begun none c.paint.ensures c.pixels.ensures.whole in
+    let is_slice = scene_slice scene from height c.begin.new.self c.slice.new.buf begun c.slice.ensures c.pixels.ensures.whole in
     on_ok_weaker c.flush.result (λ done. record {
-      colors = c.paint.new.buf.pixels;
+      colors = c.slice.new.buf.pixels;
       are = is_slice;
       done = rw (← place, ← c.pixels.ensures.colors) done;
     }) c.flush.ensures.ok

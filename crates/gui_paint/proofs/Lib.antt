@@ -1,0 +1,3 @@
+pub mod Painted
+pub mod Trees
+pub mod Values

@@ -1,0 +1,6 @@
+//! The picture of a scene: what is shown of it, back to front.
+#![tactic(auto)]
+
+mod paint;
+
+pub use paint::Shown;

@@ -1,6 +1,6 @@
 -- An area is the set of the pixels between two corners, both included.
-use Rattle.std.specs.Prelude.{◌≡◌, ℕ, ◌*◌, Bool, true, ◌&&◌, ◌||◌, if◌then◌else◌, ℤ, pos, negsuc, ◌≤ℤ◌, ◌+ℤ◌}
-use Rattle.std.specs.Prelude.{◌-ℤ◌}
+use Rattle.std.specs.Prelude.{◌≡◌, ℕ, ◌*◌, Bool, true, ◌&&◌, ◌||◌, not, if◌then◌else◌, ℤ, pos, negsuc, ◌≤ℤ◌}
+use Rattle.std.specs.Prelude.{◌+ℤ◌, ◌-ℤ◌}
 use Rattle.std.specs.Int.{int_max, int_min}
 use Rattle.std.specs.Int.Signed.{le_z, lt_z}
 
@@ -63,6 +63,10 @@ Covers a b = (x y : ℤ) → has b x y ≡ true → has a x y ≡ true
 -- whether both corners of the second lie between those of the first
 abbrev pub has_corners : Rect → Rect → Bool
 has_corners a b = (le_z a.x1 b.x1 && le_z b.x2 a.x2) && (le_z a.y1 b.y1 && le_z b.y2 a.y2)
+
+-- whether the second has a pixel, and all of its pixels are in the first
+abbrev pub is_within : Rect → Rect → Bool
+is_within a b = not (is_empty b) && has_corners a b
 
 -- the least area with the pixels of both; that of an empty one and another is the other
 abbrev pub joined : Rect → Rect → Rect

@@ -6,7 +6,7 @@ use Rattle.gui_base.specs.declared.color.Rgb565.{Rgb565}
 use Rattle.gui_base.specs.Area.{has, count_between}
 use Rattle.gui_base.specs.Color.{black}
 use Rattle.gui_base.proofs.Areas.{between_has}
-use Rattle.gui_color.specs.Buffer.{Buffer, IsWhole, HoldsRow, distance, place, pixel_at, row_of, with_row, row_area}
+use Rattle.gui_color.specs.Buffer.{Buffer, IsWhole, HoldsRow, distance, place, color_at, pixel_at, row_of, with_row, row_area}
 use Rattle.gui_color.proofs.Places.{place_fits, place_along, place_end, count_is, outside_row}
 use Rattle.gui_color.proofs.Runs.{run_inside, run_before, run_after, part_at}
 
@@ -34,7 +34,7 @@ distance_in x1 x2 x p q =
 
 -- the colours of a row are those of its pixels
 pub slice_index_or-row_of : (buf : Buffer) (y x1 x2 x : ℤ) → HasRow buf y x1 x2 → x1 ≤ℤ x → x ≤ℤ x2 → slice_index_or (row_of buf y x1 x2) (distance x1 x) black ≡ pixel_at buf x y
-unfolding row_of pixel_at
+unfolding row_of pixel_at color_at
 slice_index_or-row_of buf y x1 x2 x h p q =
     part_at buf.pixels (place buf.area x1 y) (place buf.area x2 y + 1) (distance x1 x) black (omega (arith, run_end buf y x1 x2 h, distance_in x1 x2 x p q))
     ∙ ap (λ k. slice_index_or buf.pixels k black) (sym (place_in buf y x1 x2 x h p))
@@ -42,14 +42,14 @@ slice_index_or-row_of buf y x1 x2 x h p q =
 -- a pixel that was written over
 pub pixel_at-with_row_in : (buf : Buffer) (y x1 x2 x : ℤ) (ws : List Rgb565) → HasRow buf y x1 x2 → length ws ≡ count_between x1 x2 → x1 ≤ℤ x → x ≤ℤ x2
     → pixel_at (with_row buf y x1 ws) x y ≡ slice_index_or ws (distance x1 x) black
-unfolding pixel_at
+unfolding pixel_at color_at
 pixel_at-with_row_in buf y x1 x2 x ws h n p q =
     rw (place_in buf y x1 x2 x h p) (run_inside buf.pixels (place buf.area x1 y) ws (distance x1 x) black (omega (arith, n, distance_in x1 x2 x p q)) (omega (arith, run_fits buf y x1 x2 h, n)))
 
 -- each other pixel stays as it was
 pub pixel_at-with_row_out : (buf : Buffer) (y x1 x2 x v : ℤ) (ws : List Rgb565) → HasRow buf y x1 x2 → length ws ≡ count_between x1 x2
     → has buf.area x v ≡ true → has (row_area y x1 x2) x v ≡ false → pixel_at (with_row buf y x1 ws) x v ≡ pixel_at buf x v
-unfolding pixel_at
+unfolding pixel_at color_at
 pixel_at-with_row_out buf y x1 x2 x v ws h n i o =
     let fits = run_fits buf y x1 x2 h in
     let end = run_end buf y x1 x2 h in
@@ -78,5 +78,5 @@ holds_row buf y x1 x2 h = record {
 
 -- a black buffer
 pub pixel_at-black : (buf : Buffer) (n : ℕ) (x y : ℤ) → buf.pixels ≡ replicate n black → pixel_at buf x y ≡ black
-unfolding pixel_at
+unfolding pixel_at color_at
 pixel_at-black buf n x y h = rw h (grind (arith, places))

@@ -28,9 +28,13 @@ distance from to = unsigned_abs (to -ℤ from)
 unfoldable pub place : Rect → ℤ → ℤ → ℕ
 place area x y = distance area.y1 y * width_of area + distance area.x1 x
 
--- the colour of a pixel of the area
+-- the colour of a pixel of an area whose pixels have these colours, row by row
+unfoldable pub color_at : Rect → List Rgb565 → ℤ → ℤ → Rgb565
+color_at area colors x y = slice_index_or colors (place area x y) black
+
+-- the colour of a pixel of the buffer's area
 unfoldable pub pixel_at : Buffer → ℤ → ℤ → Rgb565
-pixel_at buf x y = slice_index_or buf.pixels (place buf.area x y) black
+pixel_at buf x y = color_at buf.area buf.pixels x y
 
 -- each pixel is black
 abbrev pub IsBlack : Buffer → Type 0

@@ -106,8 +106,8 @@ impl DrawBuf {
     }
 }
 
-/// How many pixels of an area come before one of its pixels.
-fn place_of(area: Area, x: i32, y: i32) -> usize
+/// How many pixels of an area come before one of its pixels, row by row.
+pub fn place_of(area: Area, x: i32, y: i32) -> usize
     requires { has (rect_of area) x y ≡ true }
     ensures place { result ≡ place (rect_of area) x y }
     ensures below { result < size_of (rect_of area) }

@@ -5,6 +5,6 @@ pub mod buffer;
 pub mod mixing;
 pub mod row;
 
-pub use buffer::DrawBuf;
+pub use buffer::{DrawBuf, place_of};
 pub use mixing::{combine, mix};
 pub use row::fill_row;

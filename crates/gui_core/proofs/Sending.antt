@@ -1,119 +1,131 @@
 -- How a panel comes to show a scene, slice by slice.
-use Rattle.std.proofs.Common.{◌≡◌, ◌∙◌, subst, ℕ, ◌+◌, ◌-◌, ◌*◌, ◌<◌, ◌≤◌, List, length, arith, refl, zero-add, inl, inr}
-use Rattle.std.specs.Prelude.{Some, None, IfSome, IsSome, pos}
-use Rattle.std.specs.List.{slice_get}
+use Rattle.std.proofs.Common.{◌≡◌, ◌∙◌, sym, ap, subst, ℕ, ◌+◌, ◌*◌, ◌<◌, ◌≤◌, ◌+ℤ◌, ◌-ℤ◌, List, length, true, ◌||◌, arith, refl}
+use Rattle.std.specs.Prelude.{Some, None, IfSome, pos}
 use Rattle.std.specs.declared.option.Option.{Option}
-use Rattle.std.proofs.lemmas.Bool.Decides.{nat_tests}
-use Rattle.std.proofs.lemmas.Bool.{cases_lt}
-use Rattle.std.proofs.lemmas.Grind.{rows}
+use Rattle.std.proofs.lemmas.Grind.{common_steps, rows}
+use Rattle.std.proofs.lemmas.Int.{ints}
+use Rattle.std.proofs.lemmas.Nat.{mul-le}
+use Rattle.std.proofs.lemmas.Option.{slice_get-get_or}
 use Rattle.gui_base.specs.declared.color.Rgb565.{Rgb565}
-use Rattle.gui_base.specs.Limits.{Bounds}
+use Rattle.gui_base.specs.Area.{Rect, area_at, has, is_within, width_of, height_of}
+use Rattle.gui_base.specs.Color.{black}
+use Rattle.gui_color.specs.Buffer.{color_at, place, distance}
 use Rattle.scene_defs.specs.Scene.{Scene}
-use Rattle.scene_defs.specs.Picture.{paint, picture}
+use Rattle.scene_defs.specs.Picture.{panel_of, paint, picture}
 use Rattle.scene_defs.proofs.Pictures.{picture_from_pixels}
-use Rattle.gui_edge.specs.Told.{Told}
-use Rattle.gui_edge.specs.Box.{Box}
-use Rattle.gui_edge.specs.Panel.{PanelState, TellsEach, HasSizes, Flushes, FlushFailed, Shows, SameOutside}
+use Rattle.gui_edge.specs.KeepsTelling.{KeepsTelling}
+use Rattle.gui_edge.specs.Panel.{PanelState, area_of, TellsEach, HasSizes, CanFlush, Flushes, FlushDone, FlushFailed, Shows}
+use Rattle.gui_edge.proofs.Telling.{keeps_telling-same, keeps_telling-more, keeps_telling-some}
+use Rattle.gui_edge.proofs.Lines.{first_lines, lines_from, first_lines-none, first_lines-more}
+use Rattle.gui_edge.proofs.Showing.{Shows-none, Shows-more}
 use Rattle.gui_core.specs.declared.Refreshed.TheVariants.{Done, Fault}
-use Rattle.gui_core.specs.Panels.{KeepsPanel, Refreshes, ArePainted, ShowsSlice, slice_box}
+use Rattle.gui_core.specs.Panels.{KeepsPanel, Refreshes}
 
--- the colours above y = n are those of the picture
-pub record PaintedAbove (scene : Scene) (n : ℕ) (colors : List Rgb565) : Type 0 where
-  pub each : (x y : ℕ) → x < scene.limits.width → y < n → slice_get colors (y * scene.limits.width + x) ≡ Some (paint scene (pos x) (pos y))
+-- lines of a panel
+abbrev pub lines_of : Scene → ℕ → ℕ → Rect
+lines_of scene from count = area_at (pos 0) (pos from) scene.limits.width count
+
+-- the picture shows above y = n
+abbrev pub ShowsAbove : Scene → ℕ → List Rgb565 → List Rgb565 → Type 0
+ShowsAbove scene n = Shows (panel_of scene) (first_lines (panel_of scene) n) (paint scene)
 
 -- what is above y = n has been sent
 pub record SentAbove (scene : Scene) (old new : PanelState) (n : ℕ) : Type 0 where
   pub keeps : KeepsPanel old new
   pub sizes : HasSizes new scene.limits
-  pub painted : IfSome new.shows (PaintedAbove scene n)
-
-pub KeepsPanel-self : (p : PanelState) → KeepsPanel p p
-KeepsPanel-self p = record { told = λ t. t; frames = refl; present_faults = refl; flush_faults = omega arith }
-
-KeepsPanel-more : (p q r : PanelState) → KeepsPanel p q → KeepsPanel q r → KeepsPanel p r
-KeepsPanel-more p q r h k = record {
-  told = λ t. k.told (h.told t);
-  frames = k.frames ∙ h.frames;
-  present_faults = k.present_faults ∙ h.present_faults;
-  flush_faults = omega arith;
-}
+  pub shows : KeepsTelling old.shows new.shows (ShowsAbove scene n)
 
 pub sent_start : (scene : Scene) (p : PanelState) → HasSizes p scene.limits → SentAbove scene p p 0
-sent_start scene p sizes = record { keeps = KeepsPanel-self p; sizes = sizes; painted = none_yet p.shows } where
-  none_yet : (o : Option (List Rgb565)) → IfSome o (PaintedAbove scene 0)
-  none_yet None = tt
-  none_yet (Some s) = record { each = λ x y a b. absurd (omega arith) }
-
-told_on : (R : List Rgb565 → List Rgb565 → Type 0) (a b : Option (List Rgb565)) → Told a b R → IsSome a → IsSome b
-told_on R None b t h = cc
-told_on R (Some old) None t h = elim t [ ]
-told_on R (Some old) (Some new) t h = refl
-
-flush_sizes : (q r : PanelState) (limits : Bounds) (area : Box) → HasSizes q limits → Flushes q r area → HasSizes r limits
-flush_sizes q r limits area sizes flushes = record {
-  width_is = flushes.width ∙ sizes.width_is;
-  height_is = flushes.height ∙ sizes.height_is;
-  limit_is = flushes.limit ∙ sizes.limit_is;
-  opened = omega (arith, flushes.limit, sizes.opened);
+sent_start scene p sizes = record {
+  keeps = record { told = λ t. t; frames = refl; present_faults = refl; flush_faults = omega arith };
+  sizes = sizes;
+  shows = keeps_telling-same p.shows _ (λ s. Shows-none _ _ _ s (first_lines-none (panel_of scene)));
 }
 
-flush_keeps : (q r : PanelState) (area : Box) (R : List Rgb565 → List Rgb565 → Type 0) → Flushes q r area → q.flush_faults ≤ r.flush_faults → Told q.shows r.shows R → KeepsPanel q r
-flush_keeps q r area R flushes faults told = record {
-  told = told_on R q.shows r.shows told;
-  frames = flushes.frames;
-  present_faults = flushes.present_faults;
-  flush_faults = faults;
+panel_is : (scene : Scene) (p : PanelState) → HasSizes p scene.limits → area_of p ≡ panel_of scene
+panel_is scene p sizes = rw (sizes.width_is, sizes.height_is) refl
+
+width_is : (scene : Scene) (from count : ℕ) → width_of (lines_of scene from count) ≡ scene.limits.width
+width_is scene from count = grind (arith, ints)
+
+height_is : (scene : Scene) (from count : ℕ) → height_of (lines_of scene from count) ≡ count
+height_is scene from count = grind (arith, ints)
+
+-- lines within the panel, no more than those of a slice, may be flushed
+pub can_flush : (scene : Scene) (p : PanelState) (from count : ℕ) → HasSizes p scene.limits → 0 < scene.limits.width → 0 < count → count ≤ scene.limits.lines → from + count ≤ scene.limits.height → CanFlush p (lines_of scene from count)
+can_flush scene p from count sizes wide some few within = record {
+  inside = subst (λ (a : Rect). is_within a (lines_of scene from count) ≡ true) (sym (panel_is scene p sizes)) (grind (arith, ints));
+  small = rw (sizes.limit_is, width_is scene from count, height_is scene from count) (mul-le _ _ _ _ (omega arith) few);
 }
 
-painted_more : (scene : Scene) (from n : ℕ) (old new colors : List Rgb565) → PaintedAbove scene from old → ArePainted scene from n colors →
-    Shows scene.limits.width (slice_box scene.limits.width from n) colors old new → PaintedAbove scene (from + n) new
-painted_more scene from n old new colors rows slice shows = record {
-  each = λ x y a b.
-      let w = scene.limits.width in
-      elim (cases_lt y from) [
-        | inl lt ↦ shows.outside x y a (grind (arith, nat_tests)) ∙ rows.each x y a lt
-        | inr ge ↦
-            let lt : y - from < n = omega arith in
-            let at_y : from + (y - from) ≡ y = omega arith in
-            subst (λ (k : ℕ). slice_get new (k * w + x) ≡ Some (paint scene (pos x) (pos k))) at_y
-            (subst (λ (k : ℕ). slice_get new ((from + (y - from)) * w + k) ≡ slice_get colors ((y - from) * w + x)) (zero-add x) (shows.inside x (y - from) a lt)
-            ∙ slice.each x (y - from) a lt)
-      ];
-}
+-- a flush of an area leaves the sizes, and what else a refresh leaves
+flushed : (scene : Scene) (p q r : PanelState) (area : Rect) (R : List Rgb565 → List Rgb565 → Type 0) → KeepsPanel p q → HasSizes q scene.limits → Flushes q r area → q.flush_faults ≤ r.flush_faults → KeepsTelling q.shows r.shows R →
+    KeepsPanel p r × HasSizes r scene.limits
+flushed scene p q r area R keeps sizes flushes faults shows = (
+  record {
+    told = λ t. keeps_telling-some q.shows r.shows R shows (keeps.told t);
+    frames = flushes.frames ∙ keeps.frames;
+    present_faults = flushes.present_faults ∙ keeps.present_faults;
+    flush_faults = omega (arith, keeps.flush_faults);
+  },
+  record {
+    width_is = flushes.width ∙ sizes.width_is;
+    height_is = flushes.height ∙ sizes.height_is;
+    limit_is = flushes.limit ∙ sizes.limit_is;
+    opened = omega (arith, flushes.limit, sizes.opened);
+  },
+)
 
-pub sent_more : (scene : Scene) (from n : ℕ) (p q r : PanelState) →
-    SentAbove scene p q from → Flushes q r (slice_box scene.limits.width from n) → ShowsSlice q r scene from n → SentAbove scene p r (from + n)
-sent_more scene from n p q r sent flushes slice =
-    let w = scene.limits.width in
-    let area : Box = slice_box w from n in
-    let done = slice.done in record {
-      keeps = KeepsPanel-more p q r sent.keeps (flush_keeps q r area (Shows q.width area slice.colors) flushes (omega (arith, done.count)) done.shows);
-      sizes = flush_sizes q r scene.limits area sent.sizes flushes;
-      painted = go q.shows r.shows sent.painted (subst (λ (k : ℕ). Told q.shows r.shows (Shows k area slice.colors)) sent.sizes.width_is done.shows);
-    } where
-      go : (a b : Option (List Rgb565)) → IfSome a (PaintedAbove scene from) → Told a b (Shows scene.limits.width (slice_box scene.limits.width from n) slice.colors) → IfSome b (PaintedAbove scene (from + n))
-      go None None rows t = tt
-      go None (Some new) rows t = elim t [ ]
-      go (Some old) None rows t = elim t [ ]
-      go (Some old) (Some new) rows t = painted_more scene from n old new slice.colors rows slice.are t
+next_lines : (scene : Scene) (from count : ℕ) → lines_from (panel_of scene) from count ≡ lines_of scene from count
+next_lines scene from count =
+    let top : pos 0 +ℤ pos from ≡ pos from = omega (arith, ints) in
+    let bottom : (pos 0 +ℤ pos (from + count)) -ℤ pos 1 ≡ (pos from +ℤ pos count) -ℤ pos 1 = omega (arith, ints) in
+    rw (top, bottom) refl
+
+pub sent_more : (scene : Scene) (from count : ℕ) (p q r : PanelState) → SentAbove scene p q from → Flushes q r (lines_of scene from count) → FlushDone q r (lines_of scene from count) (paint scene) → SentAbove scene p r (from + count)
+sent_more scene from count p q r sent flushes done =
+    let panel = panel_of scene in
+    let kept = flushed scene p q r _ _ sent.keeps sent.sizes flushes (omega (arith, done.count)) done.shows in record {
+      keeps = kept.0;
+      sizes = kept.1;
+      shows = keeps_telling-more p.shows q.shows r.shows _ _ _
+          (λ x y z h k. Shows-more panel (first_lines panel from) (lines_of scene from count) (first_lines panel (from + count)) (paint scene) x y z
+          (λ u v. subst (λ (b : Rect). has (first_lines panel (from + count)) u v ≡ (has b u v || has (first_lines panel from) u v)) (next_lines scene from count) (first_lines-more panel from count u v))
+          h (subst (λ (a : Rect). Shows a (lines_of scene from count) (paint scene) y z) (panel_is scene q sent.sizes) k))
+          sent.shows done.shows;
+    }
+
+at_place : (scene : Scene) (x y : ℕ) → place (panel_of scene) (pos x) (pos y) ≡ y * scene.limits.width + x
+unfolding place
+at_place scene x y = rw (up y, up x, width_is scene 0 scene.limits.height) refl where
+  up : (n : ℕ) → distance (pos 0) (pos n) ≡ n
+  up n = omega (arith, ints)
+
+line_place : (w n x y : ℕ) → x < w → y < n → y * w + x < w * n
+line_place w n x y a b = grind (arith, common_steps, rows)
+
+-- all lines show the picture
+whole : (scene : Scene) (old new : List Rgb565) → length new ≡ scene.limits.width * scene.limits.height → ShowsAbove scene scene.limits.height old new → new ≡ picture scene
+unfolding color_at
+whole scene old new len h = picture_from_pixels scene new len (λ x y a b.
+    let inside : has (panel_of scene) (pos x) (pos y) ≡ true = grind (arith, ints) in
+    let within : y * scene.limits.width + x < length new = rw len (line_place scene.limits.width scene.limits.height x y a b) in
+    let here = rw inside at (h.each (pos x) (pos y) inside) in
+    slice_get-get_or new (y * scene.limits.width + x) black within ∙ ap (λ (c : Rgb565). Some c) (rw (at_place scene x y) at here))
 
 pub sent_done : (scene : Scene) (p q : PanelState) → TellsEach q → SentAbove scene p q scene.limits.height → Refreshes p q scene Done
 sent_done scene p q each sent = record {
   keeps = sent.keeps;
   sizes = sent.sizes;
-  done = λ e. go q.shows sent.painted (rw (← sent.sizes.width_is, ← sent.sizes.height_is) each);
+  done = λ e. go p.shows q.shows (rw (← sent.sizes.width_is, ← sent.sizes.height_is) each) sent.shows;
   fault = λ e. cc;
 } where
-  go : (o : Option (List Rgb565)) → IfSome o (PaintedAbove scene scene.limits.height) → IfSome o (λ colors. length colors ≡ scene.limits.width * scene.limits.height) → IfSome o (λ colors. colors ≡ picture scene)
-  go None rows len = tt
-  go (Some s) rows len = picture_from_pixels scene s len rows.each
+  go : (a b : Option (List Rgb565)) → IfSome b (λ colors. length colors ≡ scene.limits.width * scene.limits.height) → KeepsTelling a b (ShowsAbove scene scene.limits.height) → IfSome b (λ colors. colors ≡ picture scene)
+  go a None len h = tt
+  go None (Some new) len h = elim h [ ]
+  go (Some old) (Some new) len h = whole scene old new len h
 
-pub sent_fault : (scene : Scene) (from n : ℕ) (p q r : PanelState) → SentAbove scene p q from → Flushes q r (slice_box scene.limits.width from n) →
-    FlushFailed q r (slice_box scene.limits.width from n) → Refreshes p r scene Fault
-sent_fault scene from n p q r sent flushes failed =
-    let area : Box = slice_box scene.limits.width from n in record {
-      keeps = KeepsPanel-more p q r sent.keeps (flush_keeps q r area (SameOutside q.width area) flushes (omega (arith, failed.count)) failed.shows);
-      sizes = flush_sizes q r scene.limits area sent.sizes flushes;
-      done = λ e. cc;
-      fault = λ e. omega (arith, sent.keeps.flush_faults, failed.count);
-    }
+pub sent_fault : (scene : Scene) (from count : ℕ) (p q r : PanelState) → SentAbove scene p q from → Flushes q r (lines_of scene from count) → FlushFailed q r (lines_of scene from count) → Refreshes p r scene Fault
+sent_fault scene from count p q r sent flushes failed =
+    let kept = flushed scene p q r _ _ sent.keeps sent.sizes flushes (omega (arith, failed.count)) failed.shows in
+    record { keeps = kept.0; sizes = kept.1; done = λ e. cc; fault = λ e. omega (arith, sent.keeps.flush_faults, failed.count) }

@@ -1,10 +1,11 @@
 //! The machine.
-ghost use Rattle.std.specs.Prelude.{◌≡◌, ◌*◌, ◌<◌, ◌≤◌, ◌+◌, IfOk, OnOk, OnErr, pos, ◌≤ℤ◌};
+ghost use Rattle.std.specs.Prelude.{◌≡◌, ◌*◌, ◌<◌, ◌≤◌, ◌+◌, IfOk, OnOk, OnErr, pos};
+ghost use Rattle.gui_base.specs.Area.{area_at};
 ghost use Rattle.gui_base.specs.Corners.{rect_of};
-ghost use Rattle.gui_edge.specs.Panel.{HasSizes, Flushes, FlushFailed};
-ghost use Rattle.gui_edge.specs.Panel.Areas.{box_of};
+ghost use Rattle.gui_edge.specs.Panel.{HasSizes, CanFlush, Flushes, FlushDone, FlushFailed};
+ghost use Rattle.scene_defs.specs.Picture.{paint};
 ghost use Rattle.gui_store.specs.Views.{scene_of};
-ghost use Rattle.gui_core.specs.Panels.{Refreshes, IsSlice, ShowsSlice, slice_box, slice_rect};
+ghost use Rattle.gui_core.specs.Panels.{Refreshes};
 
 use crate::Refreshed;
 use gui_base::{Area, Limits, NoMemory, Steps};
@@ -92,11 +93,16 @@ impl Gui {
         ensures refreshes { Refreshes (P.state panel.old) (P.state panel.new) (machine_of self.old).scene
             result }
     {
-        let Limits { height, lines, .. } = *self.store.limits();
+        let Limits {
+            width,
+            height,
+            lines,
+            ..
+        } = *self.store.limits();
         let mut from = 0;
         while from < height {
             let count = lines.min(height - from);
-            match self.show_slice(panel, from, count, steps) {
+            match self.show_slice(panel, lines_area(width, from, count), steps) {
                 Ok(()) => from += count,
                 Err(Failed) => return Refreshed::Fault,
             }
@@ -108,34 +114,28 @@ impl Gui {
     fn show_slice<P: Panel, B: Ledger>(
         &mut self,
         panel: &mut P,
-        from: u32,
-        height: u32,
+        area: Area,
         steps: &mut Steps<B>,
     ) -> Result<(), Failed>
         requires sizes { HasSizes (P.state panel.old) (machine_of self.old).scene.limits }
-        requires slice { IsSlice (machine_of self.old).scene.limits from height }
+        requires slice { CanFlush (P.state panel.old) (rect_of area) }
         ensures machine { machine_of self.new ≡ machine_of self.old }
-        ensures same { Flushes (P.state panel.old) (P.state panel.new)
-            (slice_box (machine_of self.old).scene.limits.width from height) }
-        ensures ok { OnOk result
-            (ShowsSlice (P.state panel.old) (P.state panel.new) (machine_of self.old).scene from height) }
-        ensures err { OnErr result (FlushFailed (P.state panel.old) (P.state panel.new)
-            (slice_box (machine_of self.old).scene.limits.width from height)) }
+        ensures same { Flushes (P.state panel.old) (P.state panel.new) (rect_of area) }
+        ensures ok { OnOk result (FlushDone (P.state panel.old) (P.state panel.new) (rect_of area)
+            (paint (machine_of self.old).scene)) }
+        ensures err { OnErr result (FlushFailed (P.state panel.old) (P.state panel.new) (rect_of area)) }
     {
-        let area = slice_area(self.store.limits().width, from, height);
         self.buffer.begin(area, steps);
         Shown { store: &self.store }.slice(&mut self.buffer, steps);
         panel.flush(area, self.buffer.pixels())
     }
 }
 
-/// A slice of a panel: all of its width, and `height` pixels downward from y = `from` on.
-fn slice_area(width: u32, from: u32, height: u32) -> Area
-    requires wide { (0 < width) × (width ≤ 1024) }
-    requires high { (0 < height) × (from + height ≤ 1024) }
-    ensures corner { (pos 0 ≤ℤ result.x1) × (pos 0 ≤ℤ result.y1) }
-    ensures place { box_of result ≡ slice_box width from height }
-    ensures corners { rect_of result ≡ slice_rect width from height }
+/// Lines of a panel: all of its width, and `count` pixels downward from y = `from` on.
+fn lines_area(width: u32, from: u32, count: u32) -> Area
+    requires wide { width ≤ 1024 }
+    requires high { from + count ≤ 1024 }
+    ensures { rect_of result ≡ area_at (pos 0) (pos from) width count }
 {
-    Area::at(0, from as i32, width, height)
+    Area::at(0, from as i32, width, count)
 }

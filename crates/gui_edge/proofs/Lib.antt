@@ -1,3 +1,5 @@
+pub mod Lines
 pub mod Pieces
-pub mod Placing
 pub mod Prefixes
+pub mod Showing
+pub mod Telling

@@ -1,12 +1,10 @@
 pub mod Adapter
-pub mod Box
 pub mod Causes
 pub mod FaultPlan
+pub mod KeepsTelling
 pub mod MemSink
 pub mod MemSource
 pub mod Panel
-pub mod Screen
 pub mod SimPanel
 pub mod Sink
 pub mod Source
-pub mod Told

@@ -1,19 +1,19 @@
 -- What is known of a panel, and what its calls do to it.
-use Rattle.std.specs.Prelude.{◌≡◌, ℕ, ◌+◌, ◌*◌, ◌<◌, ◌≤◌, min, false, List, length, slice_get}
+use Rattle.std.specs.Prelude.{◌≡◌, ℕ, ◌+◌, ◌*◌, ◌<◌, ◌≤◌, min, true, false, if◌then◌else◌, List, length, ℤ, pos}
 use Rattle.std.specs.Prelude.{IfSome, Ok, Err}
 use Rattle.std.specs.declared.option.Option.{Option}
 use Rattle.std.specs.declared.result.Result.{Result}
 use Rattle.std.specs.Io.KnownBytes.{Appends}
 use Rattle.gui_base.specs.declared.color.Rgb565.{Rgb565}
+use Rattle.gui_base.specs.Area.{Rect, area_at, has, size_of, is_within}
 use Rattle.gui_base.specs.Limits.{Bounds}
 use Rattle.gui_base.specs.Ppm.{ppm}
-use Rattle.gui_edge.specs.Told.{Told}
-use Rattle.gui_edge.specs.Box.{Box, is_inside, box_size}
+use Rattle.gui_color.specs.Buffer.{color_at}
 use Rattle.gui_edge.specs.Causes.{last_count}
+use Rattle.gui_edge.specs.KeepsTelling.{KeepsTelling}
 use Rattle.gui_edge.specs.Sink.{AppendsPrefix}
 use Rattle.gui_edge.specs.declared.panel.OpenFault.{OpenFault}
 use Rattle.gui_edge.specs.declared.panel.OpenFault.TheVariants.{Failed, NoMemory}
-pub mod Areas
 
 pub record PanelState : Type 0 where
   pub width : ℕ
@@ -30,6 +30,10 @@ pub record PanelState : Type 0 where
   pub flush_faults : ℕ
   -- how many frames could not be presented
   pub present_faults : ℕ
+
+-- all pixels of a panel
+abbrev pub area_of : PanelState → Rect
+area_of panel = area_at (pos 0) (pos 0) panel.width panel.height
 
 -- where a panel tells its pixels, it tells as many as it has
 abbrev pub TellsEach : PanelState → Type 0
@@ -56,7 +60,7 @@ pub record Opens (old new : PanelState) (width height limit : ℕ) : Type 0 wher
   pub width_is : new.width ≡ width
   pub height_is : new.height ≡ height
   pub limit_is : new.limit ≡ limit
-  pub shows : Told old.shows new.shows (λ before after. length after ≡ width * height)
+  pub shows : KeepsTelling old.shows new.shows (λ before after. length after ≡ width * height)
   pub frames : new.frames ≡ old.frames
   pub sent : new.sent ≡ old.sent
   pub flush_faults : new.flush_faults ≡ old.flush_faults
@@ -80,47 +84,42 @@ OpenAnswer old new width height limit (Err Failed) =
 OpenAnswer old new width height limit (Err NoMemory) =
     StaysClosed old new × (new.flush_faults ≡ old.flush_faults)
 
--- the area is inside the panel and has at most the limit's pixels, and there is one colour for each
-pub record CanFlush (panel : PanelState) (area : Box) (colors : List Rgb565) : Type 0 where
-  pub wide : 0 < area.width
-  pub high : 0 < area.height
-  pub right : area.x + area.width ≤ panel.width
-  pub bottom : area.y + area.height ≤ panel.height
-  pub small : box_size area ≤ panel.limit
-  pub each : length colors ≡ box_size area
+-- the area is not empty, lies inside the panel, and has at most the limit's pixels
+pub record CanFlush (panel : PanelState) (area : Rect) : Type 0 where
+  pub inside : is_within (area_of panel) area ≡ true
+  pub small : size_of area ≤ panel.limit
 
--- the pixels of the area have these colours, and the others those of before
-pub record Shows (width : ℕ) (area : Box) (colors : List Rgb565) (old new : List Rgb565) : Type 0 where
+-- Each pixel of a panel that is in the area has the colour that is meant for it, and all others those of
+-- before. `old` and `new` have the colours of the panel's pixels, row by row.
+pub record Shows (panel area : Rect) (color : ℤ → ℤ → Rgb565) (old new : List Rgb565) : Type 0 where
   pub len : length new ≡ length old
-  pub inside : (x y : ℕ) → x < area.width → y < area.height →
-      slice_get new ((area.y + y) * width + (area.x + x)) ≡ slice_get colors (y * area.width + x)
-  pub outside : (x y : ℕ) → x < width → is_inside area x y ≡ false →
-      slice_get new (y * width + x) ≡ slice_get old (y * width + x)
+  pub each : (x y : ℤ) → has panel x y ≡ true →
+      color_at panel new x y ≡ (if has area x y then color x y else color_at panel old x y)
 
 -- only pixels of the area may differ
-pub record SameOutside (width : ℕ) (area : Box) (old new : List Rgb565) : Type 0 where
+pub record SameOutside (panel area : Rect) (old new : List Rgb565) : Type 0 where
   pub len : length new ≡ length old
-  pub outside : (x y : ℕ) → x < width → is_inside area x y ≡ false →
-      slice_get new (y * width + x) ≡ slice_get old (y * width + x)
+  pub outside : (x y : ℤ) → has panel x y ≡ true → has area x y ≡ false →
+      color_at panel new x y ≡ color_at panel old x y
 
 -- what each flush does, and what none changes
-pub record Flushes (old new : PanelState) (area : Box) : Type 0 where
+pub record Flushes (old new : PanelState) (area : Rect) : Type 0 where
   pub width : new.width ≡ old.width
   pub height : new.height ≡ old.height
   pub limit : new.limit ≡ old.limit
   pub frames : new.frames ≡ old.frames
   pub present_faults : new.present_faults ≡ old.present_faults
-  pub sent : new.sent ≡ min (old.sent + box_size area) last_count
+  pub sent : new.sent ≡ min (old.sent + size_of area) last_count
 
--- the flush came through: the area shows the colours
-pub record FlushDone (old new : PanelState) (area : Box) (colors : List Rgb565) : Type 0 where
+-- the flush came through: the area shows the colours that are meant for it
+pub record FlushDone (old new : PanelState) (area : Rect) (color : ℤ → ℤ → Rgb565) : Type 0 where
   pub count : new.flush_faults ≡ old.flush_faults
-  pub shows : Told old.shows new.shows (Shows old.width area colors)
+  pub shows : KeepsTelling old.shows new.shows (Shows (area_of old) area color)
 
 -- the flush failed: only pixels of the area may differ
-pub record FlushFailed (old new : PanelState) (area : Box) : Type 0 where
+pub record FlushFailed (old new : PanelState) (area : Rect) : Type 0 where
   pub count : old.flush_faults < new.flush_faults
-  pub shows : Told old.shows new.shows (SameOutside old.width area)
+  pub shows : KeepsTelling old.shows new.shows (SameOutside (area_of old) area)
 
 -- what no presenting changes
 pub record Presents (old new : PanelState) : Type 0 where

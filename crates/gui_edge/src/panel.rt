@@ -1,5 +1,7 @@
 //! The panel.
-ghost use Rattle.std.specs.Prelude.{◌≡◌, ◌<◌, OnOk, OnErr, pos, ◌≤ℤ◌};
+ghost use Rattle.std.specs.Prelude.{◌≡◌, ◌<◌, length, OnOk, OnErr};
+ghost use Rattle.gui_base.specs.Area.{size_of};
+ghost use Rattle.gui_color.specs.Buffer.{color_at};
 ghost use Rattle.gui_edge.specs.Causes.{Rose};
 ghost use Rattle.gui_edge.specs.Panel.{PanelState, TellsEach, CanOpen, OpenAnswer, CanFlush, Flushes};
 ghost use Rattle.gui_edge.specs.Panel.{FlushDone, FlushFailed, Presents, WritesFrame, WritesPrefix};
@@ -22,7 +24,7 @@ pub enum OpenFault {
 
 /// A panel, which may tell what it shows and what it has presented, and counts its faults.
 pub trait Panel {
-    ghost use Rattle.gui_edge.specs.Panel.Areas.{box_of};
+    ghost use Rattle.gui_base.specs.Corners.{rect_of};
 
     ghost state: { Self → PanelState };
 
@@ -33,14 +35,15 @@ pub trait Panel {
         requires sizes { CanOpen width height limit }
         ensures { OpenAnswer (state self.old) (state self.new) width height limit result };
 
-    /// Makes the pixels of an area show these colours, one for each in reading order: from left to right,
-    /// then downward. After a failure only pixels of the area may differ.
+    /// Makes the pixels of an area show these colours, one for each, row by row. After a failure only pixels
+    /// of the area may differ.
     fn flush(&mut self, area: Area, pixels: &[Rgb565]) -> Result<(), Failed>
-        requires corner { (pos 0 ≤ℤ area.x1) × (pos 0 ≤ℤ area.y1) }
-        requires area { CanFlush (state self.old) (box_of area) pixels.now }
-        ensures same { Flushes (state self.old) (state self.new) (box_of area) }
-        ensures ok { OnOk result (FlushDone (state self.old) (state self.new) (box_of area) pixels.now) }
-        ensures err { OnErr result (FlushFailed (state self.old) (state self.new) (box_of area)) };
+        requires area { CanFlush (state self.old) (rect_of area) }
+        requires each { length pixels.now ≡ size_of (rect_of area) }
+        ensures same { Flushes (state self.old) (state self.new) (rect_of area) }
+        ensures ok { OnOk result (FlushDone (state self.old) (state self.new) (rect_of area)
+            (color_at (rect_of area) pixels.now)) }
+        ensures err { OnErr result (FlushFailed (state self.old) (state self.new) (rect_of area)) };
 
     /// Presents what the panel shows as a frame, a picture file of the form P6. Where it fails, it presents a
     /// prefix of that file.

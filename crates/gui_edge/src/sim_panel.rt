@@ -1,18 +1,20 @@
 //! A panel in memory, which presents its frames to a sink.
-ghost use Rattle.std.specs.Prelude.{◌≡◌, ◌↔◌, ◌+◌, ◌*◌, ◌<◌, ◌≤ℤ◌, pos, length, replicate, slice_get};
+ghost use Rattle.std.specs.Prelude.{◌≡◌, ◌↔◌, ◌+◌, ◌*◌, ◌<◌, length, replicate, slice_get};
 ghost use Rattle.std.specs.Prelude.{Some, OnOk, OnErr, IsErr, IsTrue, true, false, []};
-ghost use Rattle.gui_edge.specs.Box.{box_size};
+ghost use Rattle.gui_base.specs.Area.{size_of};
+ghost use Rattle.gui_base.specs.Corners.{rect_of};
+ghost use Rattle.gui_color.specs.Buffer.{color_at};
 ghost use Rattle.gui_edge.specs.Causes.{Rose, HasCause};
 ghost use Rattle.gui_edge.specs.FaultPlan.{plan_of, next_fails, after_call};
 ghost use Rattle.gui_edge.specs.Panel.{CanOpen, OpenAnswer, CanFlush, Flushes, FlushDone, FlushFailed};
-ghost use Rattle.gui_edge.specs.Panel.{Shows, Presents, WritesFrame, WritesPrefix};
+ghost use Rattle.gui_edge.specs.Panel.{area_of, Shows, Presents, WritesFrame, WritesPrefix};
 ghost use Rattle.gui_edge.specs.SimPanel.{open_fails, panel_state};
 
 use crate::Failed;
 use crate::fault_plan::FaultPlan;
 use crate::panel::{OpenFault, Panel};
 use crate::ppm::write_frame;
-use crate::screen::{fill_area, write_area};
+use crate::screen::{fill_area, panel_area, write_area};
 use crate::sink::Sink;
 use gui_base::{Area, Rgb565};
 use std::alloc::Global;
@@ -119,8 +121,6 @@ impl<F: Sink> SimPanel<F> {
 }
 
 impl<F: Sink> Panel for SimPanel<F> {
-    ghost use Rattle.gui_edge.specs.Panel.Areas.{box_of};
-
     ghost state = { λ p. panel_state F.state p };
 
     /// Opens the panel. All pixels then show `UNWRITTEN`. Where the plan says so, the first opening fails.
@@ -152,26 +152,27 @@ impl<F: Sink> Panel for SimPanel<F> {
 
     /// Makes the area show the colours, or where the plan says so `BROKEN`.
     fn flush(&mut self, area: Area, pixels: &[Rgb565]) -> Result<(), Failed>
-        requires corner { (pos 0 ≤ℤ area.x1) × (pos 0 ≤ℤ area.y1) }
-        requires area { CanFlush (panel_state F.state self.old) (box_of area) pixels.now }
-        ensures same { Flushes (panel_state F.state self.old) (panel_state F.state self.new) (box_of area) }
+        requires area { CanFlush (panel_state F.state self.old) (rect_of area) }
+        requires each { length pixels.now ≡ size_of (rect_of area) }
+        ensures same { Flushes (panel_state F.state self.old) (panel_state F.state self.new) (rect_of area) }
         ensures ok { OnOk result (FlushDone (panel_state F.state self.old) (panel_state F.state self.new)
-            (box_of area) pixels.now) }
+            (rect_of area) (color_at (rect_of area) pixels.now)) }
         ensures err { OnErr result (FlushFailed (panel_state F.state self.old) (panel_state F.state self.new)
-            (box_of area)) }
+            (rect_of area)) }
 
         ensures fails { IsErr result ↔ IsTrue (next_fails self.old.plan.flushes) }
-        ensures broken { OnErr result (Shows self.old.width (box_of area)
-            (replicate (box_size (box_of area)) BROKEN) self.old.pixels self.new.pixels) }
+        ensures broken { OnErr result (Shows (area_of (panel_state F.state self.old)) (rect_of area)
+            (λ x y. BROKEN) self.old.pixels self.new.pixels) }
         ensures plan { self.new.plan ≡ record self.old.plan { flushes = after_call self.old.plan.flushes } }
         ensures frames { self.new.frames ≡ self.old.frames }
     {
         self.sent = self.sent.saturating_add(area.size());
+        let panel = panel_area(self.width, self.height);
         if self.flushes.call_fails() {
-            fill_area(&mut self.pixels, self.width, area, BROKEN);
+            fill_area(&mut self.pixels, panel, area, BROKEN);
             return Err(Failed);
         }
-        write_area(&mut self.pixels, self.width, area, pixels);
+        write_area(&mut self.pixels, panel, area, pixels);
         Ok(())
     }
 

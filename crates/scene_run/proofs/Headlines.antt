@@ -1,15 +1,14 @@
 -- The headline from the reading.
 use Rattle.std.proofs.Common.{◌≡◌, subst, sym, [], ℕ, ◌*◌, ◌≤◌, arith, refl, List}
-use Rattle.std.specs.Prelude.{Some, None, IsSome}
+use Rattle.std.specs.Prelude.{Some, None}
 use Rattle.std.specs.declared.option.Option.{Option}
 use Rattle.std.specs.Io.KnownBytes.{Appends}
 use Rattle.std.proofs.lemmas.Nat.{mul-le}
-use Rattle.gui_base.specs.declared.color.Rgb565.{Rgb565}
 use Rattle.gui_base.specs.Limits.{Bounds}
 use Rattle.run_defs.specs.Machine.{Machine, first_machine}
 use Rattle.run_defs.specs.Run.{Moment, first_moment}
 use Rattle.run_defs.specs.Script.{Said}
-use Rattle.gui_edge.specs.Told.{Told}
+use Rattle.gui_edge.proofs.Telling.{keeps_telling-some}
 use Rattle.gui_edge.specs.Source.{SourceState}
 use Rattle.gui_edge.specs.Sink.{SinkState}
 use Rattle.gui_edge.specs.Panel.{PanelState, Opens, HasSizes}
@@ -19,11 +18,6 @@ use Rattle.scene_run.proofs.Effects.{Appends-nothing}
 use Rattle.scene_run.proofs.Going.{Answers-more}
 use Rattle.scene_run.specs.declared.status.Status.{Status}
 use Rattle.scene_run.specs.declared.status.Status.TheVariants.{Done, Noted, Usage, ReadFault, WriteFault, PanelFault, NoMemory, TooLong}
-
-told_on : (a b : Option (List Rgb565)) (R : List Rgb565 → List Rgb565 → Type 0) → Told a b R → IsSome a → IsSome b
-told_on None b R t h = cc
-told_on (Some old) None R t h = elim t [ ]
-told_on (Some old) (Some new) R t h = refl
 
 -- a panel that was just opened has the sizes
 pub opened_sizes : (old new : PanelState) (limits : Bounds) → Opens old new limits.width limits.height (limits.width * limits.lines) → 1 ≤ limits.width → 1 ≤ limits.lines → HasSizes new limits
@@ -46,7 +40,7 @@ answers_since start log old opened new width height limit opens sizes lines h = 
       frames = λ t. subst (λ (f : Option (List ℕ)). Appends old.frames f []) (sym opens.frames) (Appends-nothing old.frames);
       shown = tt;
       faults = omega (arith, opens.flush_faults);
-      keeps = record { told = told_on old.shows opened.shows _ opens.shows; flush_faults = omega (arith, opens.flush_faults); present_faults = omega (arith, opens.present_faults) };
+      keeps = record { told = keeps_telling-some old.shows opened.shows _ opens.shows; flush_faults = omega (arith, opens.flush_faults); present_faults = omega (arith, opens.present_faults) };
     };
     log = Appends-nothing log.held;
     log_faults = omega arith;

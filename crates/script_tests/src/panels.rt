@@ -37,7 +37,7 @@ impl ListingPanel {
 
 impl Panel for ListingPanel {
     ghost use Rattle.std.specs.Prelude.{Some};
-    ghost use Rattle.gui_edge.specs.Panel.Areas.{box_of};
+    ghost use Rattle.gui_base.specs.Corners.{rect_of};
 
     ghost state = { λ p. ⟦<SimPanel<MemSink> as Panel>⟧.state p.panel };
 

@@ -1,40 +1,26 @@
-use Rattle.std.proofs.Common.{rules, ◌≡◌, ◌∙◌, ap, ◌+◌, ◌*◌, ◌-◌, ◌≤◌, ◌<◌, replicate, arith, length}
-use Rattle.std.proofs.lemmas.List.{length-replicate}
-use Rattle.gui_edge.proofs.Placing.{shows_row, get-same, row_room, filled_part}
+use Rattle.std.proofs.Common.{◌≡◌, ℕ, ◌<◌, List, replicate, length, slice_index_or, ap, arith}
+use Rattle.std.proofs.lemmas.List.{length-replicate, get_or-replicate}
+use Rattle.gui_base.specs.declared.color.Rgb565.{Rgb565}
+use Rattle.gui_base.specs.Color.{black}
+use Rattle.gui_base.specs.Area.{height_of}
+use Rattle.gui_base.specs.Corners.{rect_of}
+use Rattle.gui_edge.proofs.Showing.{Shows-none}
+use Rattle.gui_edge.proofs.Lines.{first_lines-none, first_lines-all, line_more}
 use Rattle.gui_edge.proofs.screen.fill_area.Goals as goal
 
-pub slice_bounds-fill-end : goal.slice_bounds-fill-end
-slice_bounds-fill-end c =
-    let w = c.args.width in
-    let x = c.left-x.result in
-    let y = c.top-y.result in
-    let columns = c.width-columns.result in
-    let lines = c.height-down-end.result in
-    let n = c.loop-down.down in
-    let lt : n < lines = omega arith in
-    let right : x + columns ≤ w = rw (c.left-x.ensures, c.width-columns.ensures) c.requires.holds.right in
-    let bottom : (y + lines) * w ≤ length c.args.shown.now = rw (c.top-y.ensures, c.height-down-end.ensures) c.requires.holds.bottom in
-    let room : (y + n) * w + (x + columns) ≤ length c.loop-down.shown = row_room w x columns y n lines (length c.loop-down.shown) right (omega arith) lt in
-    search rules
+filled : (color : Rgb565) (n i : ℕ) (ys : List Rgb565) → ys ≡ replicate n color → i < length ys → slice_index_or ys i black ≡ color
+filled color n i ys e lt = rw e (get_or-replicate n i color black (omega (arith, ap length e, length-replicate n color)))
 
-pub loop-down-preserved : goal.loop-down-preserved
-loop-down-preserved c =
-    let w = c.args.width in
-    let x = c.left-x.result in
-    let y = c.top-y.result in
-    let columns = c.width-columns.result in
-    let lines = c.height-down-end.result in
-    let n = c.loop-down.down in
-    let lt : n < lines = omega arith in
-    let right : x + columns ≤ w = rw (c.left-x.ensures, c.width-columns.ensures) c.requires.holds.right in
-    let bottom : (y + lines) * w ≤ length c.args.shown.now = rw (c.top-y.ensures, c.height-down-end.ensures) c.requires.holds.bottom in
-    let room : (y + n) * w + (x + columns) ≤ length c.loop-down.shown = row_room w x columns y n lines (length c.loop-down.shown) right (omega arith) lt in
-    let count : ((y + n) * w + x + columns) - ((y + n) * w + x) ≡ columns = omega arith in
-    let filled : c.fill.new.self ≡ replicate columns c.args.color = filled_part ((y + n) * w + x) _ columns c.args.color c.loop-down.shown c.fill.new.self (c.fill.ensures.after (λ color same. same)) count (omega arith) in
-    rw count (shows_row w x y columns n (replicate (columns * lines) c.args.color) c.args.shown.now c.loop-down.shown c.fill.new.self right room
-    (ap length filled ∙ length-replicate columns c.args.color) (λ i lt'. get-same columns lines n i c.args.color c.fill.new.self filled lt lt') c.loop-down.invariant)
+pub loop-line-init : goal.loop-line-init
+loop-line-init c = Shows-none _ _ _ _ (first_lines-none (rect_of c.args.area))
+
+pub loop-line-preserved : goal.loop-line-preserved
+loop-line-preserved c =
+    let same = c.fill.ensures.after (λ color e. e) in
+    line_more (rect_of c.args.panel) (rect_of c.args.area) _ c.args.shown.now c.loop-line.shown _ c.loop-line.line c.line_start-at.result c.width-columns.result c.requires.inside (omega arith) c.requires.all
+    c.line_start-at.ensures.place c.width-columns.ensures c.fill.ensures.len (λ x p q lt. filled _ _ _ _ same lt) c.loop-line.invariant
 
 pub returns : goal.returns
 returns c =
-    let last : c.loop-down.down ≡ c.height-down-end.result = omega arith in
-    rw (← c.left-x.ensures, ← c.top-y.ensures, ← c.width-columns.ensures, ← c.height-down-end.ensures) (rw last at c.loop-down.invariant)
+    let last : c.loop-line.line ≡ height_of (rect_of c.args.area) = omega (arith, c.height-line-end.ensures) in
+    rw (last, first_lines-all (rect_of c.args.panel) (rect_of c.args.area) c.requires.inside) at c.loop-line.invariant

@@ -1,9 +1,10 @@
 -- How effects go on, and what a line does before a write fails.
-use Rattle.std.proofs.Common.{◌≡◌, ◌∙◌, sym, ap, subst, ℕ, ◌≤◌, List, [], ◌∷◌, ◌++◌, append_assoc, arith, refl, inl, inr}
-use Rattle.std.specs.Prelude.{Some, None, Ok, Err, IfSome, OnErr, flat_map}
+use Rattle.std.proofs.Common.{◌≡◌, ◌∙◌, sym, ap, subst, ℕ, ◌≤◌, List, [], ◌∷◌, ◌++◌, arith, refl, inl, inr}
+use Rattle.std.specs.Prelude.{None, Ok, Err, IfSome, OnErr, flat_map}
 use Rattle.std.specs.declared.option.Option.{Option}
 use Rattle.std.specs.declared.result.Result.{Result}
-use Rattle.std.specs.Io.KnownBytes.{Appends, Consumes}
+use Rattle.std.specs.Io.KnownBytes.{Appends}
+use Rattle.std.proofs.KnownBytes.{Appends-trans, Appends-nil}
 use Rattle.std.proofs.lemmas.Grind.{flat_map-append}
 use Rattle.std.proofs.lemmas.List.{append-nil}
 use Rattle.std.proofs.lemmas.List.Elements.{filter_map-append}
@@ -18,41 +19,18 @@ use Rattle.gui_edge.specs.Causes.{Rose}
 use Rattle.gui_edge.specs.Panel.{PanelState}
 use Rattle.gui_edge.specs.Sink.{SinkState, AppendsPrefix}
 use Rattle.gui_core.specs.Panels.{ShowsScene}
-use Rattle.scene_run.specs.Effects.{Output, output, PanelKeeps, PanelEffects, Effects, Breaks, FrameBroke}
-
--- what is known of bytes goes on over two steps
-pub Appends-more : (a b c : Option (List ℕ)) (xs ys : List ℕ) → Appends a b xs → Appends b c ys → Appends a c (xs ++ ys)
-Appends-more None b c xs ys h k = tt
-Appends-more (Some a) None c xs ys h k = elim h [ ]
-Appends-more (Some a) (Some b) None xs ys h k = elim k [ ]
-Appends-more (Some a) (Some b) (Some c) xs ys h k = k ∙ (ap (λ (zs : List ℕ). zs ++ ys) h ∙ append_assoc a xs ys)
-
-pub Appends-nothing : (a : Option (List ℕ)) → Appends a a []
-Appends-nothing None = tt
-Appends-nothing (Some a) = sym (append-nil a)
-
-pub Consumes-more : (a b c : Option (List ℕ)) (xs ys : List ℕ) → Consumes a b xs → Consumes b c ys → Consumes a c (xs ++ ys)
-Consumes-more None b c xs ys h k = tt
-Consumes-more (Some a) None c xs ys h k = elim h [ ]
-Consumes-more (Some a) (Some b) None xs ys h k = elim k [ ]
-Consumes-more (Some a) (Some b) (Some c) xs ys h k = h ∙ (ap (λ (zs : List ℕ). xs ++ zs) k ∙ sym (append_assoc xs ys c))
-
-pub Consumes-nothing : (a : Option (List ℕ)) → Consumes a a []
-Consumes-nothing None = tt
-Consumes-nothing (Some a) = refl
+use Rattle.scene_run.specs.Effects.{Output, output, PanelEffects, Effects, Breaks, FrameBroke}
 
 -- nothing is a prefix of anything
 pub AppendsPrefix-nothing : (a : Option (List ℕ)) (bytes : List ℕ) → AppendsPrefix a a bytes
-AppendsPrefix-nothing a bytes = record { prefix = []; rest = bytes; whole = refl; grows = Appends-nothing a }
+AppendsPrefix-nothing a bytes = record { prefix = []; rest = bytes; whole = refl; grows = Appends-nil a }
 
-pub PanelKeeps-self : (p : PanelState) → PanelKeeps p p
-PanelKeeps-self p = record { told = λ t. t; flush_faults = omega arith; present_faults = omega arith }
-
-pub Effects-none : (o : Output) (seen : Option Scene) → IfSome seen (ShowsScene o.panel) → Effects o o seen []
-Effects-none o seen shown = record {
-  panel = record { frames = λ t. Appends-nothing o.panel.frames; shown = shown; faults = omega arith; keeps = PanelKeeps-self o.panel };
-  log = Appends-nothing o.log.held;
-  log_faults = omega arith;
+pub PanelEffects-none : (p : PanelState) (seen : Option Scene) → IfSome seen (ShowsScene p) → PanelEffects p p seen []
+PanelEffects-none p seen shown = record {
+  frames = λ t. Appends-nil p.frames;
+  shown = shown;
+  faults = omega arith;
+  keeps = record { told = λ t. t; flush_faults = omega arith; present_faults = omega arith };
 }
 
 frame_files-append : (ts us : List Told) → frame_files (ts ++ us) ≡ frame_files ts ++ frame_files us
@@ -63,7 +41,7 @@ last_done-append seen ts us = fold-append (λ (earlier : Option Scene) (t : Told
 
 PanelEffects-more : (a b c : PanelState) (seen : Option Scene) (ts us : List Told) → PanelEffects a b seen ts → PanelEffects b c (last_done seen ts) us → PanelEffects a c seen (ts ++ us)
 PanelEffects-more a b c seen ts us h k = record {
-  frames = λ t. subst (Appends a.frames c.frames) (sym (frame_files-append ts us)) (Appends-more a.frames b.frames c.frames _ _ (h.frames t) (k.frames (h.keeps.told t)));
+  frames = λ t. subst (Appends a.frames c.frames) (sym (frame_files-append ts us)) (Appends-trans a.frames b.frames c.frames _ _ (h.frames t) (k.frames (h.keeps.told t)));
   shown = subst (λ (s : Option Scene). IfSome s (ShowsScene c)) (sym (last_done-append seen ts us)) k.shown;
   faults = omega (arith, fault_count-append ts us, h.faults, k.faults);
   keeps = record {
@@ -76,7 +54,7 @@ PanelEffects-more a b c seen ts us h k = record {
 pub Effects-more : (a b c : Output) (seen : Option Scene) (ts us : List Told) → Effects a b seen ts → Effects b c (last_done seen ts) us → Effects a c seen (ts ++ us)
 Effects-more a b c seen ts us h k = record {
   panel = PanelEffects-more a.panel b.panel c.panel seen ts us h.panel k.panel;
-  log = subst (Appends a.log.held c.log.held) (sym (flat_map-append log_lines ts us)) (Appends-more a.log.held b.log.held c.log.held _ _ h.log k.log);
+  log = subst (Appends a.log.held c.log.held) (sym (flat_map-append log_lines ts us)) (Appends-trans a.log.held b.log.held c.log.held _ _ h.log k.log);
   log_faults = omega (arith, h.log_faults, k.log_faults);
 }
 

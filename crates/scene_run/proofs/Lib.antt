@@ -1,6 +1,6 @@
+pub mod Bytes
 pub mod Effects
 pub mod Going
 pub mod Gone
 pub mod Headlines
 pub mod Pools
-pub mod Taking

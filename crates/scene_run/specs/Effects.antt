@@ -1,11 +1,12 @@
 -- What lines of the script do to the log and to the panel.
-use Rattle.std.specs.Prelude.{◌≡◌, ◌+◌, ◌≤◌, ◌⊎◌, List, [], ◌∷◌, ◌++◌, length, IsSome, IfSome}
+use Rattle.std.specs.Prelude.{◌≡◌, ◌+◌, ◌≤◌, ◌⊎◌, List, [], ◌∷◌, ◌++◌, length, IsSome, IfSome, None}
 use Rattle.std.specs.declared.option.Option.{Option}
 use Rattle.std.specs.Io.KnownBytes.{Appends}
 use Rattle.scene_defs.specs.Scene.{Scene}
 use Rattle.run_defs.specs.declared.Outcome.{Outcome}
 use Rattle.run_defs.specs.Script.{Said}
-use Rattle.run_defs.specs.Run.{Moment, Entry, Told, entry, after_all, entries, told, frame_count, log_text}
+use Rattle.run_defs.specs.Machine.{Machine}
+use Rattle.run_defs.specs.Run.{Entry, Told, first_moment, entry, after_all, entries, told, frame_count, log_text}
 use Rattle.run_defs.specs.Run.{frame_file, frame_files, file_asked, last_done, fault_count}
 use Rattle.gui_edge.specs.Causes.{Rose}
 use Rattle.gui_edge.specs.Sink.{SinkState, AppendsPrefix}
@@ -58,28 +59,27 @@ pub record Breaks (old new : Output) (e : Entry) : Type 0 where
   pub faults : old.panel.flush_faults + fault_count (told (e ∷ []) last) ≤ new.panel.flush_faults
   pub cause : WriteFailed old new
 
--- These lines were answered, from this moment of a run on.
-pub record Answers (start : Moment) (old new : Output) (seen : Option Scene) (lines : List Said) :
-    Type 0 where
+-- These lines were answered, from this machine on.
+pub record Answers (first : Machine) (old new : Output) (lines : List Said) : Type 0 where
   -- each frame line has an outcome
   pub outcomes : List Outcome
-  pub each : length outcomes ≡ frame_count (entries start lines)
+  pub each : length outcomes ≡ frame_count (entries (first_moment first) lines)
   -- what is told of the lines with these outcomes came to the log and the panel
-  pub effects : Effects old new seen (told (entries start lines) outcomes)
+  pub effects : Effects old new None (told (entries (first_moment first) lines) outcomes)
   -- the panel is opened with the limits' sizes
-  pub slices : HasSizes new.panel start.machine.scene.limits
+  pub slices : HasSizes new.panel first.scene.limits
 
 -- A write failed at one of these lines: those before it were answered, and those after it were not reached.
-pub record Halted (start : Moment) (old new : Output) (seen : Option Scene) (lines : List Said) : Type 0 where
+pub record Halted (first : Machine) (old new : Output) (lines : List Said) : Type 0 where
   pub answered : List Said
   pub said : Said
   pub unreached : List Said
   pub lines_are : answered ++ said ∷ unreached ≡ lines
   -- what was written before it
   pub between : Output
-  pub answers : Answers start old between seen answered
-  pub breaks : Breaks between new (entry (after_all start answered) said)
-  pub slices : HasSizes new.panel start.machine.scene.limits
+  pub answers : Answers first old between answered
+  pub breaks : Breaks between new (entry (after_all (first_moment first) answered) said)
+  pub slices : HasSizes new.panel first.scene.limits
 
 -- a frame could not be presented whole
 pub record FrameBroke (old new : PanelState) (scene : Scene) : Type 0 where

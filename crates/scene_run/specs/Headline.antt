@@ -25,7 +25,7 @@ outside source log panel = record { source = source; output = output log panel }
 
 -- These lines were answered from the start on, each with its reply, and each frame line with its outcome.
 abbrev pub AnswersAll : Machine → Outside → Outside → List Said → Type 0
-AnswersAll first old new lines = Answers (first_moment first) old.output new.output None lines
+AnswersAll first old new lines = Answers first old.output new.output lines
 
 -- The whole script was read and answered. `notes` tells whether a line was refused or a frame faulted.
 pub record AnswersScript (first : Machine) (old new : Outside) (taken : List ℕ) (notes : Bool) : Type 0 where
@@ -53,7 +53,7 @@ Ended first old new taken ReadFault = (length taken ≤ max_script) × AnswersAl
 Ended first old new taken TooLong =
     (max_script < length taken) × AnswersAll first old new (says ScriptTooLong taken)
 Ended first old new taken WriteFault =
-    Halted (first_moment first) old.output new.output None (says (end_reached new.source.left taken) taken)
+    Halted first old.output new.output (says (end_reached new.source.left taken) taken)
 Ended first old new taken status = ⊥
 
 -- A script was read and answered, from this machine on.

@@ -1,14 +1,12 @@
 -- A run under way.
-use Rattle.std.specs.Prelude.{◌≡◌, ℕ, Bool, ◌+◌, ◌^◌, ◌<◌, ◌||◌, List, [], ◌∷◌, ◌++◌, IfSome}
-use Rattle.std.specs.declared.option.Option.{Option}
-use Rattle.scene_defs.specs.Scene.{Scene}
-use Rattle.run_defs.specs.Script.{Said}
-use Rattle.run_defs.specs.Run.{Moment, moment, after_all, entries, told, noted}
+use Rattle.std.specs.Prelude.{◌≡◌, ℕ, Bool, ◌+◌, ◌^◌, ◌<◌, List, ◌++◌, length}
+use Rattle.run_defs.specs.Machine.{Machine}
+use Rattle.run_defs.specs.Script.{Said, Whole, says, says_cut}
+use Rattle.run_defs.specs.Run.{Moment, moment, first_moment, after_all, entries, told, noted}
 use Rattle.gui_edge.specs.Panel.{PanelState, HasSizes}
 use Rattle.gui_edge.specs.Sink.{SinkState}
 use Rattle.gui_core.specs.Machines.{machine_of}
-use Rattle.gui_core.specs.Panels.{ShowsScene}
-use Rattle.scene_script.specs.Cutting.{Cutting, pushed, cut_says}
+use Rattle.scene_script.specs.Cutting.{Cutting, HasTaken}
 use Rattle.scene_run.specs.Effects.{Output, output, Answers, Halted}
 use Rattle.scene_run.specs.declared.runner.Runner.{Runner}
 
@@ -26,28 +24,59 @@ running runner log panel = record {
   output = output log panel;
 }
 
+-- the same with the line that is read
+pub record Reading : Type 0 where
+  pub run : Running
+  pub cutter : Cutting
+
+abbrev pub reading : Runner → SinkState → PanelState → Reading
+reading runner log panel = record { run = running runner log panel; cutter = runner.cutter }
+
 -- the panel has the machine's sizes, and there are numbers for so many lines more
 pub record IsReady (now : Running) (room : ℕ) : Type 0 where
   pub sizes : HasSizes now.output.panel now.moment.machine.scene.limits
   pub number : now.moment.number + room < 2 ^ 32
   pub frame : now.moment.frame + room < 2 ^ 32
 
--- The run went on over these lines. `seen` is the scene that the panel showed before, where it is known.
-pub record Goes (old new : Running) (seen : Option Scene) (lines : List Said) : Type 0 where
-  pub answers : Answers old.moment old.output new.output seen lines
-  pub moment : new.moment ≡ after_all old.moment lines
-  pub noted_is : new.noted ≡ (old.noted || noted (told (entries old.moment lines) answers.outcomes))
+-- These lines were answered from a machine on, and the run came here.
+pub record Answered (first : Machine) (start : Output) (now : Running) (lines : List Said) : Type 0 where
+  pub answers : Answers first start now.output lines
+  pub moment : now.moment ≡ after_all (first_moment first) lines
+  pub noted_is : now.noted ≡ noted (told (entries (first_moment first) lines) answers.outcomes)
 
--- the same, whatever the panel showed before
+-- These bytes were read from the start on, and the lines that they make whole were answered.
+pub record HasRead (first : Machine) (start : Output) (now : Reading) (bytes : List ℕ) : Type 0 where
+  pub answered : Answered first start now.run (says_cut bytes)
+  pub line : HasTaken now.cutter bytes
+
+-- The run went on over at most one line, whatever was answered before.
 pub record GoesOn (old new : Running) (lines : List Said) : Type 0 where
-  pub from : (seen : Option Scene) → IfSome seen (ShowsScene old.output.panel) → Goes old new seen lines
+  pub from : (first : Machine) (start : Output) (before : List Said) →
+      Answered first start old before → Answered first start new (before ++ lines)
+  pub ready : (room : ℕ) → IsReady old (room + 1) → IsReady new room
 
--- a write failed at one of these lines
+-- A write failed at one of these lines.
 pub record Halts (old : Running) (new : Output) (lines : List Said) : Type 0 where
-  pub from : (seen : Option Scene) → IfSome seen (ShowsScene old.output.panel) →
-      Halted old.moment old.output new seen lines
+  pub from : (first : Machine) (start : Output) (before : List Said) →
+      Answered first start old before → Halted first start new (before ++ lines)
 
--- what the lines say that these bytes make whole, from a cutter on
-abbrev pub said_by : Cutting → List ℕ → List Said
-said_by cutter [] = []
-said_by cutter (byte ∷ bytes) = cut_says (pushed cutter byte) ++ said_by (pushed cutter byte) bytes
+-- The run went on over these bytes, whatever was read before.
+pub record Reads (old new : Reading) (bytes : List ℕ) : Type 0 where
+  pub from : (first : Machine) (start : Output) (before : List ℕ) →
+      HasRead first start old before → HasRead first start new (before ++ bytes)
+  pub ready : (room : ℕ) → IsReady old.run (room + length bytes) → IsReady new.run room
+
+-- A write failed at a line that one of these bytes made whole.
+pub record Stops (old : Reading) (new : Output) (bytes : List ℕ) : Type 0 where
+  pub from : (first : Machine) (start : Output) (before : List ℕ) →
+      HasRead first start old before → Halted first start new (says_cut (before ++ bytes))
+
+-- The whole script was answered.
+pub record Ends (old : Reading) (new : Running) : Type 0 where
+  pub from : (first : Machine) (start : Output) (script : List ℕ) →
+      HasRead first start old script → Answered first start new (says Whole script)
+
+-- A write failed at the last line, which no newline ended.
+pub record StopsAtEnd (old : Reading) (new : Output) : Type 0 where
+  pub from : (first : Machine) (start : Output) (script : List ℕ) →
+      HasRead first start old script → Halted first start new (says Whole script)

@@ -1,9 +1,10 @@
 //! Reads the script in pieces.
-ghost use Rattle.std.specs.Prelude.{◌≡◌, ◌⊎◌};
+ghost use Rattle.std.specs.Prelude.{◌≡◌, ◌⊎◌, [], None};
 ghost use Rattle.gui_edge.specs.Causes.{Rose};
 ghost use Rattle.gui_core.specs.Machines.{machine_of};
-ghost use Rattle.gui_edge.specs.Panel.{HasSizes};
-ghost use Rattle.scene_run.specs.Headline.{outside, Runs};
+ghost use Rattle.gui_edge.specs.Panel.{PanelState, HasSizes};
+ghost use Rattle.scene_run.specs.Effects.{PanelEffects};
+ghost use Rattle.scene_run.specs.Headline.{outside, Runs, IfUnstarted};
 
 use crate::runner::Runner;
 use crate::status::Status;
@@ -13,7 +14,8 @@ use gui_edge::{Failed, Panel, Sink, Source};
 /// The longest script in bytes.
 const MAX_SCRIPT: usize = 16_777_216;
 
-/// Reads the script to its end, and answers each of its lines.
+/// Reads the script to its end, and answers each of its lines. `before` is the panel at any moment since which
+/// nothing came to it.
 pub fn read_script<S: Source, L: Sink, P: Panel>(
     gui: Gui,
     source: &mut S,
@@ -21,9 +23,10 @@ pub fn read_script<S: Source, L: Sink, P: Panel>(
     panel: &mut P,
 ) -> Status
     requires { HasSizes (P.state panel.old) (machine_of gui).scene.limits }
-    ensures runs { Runs (machine_of gui)
-        (outside (S.state source.old) (L.state log.old) (P.state panel.old))
+    ensures runs { (before : PanelState) → PanelEffects before (P.state panel.old) None [] →
+        Runs (machine_of gui) (outside (S.state source.old) (L.state log.old) before)
         (outside (S.state source.new) (L.state log.new) (P.state panel.new)) result }
+    ensures started { IfUnstarted result ⊥ }
     ensures read_fault { result ≡ Status.ReadFault →
         Rose (S.state source.old).faults (S.state source.new).faults }
     ensures write_fault { result ≡ Status.WriteFault → Rose (L.state log.old).faults (L.state log.new).faults

@@ -1,11 +1,11 @@
 //! A run under way.
-ghost use Rattle.std.specs.Prelude.{◌≡◌, ◌+◌, ◌^◌, ◌<◌, ◌∷◌, [], ◌||◌, length, fold, if◌then◌else◌};
-ghost use Rattle.std.specs.Prelude.{OnOk, OnErr, Some, false};
+ghost use Rattle.std.specs.Prelude.{◌≡◌, ◌+◌, ◌^◌, ◌<◌, ◌∷◌, [], ◌||◌, length, if◌then◌else◌};
+ghost use Rattle.std.specs.Prelude.{OnOk, OnErr, false};
 ghost use Rattle.std.specs.Option.{option_to_list};
 ghost use Rattle.run_defs.specs.Laws.{IsInRange};
-ghost use Rattle.scene_script.specs.Cutting.{begun, pushed, finished, cut_says};
+ghost use Rattle.scene_script.specs.Cutting.{HasTaken, cut_says};
 ghost use Rattle.scene_run.specs.Effects.{output};
-ghost use Rattle.scene_run.specs.Running.{running, IsReady, GoesOn, Halts, said_by};
+ghost use Rattle.scene_run.specs.Running.{running, reading, IsReady, GoesOn, Halts, Reads, Stops, Ends, StopsAtEnd};
 
 use crate::answer::{LineEnd, answer};
 use crate::status::Status;
@@ -28,7 +28,7 @@ impl Runner {
     /// A run of which nothing is read yet.
     pub fn new(gui: Gui) -> Runner
         ensures gui { result.gui ≡ gui }
-        ensures line { begun result.cutter ≡ Some [] }
+        ensures line { HasTaken result.cutter [] }
         ensures number { result.number ≡ 1 }
         ensures frame { result.frame ≡ 1 }
         ensures noted { result.noted ≡ false }
@@ -113,12 +113,10 @@ impl Runner {
         panel: &mut P,
     ) -> Result<(), Failed>
         requires ready { IsReady (running self.old (L.state log.old) (P.state panel.old)) 1 }
-        ensures ok { OnOk result (GoesOn (running self.old (L.state log.old) (P.state panel.old))
-            (running self.new (L.state log.new) (P.state panel.new))
-            (cut_says (pushed self.old.cutter byte))) }
-        ensures err { OnErr result (Halts (running self.old (L.state log.old) (P.state panel.old))
-            (output (L.state log.new) (P.state panel.new)) (cut_says (pushed self.old.cutter byte))) }
-        ensures line { self.new.cutter ≡ pushed self.old.cutter byte }
+        ensures ok { OnOk result (Reads (reading self.old (L.state log.old) (P.state panel.old))
+            (reading self.new (L.state log.new) (P.state panel.new)) (byte ∷ [])) }
+        ensures err { OnErr result (Stops (reading self.old (L.state log.old) (P.state panel.old))
+            (output (L.state log.new) (P.state panel.new)) (byte ∷ [])) }
     {
         let cut = self.cutter.push(byte);
         self.take_cut(cut, log, panel)
@@ -132,11 +130,10 @@ impl Runner {
         panel: &mut P,
     ) -> Result<(), Failed>
         requires ready { IsReady (running self.old (L.state log.old) (P.state panel.old)) (length piece.now) }
-        ensures ok { OnOk result (GoesOn (running self.old (L.state log.old) (P.state panel.old))
-            (running self.new (L.state log.new) (P.state panel.new)) (said_by self.old.cutter piece.now)) }
-        ensures err { OnErr result (Halts (running self.old (L.state log.old) (P.state panel.old))
-            (output (L.state log.new) (P.state panel.new)) (said_by self.old.cutter piece.now)) }
-        ensures line { OnOk result (self.new.cutter ≡ fold pushed self.old.cutter piece.now) }
+        ensures ok { OnOk result (Reads (reading self.old (L.state log.old) (P.state panel.old))
+            (reading self.new (L.state log.new) (P.state panel.new)) piece.now) }
+        ensures err { OnErr result (Stops (reading self.old (L.state log.old) (P.state panel.old))
+            (output (L.state log.new) (P.state panel.new)) piece.now) }
     {
         for byte in piece {
             self.take_byte(*byte, log, panel)?;
@@ -147,10 +144,10 @@ impl Runner {
     /// Answers what is left of a line at the end of the script.
     pub fn finish<L: Sink, P: Panel>(&mut self, log: &mut L, panel: &mut P) -> Result<(), Failed>
         requires ready { IsReady (running self.old (L.state log.old) (P.state panel.old)) 1 }
-        ensures ok { OnOk result (GoesOn (running self.old (L.state log.old) (P.state panel.old))
-            (running self.new (L.state log.new) (P.state panel.new)) (cut_says (finished self.old.cutter))) }
-        ensures err { OnErr result (Halts (running self.old (L.state log.old) (P.state panel.old))
-            (output (L.state log.new) (P.state panel.new)) (cut_says (finished self.old.cutter))) }
+        ensures ok { OnOk result (Ends (reading self.old (L.state log.old) (P.state panel.old))
+            (running self.new (L.state log.new) (P.state panel.new))) }
+        ensures err { OnErr result (StopsAtEnd (reading self.old (L.state log.old) (P.state panel.old))
+            (output (L.state log.new) (P.state panel.new))) }
     {
         let cut = self.cutter.finish();
         self.take_cut(cut, log, panel)

@@ -1,8 +1,9 @@
 -- What a cutter holds, and what bytes make of it.
-use Rattle.std.specs.Prelude.{ℕ, Bool, true, false, Some, None, Err, nat_lt, if◌then◌else◌}
+use Rattle.std.specs.Prelude.{◌≡◌, ℕ, Bool, true, false, Some, None, Err, nat_lt, if◌then◌else◌}
 use Rattle.std.specs.Prelude.{List, [], ◌∷◌, ◌++◌, length}
 use Rattle.std.specs.declared.option.Option.{Option}
-use Rattle.run_defs.specs.Script.{Said, max_line, is_newline, without_return, parse}
+use Rattle.run_defs.specs.Script.{Said, Whole, says, says_cut, rest_of, max_line, is_newline, without_return}
+use Rattle.run_defs.specs.Script.{parse}
 use Rattle.run_defs.specs.declared.LineFault.TheVariants.{Long as LongLine}
 use Rattle.scene_script.specs.declared.cutter.Cut.{Cut}
 use Rattle.scene_script.specs.declared.cutter.Cut.TheVariants.{More, Line, Long}
@@ -66,3 +67,17 @@ cut_line Long bytes last = Err LongLine ∷ []
 
 abbrev pub cut_says : Cutting → List Said
 cut_says c = cut_line c.answer c.bytes c.last
+
+-- the cutter has taken these bytes: it holds the line that they leave open
+abbrev pub HasTaken : Cutting → List ℕ → Type 0
+HasTaken c bytes = begun c ≡ kept (rest_of bytes)
+
+-- A byte was taken after others, and what the lines say goes on as that of a script with these bytes.
+pub record Takes (old new : Cutting) (byte : ℕ) : Type 0 where
+  pub says : (taken : List ℕ) → HasTaken old taken →
+      says_cut taken ++ cut_says new ≡ says_cut (taken ++ byte ∷ [])
+  pub has : (taken : List ℕ) → HasTaken old taken → HasTaken new (taken ++ byte ∷ [])
+
+-- The end of the script was taken.
+pub record Finishes (old new : Cutting) : Type 0 where
+  pub says : (script : List ℕ) → HasTaken old script → says_cut script ++ cut_says new ≡ says Whole script

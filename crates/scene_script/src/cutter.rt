@@ -1,7 +1,7 @@
 //! Cuts a stream of bytes into lines.
 ghost use Rattle.std.specs.Prelude.{◌≡◌, IsSomeAnd, Some, [], false};
 ghost use Rattle.run_defs.specs.Script.{without_return};
-ghost use Rattle.scene_script.specs.Cutting.{begun, pushed, finished, line_of};
+ghost use Rattle.scene_script.specs.Cutting.{begun, pushed, finished, line_of, HasTaken, Takes, Finishes};
 
 use crate::parse::MAX_LINE;
 use arrayvec::ArrayVec;
@@ -46,7 +46,8 @@ impl Model for Cutter {
 impl Cutter {
     /// A cutter at the beginning of a script, with the empty line.
     pub fn new() -> Cutter
-        ensures { result ≡ record { bytes = Some []; answer = Cut.More; last = false } }
+        ensures state { result ≡ record { bytes = Some []; answer = Cut.More; last = false } }
+        ensures nothing { HasTaken result [] }
     {
         Cutter {
             line: ArrayVec::new(),
@@ -58,9 +59,19 @@ impl Cutter {
 
     /// Takes a byte of the script. A newline ends the line: `Line` where it has at most 4,096 bytes, else
     /// `Long`. The byte after that begins the next line.
+    #[tactic(auto, using(crate::proofs::Cuts::pushed_takes))]
     pub fn push(&mut self, byte: u8) -> Cut
         ensures state { self.new ≡ pushed self.old byte }
+        ensures takes { Takes self.old self.new byte }
         ensures answer { result ≡ self.new.answer }
+    {
+        self.add(byte);
+        self.answer
+    }
+
+    /// Adds a byte to the line, or ends the line at a newline.
+    fn add(&mut self, byte: u8)
+        ensures { self.new ≡ pushed self.old byte }
     {
         self.begin();
         if byte == b'\n' {
@@ -70,13 +81,13 @@ impl Cutter {
         } else {
             self.line.push(byte);
         }
-        self.answer
     }
 
     /// Ends the line at the end of the script, as [`Cutter::push`] does at a newline, but answers `More`
     /// where the line has no byte.
     pub fn finish(&mut self) -> Cut
         ensures state { self.new ≡ finished self.old }
+        ensures finishes { Finishes self.old self.new }
         ensures answer { result ≡ self.new.answer }
     {
         self.begin();

@@ -1,5 +1,8 @@
 use Rattle.std.proofs.Common.{arith, ◌∙◌, ap, length-take, take}
+use Rattle.std.specs.Prelude.{None}
 use Rattle.gui_core.specs.Machines.{machine_of}
+use Rattle.scene_run.proofs.Effects.{PanelEffects-none}
+use Rattle.scene_run.proofs.Going.{ready_less}
 use Rattle.scene_run.proofs.Gone.{gone_start, gone_more, taken_piece, runs_unread, runs_whole, runs_broken_last, runs_broken, runs_long, runs_cause}
 use Rattle.scene_run.proofs.reading.read_script.Goals as goal
 
@@ -7,50 +10,51 @@ pub loop-init : goal.loop-init
 loop-init g c =
     let e = c.new-runner.ensures in
     record {
-      gone = gone_start (machine_of c.args.gui) _ c.new-runner.result (ap machine_of e.gui) c.requires e.line e.number e.frame e.noted;
+      gone = λ before since. gone_start (machine_of c.args.gui) _ _ before _ c.new-runner.result (ap machine_of e.gui) e.line e.number e.frame e.noted c.requires since;
+      ready = record { sizes = rw e.gui c.requires; number = omega arith; frame = omega arith };
       within = omega arith;
       turns = omega arith;
       source_faults = omega arith;
     }
 
 pub returns-in-Err-clause-runs : goal.returns-in-Err-clause-runs
-returns-in-Err-clause-runs g c = runs_unread _ _ _ _ _ _ c.loop.invariant.gone c.in-Err.ensures.bytes
+returns-in-Err-clause-runs g c = λ before since. runs_unread _ _ _ _ _ _ (c.loop.invariant.gone before since) c.in-Err.ensures.bytes
 
 pub returns-in-Ok-finish-clause-runs : goal.returns-in-Ok-finish-clause-runs
-returns-in-Ok-finish-clause-runs g c =
+returns-in-Ok-finish-clause-runs g c = λ before since.
     let none = c.in-Ok.ensures.bytes in
-    rw c.status.ensures (runs_whole _ _ _ _ _ _ c.finish.new.self _ c.loop.invariant.gone (rw c.if-count-eq0.true at none.0) (none.1 c.if-count-eq0.true (omega arith)) c.in-Ok-finish.ensures.ok)
+    rw c.status.ensures (runs_whole _ _ _ _ _ _ _ (c.loop.invariant.gone before since) (rw c.if-count-eq0.true at none.0) (none.1 c.if-count-eq0.true (omega arith)) c.in-Ok-finish.ensures.ok)
 
 pub returns-in-Err-finish-clause-runs : goal.returns-in-Err-finish-clause-runs
-returns-in-Err-finish-clause-runs g c =
+returns-in-Err-finish-clause-runs g c = λ before since.
     let none = c.in-Ok.ensures.bytes in
-    runs_broken_last _ _ _ _ _ _ _ c.loop.invariant.gone (rw c.if-count-eq0.true at none.0) (none.1 c.if-count-eq0.true (omega arith)) c.in-Err-finish.ensures.err
+    runs_broken_last _ _ _ _ _ _ _ (c.loop.invariant.gone before since) (rw c.if-count-eq0.true at none.0) (none.1 c.if-count-eq0.true (omega arith)) c.in-Err-finish.ensures.err
 
 pub returns-in-Err-finish-clause-write_fault : goal.returns-in-Err-finish-clause-write_fault
-returns-in-Err-finish-clause-write_fault g c = λ e. runs_cause _ _ _ (returns-in-Err-finish-clause-runs g c)
+returns-in-Err-finish-clause-write_fault g c = λ e. runs_cause _ _ _ (returns-in-Err-finish-clause-runs g c _ (PanelEffects-none _ None tt))
 
 pub returns-in-Err-take_piece-clause-runs : goal.returns-in-Err-take_piece-clause-runs
-returns-in-Err-take_piece-clause-runs g c =
-    runs_broken _ _ _ _ _ _ _ _ _
-    (taken_piece c.read.new.buf _ c.in-Ok.count c.loop.room c.in-Ok.ensures.bound.0 (c.split_at.ensures.front ∙ ap (λ k. take k c.read.new.buf) c.min.ensures)) c.loop.invariant.gone c.in-Ok.ensures.bytes.0 c.in-Err-take_piece.ensures.err
+returns-in-Err-take_piece-clause-runs g c = λ before since.
+    runs_broken _ _ _ _ _ _ _ _ _ (taken_piece c.read.new.buf _ c.in-Ok.count c.loop.room c.in-Ok.ensures.bound.0 (c.split_at.ensures.front ∙ ap (λ k. take k c.read.new.buf) c.min.ensures)) (c.loop.invariant.gone before since) c.in-Ok.ensures.bytes.0 c.in-Err-take_piece.ensures.err
 
 pub returns-in-Err-take_piece-clause-write_fault : goal.returns-in-Err-take_piece-clause-write_fault
-returns-in-Err-take_piece-clause-write_fault g c = λ e. runs_cause _ _ _ (returns-in-Err-take_piece-clause-runs g c)
+returns-in-Err-take_piece-clause-write_fault g c = λ e. runs_cause _ _ _ (returns-in-Err-take_piece-clause-runs g c _ (PanelEffects-none _ None tt))
 
 pub returns-then-count-room-clause-runs : goal.returns-then-count-room-clause-runs
-returns-then-count-room-clause-runs g c =
-    runs_long _ _ _ _ _ c.loop.runner c.take_piece.new.self c.loop.room (take c.in-Ok.count c.read.new.buf) c.split_at.result.0.now
+returns-then-count-room-clause-runs g c = λ before since.
+    runs_long _ _ _ _ _ _ c.loop.room (take c.in-Ok.count c.read.new.buf) c.split_at.result.0.now
     (omega (arith, c.if-count-room.true, c.in-Ok.ensures.bound.0, length-take c.in-Ok.count c.read.new.buf))
     (taken_piece c.read.new.buf _ c.in-Ok.count c.loop.room c.in-Ok.ensures.bound.0 (c.split_at.ensures.front ∙ ap (λ k. take k c.read.new.buf) c.min.ensures))
-    c.loop.invariant.gone c.in-Ok.ensures.bytes.0 c.in-Ok-take_piece.ensures.ok
+    (c.loop.invariant.gone before since) c.in-Ok.ensures.bytes.0 c.in-Ok-take_piece.ensures.ok
 
 pub loop-preserved : goal.loop-preserved
 loop-preserved g c =
     record {
-      gone = gone_more _ _ _ _ _ c.loop.runner c.take_piece.new.self c.loop.room c.in-Ok.count (take c.in-Ok.count c.read.new.buf) c.split_at.result.0.now
+      gone = λ before since. gone_more _ _ _ _ _ _ c.loop.room c.in-Ok.count (take c.in-Ok.count c.read.new.buf) c.split_at.result.0.now
           (omega (arith, c.in-Ok.ensures.bound.0, length-take c.in-Ok.count c.read.new.buf)) c.if-count-room.false
           (taken_piece c.read.new.buf _ c.in-Ok.count c.loop.room c.in-Ok.ensures.bound.0 (c.split_at.ensures.front ∙ ap (λ k. take k c.read.new.buf) c.min.ensures))
-          c.loop.invariant.gone c.in-Ok.ensures.bytes.0 c.in-Ok-take_piece.ensures.ok c.in-Ok-take_piece.ensures.line;
+          (c.loop.invariant.gone before since) c.in-Ok.ensures.bytes.0 c.in-Ok-take_piece.ensures.ok;
+      ready = c.in-Ok-take_piece.ensures.ok.ready _ (ready_less _ _ _ (omega (arith, c.split_at.ensures.front_len, c.min.ensures)) c.loop.invariant.ready);
       within = omega arith;
       turns = omega arith;
       source_faults = omega arith;

@@ -3,7 +3,7 @@ use Rattle.gui_base.specs.Bounded.{bounds_of}
 use Rattle.gui_core.specs.Machines.{machine_of}
 use Rattle.gui_edge.specs.Panel.{HasSizes}
 use Rattle.run_defs.specs.Machine.{Machine}
-use Rattle.scene_run.proofs.Headlines.{opened_sizes, headline_given}
+use Rattle.scene_run.proofs.Headlines.{opened_sizes, opened_effects, headline_given}
 use Rattle.scene_run.proofs.top.run_scene.Goals as goal
 
 pub read_script-requires : goal.read_script-requires
@@ -14,6 +14,4 @@ read_script-requires g c =
 
 pub returns-in-Ok-open-clause-headline : goal.returns-in-Ok-open-clause-headline
 returns-in-Ok-open-clause-headline g c =
-    let l = c.in-Some.limits in
-    let sizes = opened_sizes _ _ (bounds_of l) c.in-Ok-open.ensures l.panel.some_width l.panel.some_lines in
-    headline_given _ (bounds_of l) (machine_of c.in-Ok.gui) _ _ _ _ _ _ _ _ c.read_script.result c.in-Some.ensures c.in-Ok.ensures c.in-Ok-open.ensures sizes c.read_script.ensures.runs
+    headline_given _ (bounds_of c.in-Some.limits) (machine_of c.in-Ok.gui) _ _ c.read_script.result c.in-Some.ensures c.in-Ok.ensures (c.read_script.ensures.runs _ (opened_effects _ _ _ _ _ c.in-Ok-open.ensures))

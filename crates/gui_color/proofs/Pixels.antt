@@ -24,7 +24,7 @@ run_end buf y x1 x2 h = rw (count_is x1 x2 h.order) (place_end buf.area x1 x2 y 
 pub run_fits : (buf : Buffer) (y x1 x2 : ℤ) → HasRow buf y x1 x2 → place buf.area x1 y + count_between x1 x2 ≤ length buf.pixels
 run_fits buf y x1 x2 h = omega (arith, run_end buf y x1 x2 h, place_fits buf.area x2 y h.last, h.whole)
 
-place_in : (buf : Buffer) (y x1 x2 x : ℤ) → HasRow buf y x1 x2 → x1 ≤ℤ x → place buf.area x y ≡ place buf.area x1 y + distance x1 x
+pub place_in : (buf : Buffer) (y x1 x2 x : ℤ) → HasRow buf y x1 x2 → x1 ≤ℤ x → place buf.area x y ≡ place buf.area x1 y + distance x1 x
 place_in buf y x1 x2 x h p = place_along buf.area x1 x y (between_has buf.area x1 y h.first).left p
 
 distance_in : (x1 x2 x : ℤ) → x1 ≤ℤ x → x ≤ℤ x2 → distance x1 x < count_between x1 x2

@@ -38,7 +38,8 @@ AppendsPrefix-behind a b c xs ys h k = record {
 pub pixels_more : (a b c : Option (List ℕ)) (head : List ℕ) (prefix rest : List Rgb565) (n : ℕ) → Appends a b (head ++ flat_map rgb_bytes prefix) → Appends b c (flat_map rgb_bytes (take n rest)) →
     Appends a c (head ++ flat_map rgb_bytes (prefix ++ take n rest))
 pixels_more a b c head prefix rest n h k =
-    subst (Appends a c) (append_assoc head _ _ ∙ ap (λ (zs : List ℕ). head ++ zs) (sym (flat_map-append rgb_bytes prefix (take n rest)))) (Appends-trans a b c _ _ h k)
+    let all : (head ++ flat_map rgb_bytes prefix) ++ flat_map rgb_bytes (take n rest) ≡ head ++ flat_map rgb_bytes (prefix ++ take n rest) = simp (flat_map-append, append_assoc) in
+    subst (Appends a c) all (Appends-trans a b c _ _ h k)
 
 pub whole_more : (prefix rest pixels : List Rgb565) (n : ℕ) → prefix ++ rest ≡ pixels → (prefix ++ take n rest) ++ drop n rest ≡ pixels
 whole_more prefix rest pixels n h = append_assoc prefix (take n rest) (drop n rest) ∙ (ap (λ (zs : List Rgb565). prefix ++ zs) (take-append-drop n rest) ∙ h)
@@ -47,12 +48,6 @@ whole_more prefix rest pixels n h = append_assoc prefix (take n rest) (drop n re
 pub pixels_prefix : (a b c : Option (List ℕ)) (head : List ℕ) (prefix rest pixels : List Rgb565) (n : ℕ) → prefix ++ rest ≡ pixels → Appends a b (head ++ flat_map rgb_bytes prefix) →
     AppendsPrefix b c (flat_map rgb_bytes (take n rest)) → AppendsPrefix a c (head ++ flat_map rgb_bytes pixels)
 pixels_prefix a b c head prefix rest pixels n e h k =
-    subst (AppendsPrefix a c) bytes_are (AppendsPrefix-append a c _ (flat_map rgb_bytes (drop n rest)) (AppendsPrefix-behind a b c _ _ h k))
-  where
-    bytes_are : ((head ++ flat_map rgb_bytes prefix) ++ flat_map rgb_bytes (take n rest)) ++ flat_map rgb_bytes (drop n rest) ≡ head ++ flat_map rgb_bytes pixels
-    bytes_are =
-        ap (λ (zs : List ℕ). zs ++ flat_map rgb_bytes (drop n rest)) (append_assoc head _ _)
-        ∙ append_assoc head _ _
-        ∙ ap (λ (zs : List ℕ). head ++ zs)
-        (ap (λ (zs : List ℕ). zs ++ flat_map rgb_bytes (drop n rest)) (sym (flat_map-append rgb_bytes prefix (take n rest)))
-        ∙ (sym (flat_map-append rgb_bytes (prefix ++ take n rest) (drop n rest)) ∙ ap (λ (ps : List Rgb565). flat_map rgb_bytes ps) (whole_more prefix rest pixels n e)))
+    let all : ((head ++ flat_map rgb_bytes prefix) ++ flat_map rgb_bytes (take n rest)) ++ flat_map rgb_bytes (drop n rest) ≡ head ++ flat_map rgb_bytes pixels =
+    rw (← whole_more prefix rest pixels n e) (simp (flat_map-append, append_assoc)) in
+    subst (AppendsPrefix a c) all (AppendsPrefix-append a c _ (flat_map rgb_bytes (drop n rest)) (AppendsPrefix-behind a b c _ _ h k))

@@ -10,7 +10,7 @@ loop-line-init c = Shows-none _ _ _ _ (first_lines-none (rect_of c.args.area))
 
 pub loop-line-preserved : goal.loop-line-preserved
 loop-line-preserved c =
-    let same = copied (rect_of c.args.panel) (rect_of c.args.area) c.args.colors.now _ c.loop-line.line c.line_start-from.result c.width-columns.result c.requires.inside (omega arith)
+    let same = copied (rect_of c.args.panel) (rect_of c.args.area) c.args.colors.now _ c.loop-line.line c.line_start-from.result c.width-columns.result c.requires.inside (omega arith) c.requires.each
     c.line_start-from.ensures.place c.width-columns.ensures c.copy_from_slice.ensures.after in
     line_more (rect_of c.args.panel) (rect_of c.args.area) _ c.args.shown.now c.loop-line.shown _ c.loop-line.line c.line_start-at.result c.width-columns.result c.requires.inside (omega arith) c.requires.all
     c.line_start-at.ensures.place c.width-columns.ensures c.copy_from_slice.ensures.len (λ x p q lt. same x p q) c.loop-line.invariant

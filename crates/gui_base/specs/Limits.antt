@@ -17,21 +17,25 @@ pub record IsPanel (width height lines : ℕ) : Type 0 where
   pub some_lines : 1 ≤ lines
   pub most_lines : lines ≤ height
 
--- how many slots each pool may have
-pub record ArePools
-    (objects styles entries uses texts fonts glyphs ink images pixels handlers groups anims : ℕ) :
-    Type 0 where
+-- how many slots the pools of objects and their styles may have
+pub record AreScenePools (objects styles entries uses : ℕ) : Type 0 where
   pub least_objects : least Objects ≤ objects
   pub most_objects : objects ≤ most Objects
   pub most_styles : styles ≤ most Styles
   pub most_entries : entries ≤ most Entries
   pub most_uses : uses ≤ most Uses
+
+-- the pools of texts, fonts and images
+pub record AreMediaPools (texts fonts glyphs ink images pixels : ℕ) : Type 0 where
   pub most_texts : texts ≤ most Texts
   pub most_fonts : fonts ≤ most Fonts
   pub most_glyphs : glyphs ≤ most Glyphs
   pub most_ink : ink ≤ most Ink
   pub most_images : images ≤ most Images
   pub most_pixels : pixels ≤ most Pixels
+
+-- the pools of event handlers, focus groups and animations
+pub record AreEventPools (handlers groups anims : ℕ) : Type 0 where
   pub most_handlers : handlers ≤ most Handlers
   pub most_groups : groups ≤ most Groups
   pub most_anims : anims ≤ most Anims

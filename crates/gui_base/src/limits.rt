@@ -1,6 +1,6 @@
 //! The sizes of a panel and of the pools, as the words of the command line ask for them.
 ghost use Rattle.std.specs.Prelude.{◌≡◌, ◌≤◌};
-ghost use Rattle.gui_base.specs.Limits.{IsPanel, ArePools, IsMade};
+ghost use Rattle.gui_base.specs.Limits.{IsPanel, AreScenePools, AreMediaPools, AreEventPools, IsMade};
 
 /// The pools of counted slots.
 #[derive(Clone, Copy, Debug, PartialEq, Eq)]
@@ -56,7 +56,9 @@ pub struct Limits {
     pub anims: u32,
     pub make: Option<u16>,
     ghost panel: { IsPanel width height lines },
-    ghost pools: { ArePools objects styles entries uses texts fonts glyphs ink images pixels handlers groups anims },
+    ghost scene: { AreScenePools objects styles entries uses },
+    ghost media: { AreMediaPools texts fonts glyphs ink images pixels },
+    ghost events: { AreEventPools handlers groups anims },
     ghost made: { IsMade make },
 }
 

@@ -1,5 +1,5 @@
-//! What no clause says: what the adapters make of a reader's and a writer's answers, and the numbers of faults
-//! and colours from outside.
+//! What no clause says: what the adapters make of a reader's and a writer's answers, and the numbers of
+//! faults and colours from outside.
 ghost use Rattle.std.specs.Prelude.{◌≤◌, IfOk};
 
 use gui_base::{Area, Rgb565};

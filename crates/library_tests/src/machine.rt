@@ -1,5 +1,5 @@
-//! What no clause says: that a machine opens where memory is ample, and that a whole refresh comes to a panel in
-//! its slices.
+//! What no clause says: that a machine opens where memory is ample, and that a whole refresh comes to a
+//! panel in its slices.
 ghost use Rattle.std.specs.Prelude.{◌≡◌, ◌<◌};
 ghost use Rattle.scene_defs.specs.Valid.{IsChange};
 

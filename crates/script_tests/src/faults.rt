@@ -1,5 +1,5 @@
-//! Runs in which calls on the outside fail. The bytes, statuses and counts that are expected come from a second
-//! implementation.
+//! Runs in which calls on the outside fail. The bytes, statuses and counts that are expected come from a
+//! second implementation.
 
 use crate::runs::Fault::{self, Flush, Frames, Log, Open, Read};
 use crate::runs::{Outside, WHITE_FRAME, WORDS};
@@ -37,9 +37,9 @@ const SECOND: &str = "1 frame 1 fault\n2 frame 2 done\n";
 
 const NEITHER: &str = "1 frame 1 fault\n2 frame 2 fault\n";
 
-/// A script, how many bytes a read gives at most, and the calls that fail. Then what the run comes to: the number
-/// of its status, its log, how many frames are written whole, whether the first bytes of a further one are, and how
-/// many pixels are sent.
+/// A script, how many bytes a read gives at most, and the calls that fail. Then what the run comes to: the
+/// number of its status, its log, how many frames are written whole, whether the first bytes of a further one
+/// are, and how many pixels are sent.
 type Row = (
     &'static [u8],
     usize,

@@ -10,8 +10,8 @@ use std::alloc::Global;
 use std::process::Abort;
 use std::test::Fail;
 
-/// A panel in memory that lists the corners of the areas of its flushes, and knows the sizes that it was opened
-/// with.
+/// A panel in memory that lists the corners of the areas of its flushes, and knows the sizes that it was
+/// opened with.
 #[derive(Drop)]
 struct ListingPanel {
     corners: ArrayVec<[i32; 4], 8>,

@@ -15,8 +15,8 @@ pub(crate) const WHITE_FRAME: &[u8] =
     b"P6\n4 2\n255\n\xFF\xFF\xFF\xFF\xFF\xFF\xFF\xFF\xFF\xFF\xFF\xFF\xFF\xFF\xFF\xFF\xFF\xFF\xFF\xFF\
     \xFF\xFF\xFF\xFF";
 
-/// A call that fails: the opening of the panel, or the read, the put on the log, the put on the sink of the frames
-/// or the flush of this number, from 1.
+/// A call that fails: the opening of the panel, or the read, the put on the log, the put on the sink of the
+/// frames or the flush of this number, from 1.
 #[derive(Clone, Copy, Debug)]
 pub(crate) enum Fault {
     Open,

@@ -80,7 +80,8 @@ const CASES: &[Case] = &[
         name: "flushes of two frames fail",
         faults: &[Flush(3), Flush(4)],
         script: "new 10 3 obj\npos 10 1 0\nsize 10 2 2\nlocal 10 main bg_color #FF0000\n\
-            local 10 main bg_opa 255\nframe\nlocal 10 main bg_color #00FF00\nframe\npos 10 2 0\nframe\nframe\n",
+            local 10 main bg_opa 255\nframe\nlocal 10 main bg_color #00FF00\nframe\n\
+            pos 10 2 0\nframe\nframe\n",
         log: "1 ok\n2 ok\n3 ok\n4 ok\n5 ok\n6 frame 1 done\n7 ok\n8 frame 2 fault\n9 ok\n\
             10 frame 3 fault\n11 frame 4 done\n",
         frames: &["WRRWWRRW", "WWGGWWGG"],

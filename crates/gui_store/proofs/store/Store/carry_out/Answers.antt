@@ -41,7 +41,7 @@ front_done c =
     let fits = rw c.in-Front.is at c.requires.in_range in
     rw c.in-Front.is
     (moved_beside (parts_of c.args.self.now) c.args.self.now.kept (change.Front c.in-Front.h) fits tt refl (λ w. refl) refl refl refl refl
-    c.move_to_index-in-Front.new.self c.move_to_index-in-Front.result e.refused c.in-Front.h.0 65535 refl (last-after _ c.args.self.now.kept c.in-Front.h 65535 (omega (arith, c.args.self.now.limits.pools.most_objects))) e.answer e.ok)
+    c.move_to_index-in-Front.new.self c.move_to_index-in-Front.result e.refused c.in-Front.h.0 65535 refl (last-after _ c.args.self.now.kept c.in-Front.h 65535 (omega (arith, c.args.self.now.limits.scene.most_objects))) e.answer e.ok)
 
 pub invariant_of-self-in-Front : goal.invariant_of-self-in-Front
 invariant_of-self-in-Front c = record { kept = (front_done c).kept }

@@ -43,7 +43,7 @@ entries_of-requires c =
     let k = c.args.self.now.kept in
     let few = freed-few (parts_of c.args.self.now) k c.args.h.0 in
     let sum = listed-sum (parts_of c.args.self.now) k c.last_removed-removed.result.now c.args.h (c.last_removed-removed.ensures ∙ listed (goal.at.entries_of-requires c).In_ok-remove) in
-    omega (arith, sum, few, k.entries, k.valid.pools.entries, c.args.self.now.limits.pools.most_entries)
+    omega (arith, sum, few, k.entries, k.valid.pools.entries, c.args.self.now.limits.scene.most_entries)
 
 pub overflow_sub-self : goal.overflow_sub-self
 overflow_sub-self c =

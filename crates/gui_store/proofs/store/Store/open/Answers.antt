@@ -11,7 +11,7 @@ opened : (c : After-insert_row-3) → AreKept (parts c) × (scene_in (parts c) �
 opened c =
     let t = c.in-Ok.ensures in
     rw (c.insert_row-3.ensures, c.insert_row-2.ensures, c.insert_row.ensures)
-    (first-kept c.in_ok-tree.tree (bounds_of c.args.limits.now) c.args.limits.now.pools.least_objects c.in_ok-tree.ensures
+    (first-kept c.in_ok-tree.tree (bounds_of c.args.limits.now) c.args.limits.now.scene.least_objects c.in_ok-tree.ensures
     c.in-Ok.rows t.keys t.empty t.spare c.new_row.result c.new_row-2.result c.new_row-3.result c.new_row.ensures c.new_row-2.ensures c.new_row-3.ensures)
 
 pub invariant_of-result : goal.invariant_of-result

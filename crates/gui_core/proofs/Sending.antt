@@ -11,7 +11,8 @@ use Rattle.gui_base.specs.Area.{Rect, area_at, has, is_within, width_of, height_
 use Rattle.gui_base.specs.Color.{black}
 use Rattle.gui_color.specs.Buffer.{color_at, place, distance}
 use Rattle.scene_defs.specs.Scene.{Scene}
-use Rattle.scene_defs.specs.Picture.{panel_of, paint, picture}
+use Rattle.scene_defs.specs.Place.{panel_of}
+use Rattle.scene_defs.specs.Picture.{paint, picture}
 use Rattle.scene_defs.proofs.Pictures.{picture_from_pixels}
 use Rattle.gui_edge.specs.KeepsTelling.{KeepsTelling}
 use Rattle.gui_edge.specs.Panel.{PanelState, area_of, TellsEach, HasSizes, CanFlush, Flushes, FlushDone, FlushFailed, Shows}

@@ -1,14 +1,11 @@
 -- How a panel comes to show a scene, slice by slice.
-use Rattle.std.proofs.Common.{◌≡◌, ◌∙◌, sym, ap, subst, ℕ, ◌+◌, ◌*◌, ◌<◌, ◌≤◌, ◌+ℤ◌, ◌-ℤ◌, List, length, true, ◌||◌, arith, refl}
+use Rattle.std.proofs.Common.{◌≡◌, ◌∙◌, sym, subst, ℕ, ◌+◌, ◌*◌, ◌<◌, ◌≤◌, ◌+ℤ◌, ◌-ℤ◌, List, length, true, ◌||◌, arith, refl}
 use Rattle.std.specs.Prelude.{Some, None, IfSome, pos}
 use Rattle.std.specs.declared.option.Option.{Option}
-use Rattle.std.proofs.lemmas.Grind.{common_steps, rows}
 use Rattle.std.proofs.lemmas.Int.{ints}
 use Rattle.std.proofs.lemmas.Nat.{mul-le}
-use Rattle.std.proofs.lemmas.Option.{slice_get-get_or}
 use Rattle.gui_base.specs.declared.color.Rgb565.{Rgb565}
 use Rattle.gui_base.specs.Area.{Rect, area_at, has, is_within, width_of, height_of}
-use Rattle.gui_base.specs.Color.{black}
 use Rattle.gui_color.specs.Buffer.{color_at, place, distance}
 use Rattle.scene_defs.specs.Scene.{Scene}
 use Rattle.scene_defs.specs.Place.{panel_of}
@@ -102,17 +99,12 @@ at_place scene x y = rw (up y, up x, width_is scene 0 scene.limits.height) refl 
   up : (n : ℕ) → distance (pos 0) (pos n) ≡ n
   up n = omega (arith, ints)
 
-line_place : (w n x y : ℕ) → x < w → y < n → y * w + x < w * n
-line_place w n x y a b = grind (arith, common_steps, rows)
-
 -- all lines show the picture
 whole : (scene : Scene) (old new : List Rgb565) → length new ≡ scene.limits.width * scene.limits.height → ShowsAbove scene scene.limits.height old new → new ≡ picture scene
 unfolding color_at
 whole scene old new len h = picture_from_pixels scene new len (λ x y a b.
     let inside : has (panel_of scene) (pos x) (pos y) ≡ true = grind (arith, ints) in
-    let within : y * scene.limits.width + x < length new = rw len (line_place scene.limits.width scene.limits.height x y a b) in
-    let here = rw inside at (h.each (pos x) (pos y) inside) in
-    slice_get-get_or new (y * scene.limits.width + x) black within ∙ ap (λ (c : Rgb565). Some c) (rw (at_place scene x y) at here))
+    rw (at_place scene x y) at (rw inside at (h.each (pos x) (pos y) inside)))
 
 pub sent_done : (scene : Scene) (p q : PanelState) → TellsEach q → SentAbove scene p q scene.limits.height → Refreshes p q scene Done
 sent_done scene p q each sent = record {

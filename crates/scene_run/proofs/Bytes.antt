@@ -3,8 +3,8 @@ use Rattle.std.proofs.Common.{◌≡◌, ◌∙◌, sym, ap, subst, ℕ, ◌+◌
 use Rattle.run_defs.specs.Script.{says_cut}
 use Rattle.run_defs.proofs.Lines.{says_cut-longer}
 use Rattle.scene_script.specs.Cutting.{Cutting, Takes, Finishes, cut_says}
-use Rattle.scene_run.specs.Effects.{Output, Halted}
-use Rattle.scene_run.specs.Running.{Running, Reading, Answered, HasRead, GoesOn, Halts, Reads, Stops, Ends, StopsAtEnd}
+use Rattle.scene_run.specs.Effects.{Output}
+use Rattle.scene_run.specs.Running.{Running, Reading, Answered, HasRead, GoesOn, Reads, Stops, Ends}
 use Rattle.scene_run.proofs.Going.{ready_less, halted_on}
 
 pub reads_none : (now : Reading) → Reads now now []
@@ -28,9 +28,6 @@ reads_more a b c xs ys all e h k = record {
   ready = λ room r. k.ready room (h.ready (room + length ys) (ready_less a.run _ _ (omega (arith, ap length e, length-append xs ys)) r));
 }
 
-pub stops_byte : (old : Reading) (new : Output) (cutter : Cutting) (byte : ℕ) → Takes old.cutter cutter byte → Halts old.run new (cut_says cutter) → Stops old new (byte ∷ [])
-stops_byte old new cutter byte takes halts = record { from = λ first start before h. subst (Halted first start new) (takes.says before h.line) (halts.from first start _ h.answered) }
-
 -- a write failed in bytes after some, and before others
 pub stops_more : (a b : Reading) (c : Output) (xs ys rest all : List ℕ) → all ≡ xs ++ (ys ++ rest) → Reads a b xs → Stops b c ys → Stops a c all
 stops_more a b c xs ys rest all e h k = record {
@@ -43,6 +40,3 @@ stops_more a b c xs ys rest all e h k = record {
 
 pub ends : (old : Reading) (new : Running) (cutter : Cutting) → Finishes old.cutter cutter → GoesOn old.run new (cut_says cutter) → Ends old new
 ends old new cutter finishes goes = record { from = λ first start script h. subst (Answered first start new) (finishes.says script h.line) (goes.from first start _ h.answered) }
-
-pub stops_at_end : (old : Reading) (new : Output) (cutter : Cutting) → Finishes old.cutter cutter → Halts old.run new (cut_says cutter) → StopsAtEnd old new
-stops_at_end old new cutter finishes halts = record { from = λ first start script h. subst (Halted first start new) (finishes.says script h.line) (halts.from first start _ h.answered) }

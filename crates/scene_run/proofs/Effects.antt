@@ -1,8 +1,7 @@
 -- How effects go on, and what a line does before a write fails.
 use Rattle.std.proofs.Common.{◌≡◌, ◌∙◌, sym, ap, subst, ℕ, ◌≤◌, List, [], ◌∷◌, ◌++◌, arith, refl, inl, inr}
-use Rattle.std.specs.Prelude.{None, Ok, Err, IfSome, OnErr, flat_map}
+use Rattle.std.specs.Prelude.{None, IfSome, flat_map}
 use Rattle.std.specs.declared.option.Option.{Option}
-use Rattle.std.specs.declared.result.Result.{Result}
 use Rattle.std.specs.Io.KnownBytes.{Appends}
 use Rattle.std.proofs.KnownBytes.{Appends-trans, Appends-nil}
 use Rattle.std.proofs.lemmas.Grind.{flat_map-append}
@@ -57,10 +56,6 @@ Effects-more a b c seen ts us h k = record {
   log = subst (Appends a.log.held c.log.held) (sym (flat_map-append log_lines ts us)) (Appends-trans a.log.held b.log.held c.log.held _ _ h.log k.log);
   log_faults = omega (arith, h.log_faults, k.log_faults);
 }
-
-pub on_err : {T E P : Type 0} (r : Result T E) → P → OnErr r P
-on_err (Ok x) p = tt
-on_err (Err e) p = p
 
 -- a frame came to an outcome, and the log took its line
 pub effects_frame : (a b : SinkState) (p q : PanelState) (n k : ℕ) (scene : Scene) (outcome : Outcome) (seen : Option Scene) → PanelEffects p q seen (Framed n k scene outcome ∷ []) →

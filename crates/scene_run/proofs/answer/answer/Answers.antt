@@ -1,4 +1,5 @@
-use Rattle.scene_run.proofs.Effects.{on_err, effects_frame, breaks_show, breaks_frame, breaks_reply}
+use Rattle.gui_edge.proofs.Prefixes.{on_err}
+use Rattle.scene_run.proofs.Effects.{effects_frame, breaks_show, breaks_frame, breaks_reply}
 use Rattle.std.specs.Prelude.{None, []}
 use Rattle.scene_run.proofs.answer.answer.Goals as goal
 

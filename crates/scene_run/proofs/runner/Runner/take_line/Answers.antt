@@ -1,6 +1,6 @@
 use Rattle.std.proofs.Common.{ap, ◌∙◌}
 use Rattle.gui_core.specs.Machines.{machine_of}
-use Rattle.scene_run.proofs.Effects.{on_err}
+use Rattle.gui_edge.proofs.Prefixes.{on_err}
 use Rattle.scene_run.proofs.Going.{goes_on_one, halts_at}
 use Rattle.scene_run.proofs.runner.Runner.take_line.Goals as goal
 

@@ -1,6 +1,6 @@
 use Rattle.std.proofs.Common.{◌≡◌, ◌<◌, ℕ, List, ◌∷◌, ◌++◌, length, get_or, arith, sym, ◌∙◌, ap, length-take, take, drop, ◌+◌}
 use Rattle.std.proofs.lemmas.List.{take_more, drop_more, take-append-drop}
-use Rattle.scene_run.proofs.Effects.{on_err}
+use Rattle.gui_edge.proofs.Prefixes.{on_err}
 use Rattle.scene_run.proofs.Going.{ready_less}
 use Rattle.scene_run.proofs.Bytes.{reads_none, reads_more, stops_more}
 use Rattle.scene_run.proofs.runner.Runner.take_piece.Goals as goal

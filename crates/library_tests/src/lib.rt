@@ -1,20 +1,14 @@
-//! Tests over the public calls of the library's crates. They have a crate of their own, so that each crate is
-//! proved once.
+//! Tests over the public calls of the crates above the containers. Tests have crates of their own, so that each
+//! crate is proved once, and are cheap to prove only where they are few.
 #![tactic(auto)]
 
 #[cfg(test)]
 mod color;
 #[cfg(test)]
-mod containers;
-#[cfg(test)]
 mod edge;
 #[cfg(test)]
 mod machine;
 #[cfg(test)]
-mod pool;
-#[cfg(test)]
 mod store;
 #[cfg(test)]
 mod styles;
-#[cfg(test)]
-mod tree;

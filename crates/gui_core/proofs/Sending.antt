@@ -1,5 +1,5 @@
 -- How a panel comes to show a scene, slice by slice.
-use Rattle.std.proofs.Common.{◌≡◌, ◌∙◌, sym, subst, ℕ, ◌+◌, ◌*◌, ◌<◌, ◌≤◌, ◌+ℤ◌, ◌-ℤ◌, List, length, true, ◌||◌, arith, refl}
+use Rattle.std.proofs.Common.{◌≡◌, sym, subst, ℕ, ◌+◌, ◌*◌, ◌<◌, ◌≤◌, ◌+ℤ◌, ◌-ℤ◌, List, length, true, ◌||◌, arith, refl}
 use Rattle.std.specs.Prelude.{Some, None, IfSome, pos}
 use Rattle.std.specs.declared.option.Option.{Option}
 use Rattle.std.proofs.lemmas.Int.{ints}
@@ -59,19 +59,9 @@ can_flush scene p from count sizes wide some few within = record {
 -- a flush of an area leaves the sizes, and what else a refresh leaves
 flushed : (scene : Scene) (p q r : PanelState) (area : Rect) (R : List Rgb565 → List Rgb565 → Type 0) → KeepsPanel p q → HasSizes q scene.limits → Flushes q r area → q.flush_faults ≤ r.flush_faults → KeepsTelling q.shows r.shows R →
     KeepsPanel p r × HasSizes r scene.limits
-flushed scene p q r area R keeps sizes flushes faults shows = (
-  record {
-    told = λ t. keeps_telling-some q.shows r.shows R shows (keeps.told t);
-    frames = flushes.frames ∙ keeps.frames;
-    present_faults = flushes.present_faults ∙ keeps.present_faults;
-    flush_faults = omega (arith, keeps.flush_faults);
-  },
-  record {
-    width_is = flushes.width ∙ sizes.width_is;
-    height_is = flushes.height ∙ sizes.height_is;
-    limit_is = flushes.limit ∙ sizes.limit_is;
-    opened = omega (arith, flushes.limit, sizes.opened);
-  },
+flushed scene p q r area R keeps sizes flushes faults shows = subst (λ (s : PanelState). KeepsPanel p s × HasSizes s scene.limits) (sym flushes.is) (
+  record { told = λ t. keeps_telling-some q.shows r.shows R shows (keeps.told t); frames = keeps.frames; present_faults = keeps.present_faults; flush_faults = omega (arith, keeps.flush_faults) },
+  record { width_is = sizes.width_is; height_is = sizes.height_is; limit_is = sizes.limit_is; opened = sizes.opened },
 )
 
 next_lines : (scene : Scene) (from count : ℕ) → lines_from (panel_of scene) from count ≡ lines_of scene from count

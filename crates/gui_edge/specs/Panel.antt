@@ -57,24 +57,12 @@ pub record CanOpen (width height limit : ℕ) : Type 0 where
 
 -- a panel that was just opened
 pub record Opens (old new : PanelState) (width height limit : ℕ) : Type 0 where
-  pub width_is : new.width ≡ width
-  pub height_is : new.height ≡ height
-  pub limit_is : new.limit ≡ limit
+  pub is : new ≡ record old { width = width; height = height; limit = limit; shows = new.shows }
   pub shows : KeepsTelling old.shows new.shows (λ before after. length after ≡ width * height)
-  pub frames : new.frames ≡ old.frames
-  pub sent : new.sent ≡ old.sent
-  pub flush_faults : new.flush_faults ≡ old.flush_faults
-  pub present_faults : new.present_faults ≡ old.present_faults
 
 -- what stays where a panel could not be opened
 pub record StaysClosed (old new : PanelState) : Type 0 where
-  pub width : new.width ≡ old.width
-  pub height : new.height ≡ old.height
-  pub limit : new.limit ≡ 0
-  pub shows : new.shows ≡ old.shows
-  pub frames : new.frames ≡ old.frames
-  pub sent : new.sent ≡ old.sent
-  pub present_faults : new.present_faults ≡ old.present_faults
+  pub is : new ≡ record old { limit = 0; flush_faults = new.flush_faults }
   pub flush_faults : old.flush_faults ≤ new.flush_faults
 
 abbrev pub OpenAnswer : PanelState → PanelState → ℕ → ℕ → ℕ → Result (Unit {0}) OpenFault → Type 0
@@ -104,12 +92,11 @@ pub record SameOutside (panel area : Rect) (old new : List Rgb565) : Type 0 wher
 
 -- what each flush does, and what none changes
 pub record Flushes (old new : PanelState) (area : Rect) : Type 0 where
-  pub width : new.width ≡ old.width
-  pub height : new.height ≡ old.height
-  pub limit : new.limit ≡ old.limit
-  pub frames : new.frames ≡ old.frames
-  pub present_faults : new.present_faults ≡ old.present_faults
-  pub sent : new.sent ≡ min (old.sent + size_of area) last_count
+  pub is : new ≡ record old {
+    shows = new.shows;
+    sent = min (old.sent + size_of area) last_count;
+    flush_faults = new.flush_faults;
+  }
 
 -- the flush came through: the area shows the colours that are meant for it
 pub record FlushDone (old new : PanelState) (area : Rect) (color : ℤ → ℤ → Rgb565) : Type 0 where
@@ -123,12 +110,7 @@ pub record FlushFailed (old new : PanelState) (area : Rect) : Type 0 where
 
 -- what no presenting changes
 pub record Presents (old new : PanelState) : Type 0 where
-  pub width : new.width ≡ old.width
-  pub height : new.height ≡ old.height
-  pub limit : new.limit ≡ old.limit
-  pub shows : new.shows ≡ old.shows
-  pub sent : new.sent ≡ old.sent
-  pub flush_faults : new.flush_faults ≡ old.flush_faults
+  pub is : new ≡ record old { frames = new.frames; present_faults = new.present_faults }
   pub present_faults : old.present_faults ≤ new.present_faults
 
 -- the file of the picture that the panel shows was written

@@ -1,8 +1,7 @@
 -- The headline from the reading.
-use Rattle.std.proofs.Common.{◌≡◌, subst, sym, [], ◌*◌, ◌≤◌, arith, List}
+use Rattle.std.proofs.Common.{◌≡◌, refl, subst, sym, [], ◌*◌, ◌≤◌, arith}
 use Rattle.std.specs.Prelude.{Some, None, ℕ}
 use Rattle.std.specs.declared.option.Option.{Option}
-use Rattle.std.specs.Io.KnownBytes.{Appends}
 use Rattle.std.proofs.KnownBytes.{Appends-nil}
 use Rattle.std.proofs.lemmas.Nat.{mul-le}
 use Rattle.gui_base.specs.Limits.{Bounds}
@@ -16,21 +15,18 @@ use Rattle.scene_run.specs.declared.status.Status.TheVariants.{PanelFault, NoMem
 
 -- a panel that was just opened has the sizes
 pub opened_sizes : (old new : PanelState) (limits : Bounds) → Opens old new limits.width limits.height (limits.width * limits.lines) → 1 ≤ limits.width → 1 ≤ limits.lines → HasSizes new limits
-opened_sizes old new limits opens width lines = record {
-  width_is = opens.width_is;
-  height_is = opens.height_is;
-  limit_is = opens.limit_is;
-  opened = omega (arith, opens.limit_is, mul-le 1 1 limits.width limits.lines width lines);
-}
+opened_sizes old new limits opens width lines =
+    subst (λ (s : PanelState). HasSizes s limits) (sym opens.is) (record { width_is = refl; height_is = refl; limit_is = refl; opened = mul-le 1 1 limits.width limits.lines width lines })
 
 -- opening it answers no line
 pub opened_effects : (old new : PanelState) (width height limit : ℕ) → Opens old new width height limit → PanelEffects old new None []
-opened_effects old new width height limit opens = record {
-  frames = λ t. subst (λ (f : Option (List ℕ)). Appends old.frames f []) (sym opens.frames) (Appends-nil old.frames);
-  shown = tt;
-  faults = omega (arith, opens.flush_faults);
-  keeps = record { told = keeps_telling-some old.shows new.shows _ opens.shows; flush_faults = omega (arith, opens.flush_faults); present_faults = omega (arith, opens.present_faults) };
-}
+opened_effects old new width height limit opens =
+    subst (λ (s : PanelState). PanelEffects old s None []) (sym opens.is) (record {
+      frames = λ t. Appends-nil old.frames;
+      shown = tt;
+      faults = omega arith;
+      keeps = record { told = keeps_telling-some old.shows new.shows _ opens.shows; flush_faults = omega arith; present_faults = omega arith };
+    })
 
 headline_by : (limits : Bounds) (old new : Outside) (status : Status) → Runs (first_machine limits) old new status → Headline (Some limits) old new status
 headline_by limits old new PanelFault h = tt

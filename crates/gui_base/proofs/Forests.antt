@@ -1,8 +1,8 @@
 -- Forests of rows and the forests of their handles.
-use Rattle.std.proofs.Common.{◌≡◌, ℕ, zero, suc, Bool, map, Option, None, Some, option_map, refl, inl, inr, ◌∙◌, ap, true, false, ◌||◌, cond, eqb, eq-eqb}
+use Rattle.std.proofs.Common.{◌≡◌, ℕ, zero, suc, Bool, List, ◌∷◌, map, Option, None, Some, option_map, refl, inl, inr, ◌∙◌, ap, true, false, ◌||◌, cond, eqb, eq-eqb}
 use Rattle.std.proofs.lemmas.Bool.{cases_Bool}
 use Rattle.std.proofs.lemmas.List.{map-append}
-use Rattle.gui_base.specs.Forest.{Forest, Empty, Tree, map_forest, preorder, size, height, first_root, last_root_or, and_then, put_at, has_by, cut_by, tree_by, children_by, from_by, after_by, depth_by, parent_by, next_by, previous_by, with_children_by, with_row_by, leaf, has, added_by, moved_by, moved_last_by}
+use Rattle.gui_base.specs.Forest.{Forest, Empty, Tree, map_forest, preorder, size, height, first_root, last_root_or, and_then, put_at, has_by, cut_by, tree_by, children_by, from_by, after_by, depth_by, parent_by, path_by, next_by, previous_by, with_children_by, with_row_by, leaf, has, added_by, moved_by, moved_last_by}
 
 module _ {A B : Type 0} (f : A → B) where
   pub map-preorder : (t : Forest A) → preorder (map_forest f t) ≡ map f (preorder t)
@@ -103,6 +103,17 @@ module _ {A B : Type 0} (f : A → B) where
           | inr isnt ↦ rw (isnt, map-has_by cs) (elim (cases_Bool (has_by (λ a. test (f a)) cs)) [
             | inl there ↦ rw there (map-parent_by (Some row) cs)
             | inr gone ↦ rw gone (map-parent_by above rest)
+          ])
+        ]
+
+    pub map-path_by : (above : List A) (t : Forest A) → map f (path_by (λ a. test (f a)) above t) ≡ path_by test (map f above) (map_forest f t)
+    map-path_by above Empty = refl
+    map-path_by above (Tree row cs rest) =
+        elim (cases_Bool (test (f row))) [
+          | inl is ↦ rw is refl
+          | inr isnt ↦ rw (isnt, map-has_by cs) (elim (cases_Bool (has_by (λ a. test (f a)) cs)) [
+            | inl there ↦ rw there (map-path_by (row ∷ above) cs)
+            | inr gone ↦ rw gone (map-path_by above rest)
           ])
         ]
 

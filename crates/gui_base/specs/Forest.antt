@@ -112,6 +112,13 @@ parent_by test above Empty = None
 parent_by test above (Tree row cs rest) =
     cond (test row) above (cond (has_by test cs) (parent_by test (Some row) cs) (parent_by test above rest))
 
+-- the first row that passes the test, and those above it, the nearest first; `above` are those above the trees
+abbrev pub path_by : {A : Type 0} → (A → Bool) → List A → Forest A → List A
+path_by test above Empty = []
+path_by test above (Tree row cs rest) =
+    cond (test row) (row ∷ above)
+    (cond (has_by test cs) (path_by test (row ∷ above) cs) (path_by test above rest))
+
 -- the row that stands beside the first that passes the test, after it
 abbrev pub next_by : {A : Type 0} → (A → Bool) → Forest A → Option A
 next_by test Empty = None
@@ -180,6 +187,10 @@ depth_of f h = depth_by (λ k. eqb k h) f
 
 abbrev pub parent_of : Forest ℕ → ℕ → Option ℕ
 parent_of f h = parent_by (λ k. eqb k h) None f
+
+-- h and those above it, the nearest first
+abbrev pub path_of : Forest ℕ → ℕ → List ℕ
+path_of f h = path_by (λ k. eqb k h) [] f
 
 abbrev pub next_to : Forest ℕ → ℕ → Option ℕ
 next_to f h = next_by (λ k. eqb k h) f

@@ -46,6 +46,21 @@ pub const COLOR: Interval = Interval {
     high: 16_777_215,
 };
 
+/// The width of a border in pixels.
+pub const BORDER: Interval = Interval { low: 0, high: 100 };
+
+/// A space between a border and what is inside, or between children, in pixels.
+pub const PAD: Interval = Interval { low: 0, high: 1000 };
+
+/// A space between two characters or two lines of a text, in pixels.
+pub const TEXT_SPACE: Interval = Interval { low: 0, high: 100 };
+
+/// The number of a text's font: 0 is the built-in font.
+pub const TEXT_FONT: Interval = Interval { low: 0, high: 99 };
+
+/// An alignment of a text as a number: 0 is left, 1 center and 2 right.
+pub const TEXT_ALIGN: Interval = Interval { low: 0, high: 2 };
+
 /// How deep an object may lie, a root having depth 1.
 pub const MAX_DEPTH: u8 = 16;
 

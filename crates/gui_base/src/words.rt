@@ -75,3 +75,116 @@ pub enum Length {
     /// So many pixels, from 0 to 4000.
     Pixels(u16),
 }
+
+/// Where an object stands in its parent's content area, unless the parent has a flow.
+#[derive(Clone, Copy, Debug, PartialEq, Eq)]
+pub enum Align {
+    TopLeft,
+    TopMid,
+    TopRight,
+    LeftMid,
+    Center,
+    RightMid,
+    BottomLeft,
+    BottomMid,
+    BottomRight,
+}
+
+pub const ALIGNS: [(&'static str, Align); 9] = [
+    ("top_left", Align::TopLeft),
+    ("top_mid", Align::TopMid),
+    ("top_right", Align::TopRight),
+    ("left_mid", Align::LeftMid),
+    ("center", Align::Center),
+    ("right_mid", Align::RightMid),
+    ("bottom_left", Align::BottomLeft),
+    ("bottom_mid", Align::BottomMid),
+    ("bottom_right", Align::BottomRight),
+];
+
+/// How an object arranges its children. A row runs from left to right and a column from top to bottom; a
+/// reversed one takes the children from the last to the first.
+#[derive(Clone, Copy, Debug, PartialEq, Eq)]
+pub enum Flow {
+    /// Each child stands by its alignment and its wanted place.
+    Free,
+    Row,
+    Column,
+    /// In as many rows as it takes.
+    RowWrap,
+    /// In as many columns as it takes.
+    ColumnWrap,
+    RowReverse,
+    ColumnReverse,
+    RowWrapReverse,
+    ColumnWrapReverse,
+}
+
+pub const FLOWS: [(&'static str, Flow); 9] = [
+    ("none", Flow::Free),
+    ("row", Flow::Row),
+    ("column", Flow::Column),
+    ("row_wrap", Flow::RowWrap),
+    ("column_wrap", Flow::ColumnWrap),
+    ("row_reverse", Flow::RowReverse),
+    ("column_reverse", Flow::ColumnReverse),
+    ("row_wrap_reverse", Flow::RowWrapReverse),
+    ("column_wrap_reverse", Flow::ColumnWrapReverse),
+];
+
+/// How the free space of a flow is dealt out.
+#[derive(Clone, Copy, Debug, PartialEq, Eq)]
+pub enum Placing {
+    /// All of it behind the items.
+    Start,
+    /// All of it before them.
+    End,
+    /// Half of it on each side.
+    Center,
+    /// The same before, between and behind them.
+    SpaceEvenly,
+    /// The same on both sides of each.
+    SpaceAround,
+    /// The same between them, and none outside.
+    SpaceBetween,
+}
+
+pub const PLACINGS: [(&'static str, Placing); 6] = [
+    ("start", Placing::Start),
+    ("end", Placing::End),
+    ("center", Placing::Center),
+    ("space_evenly", Placing::SpaceEvenly),
+    ("space_around", Placing::SpaceAround),
+    ("space_between", Placing::SpaceBetween),
+];
+
+/// Where a line of a text stands in its width.
+#[derive(Clone, Copy, Debug, PartialEq, Eq)]
+pub enum TextAlign {
+    Left,
+    Center,
+    Right,
+}
+
+pub const TEXT_ALIGNS: [(&'static str, TextAlign); 3] = [
+    ("left", TextAlign::Left),
+    ("center", TextAlign::Center),
+    ("right", TextAlign::Right),
+];
+
+/// What a pixel of an image holds.
+#[derive(Clone, Copy, Debug, PartialEq, Eq)]
+pub enum Format {
+    /// A colour of sixteen bits, in two bytes, the high one first.
+    Rgb565,
+    /// A colour and its opacity, in three bytes.
+    Rgb565Alpha,
+    /// An opacity alone, in one byte.
+    Alpha,
+}
+
+pub const FORMATS: [(&'static str, Format); 3] = [
+    ("565", Format::Rgb565),
+    ("565a", Format::Rgb565Alpha),
+    ("alpha", Format::Alpha),
+];

@@ -1,8 +1,9 @@
 -- What a contract sees of `Styles`, what its calls answer and what they leave.
 use Rattle.std.specs.Prelude.{ℕ, ◌+◌, ◌-◌, ℤ, Bool, ◌&&◌, ◌==◌, nat_lt, not, if◌then◌else◌}
-use Rattle.std.specs.Prelude.{List, [], ◌∷◌, ◌++◌, map, is_some, length, slice_index_or, slice_set}
+use Rattle.std.specs.Prelude.{List, [], ◌∷◌, ◌++◌, map, fold, is_some, length, slice_index_or, slice_set}
 use Rattle.std.specs.Prelude.{Result, Ok, Err}
 use Rattle.std.specs.declared.option.Option.{Option}
+use Rattle.gui_base.specs.declared.Handle.{Handle}
 use Rattle.gui_base.specs.declared.limits.Pool.{Pool}
 use Rattle.gui_base.specs.declared.limits.Pool.TheVariants.{Styles as StyleSlots, Entries, Uses}
 use Rattle.gui_base.specs.declared.refusal.Refusal.{Refusal}
@@ -183,3 +184,7 @@ forgotten s h =
       spare_entries = s.spare_entries + length (locals_of s h);
       spare_uses = s.spare_uses + length (uses_of s h);
     }
+
+-- without all that these objects have
+abbrev pub all_forgotten : Styles → List Handle → Styles
+all_forgotten s handles = fold (λ (t : Styles) (h : Handle). forgotten t h.0) s handles

@@ -3,7 +3,6 @@
 //! All memory is taken at [`Styles::open`]. A call that is refused leaves all as it was.
 #![tactic(auto)]
 
-mod cascade;
 mod styles;
 
 pub use style_defs::{Part, Prop, Selector};

@@ -9,13 +9,13 @@ ghost use Rattle.gui_style.specs.Kept.{first_style};
 ghost use Rattle.gui_style.specs.Styles.{style_answer, with_style, style_prop_answer, with_prop};
 ghost use Rattle.gui_style.specs.Styles.{unset_prop_answer, without_prop, add_style_answer, with_use};
 ghost use Rattle.gui_style.specs.Styles.{remove_style_answer, without_use, set_local_answer, with_local};
-ghost use Rattle.gui_style.specs.Styles.{unset_local_answer, without_local, forgotten};
+ghost use Rattle.gui_style.specs.Styles.{unset_local_answer, without_local, forgotten, all_forgotten};
 
-use crate::cascade::{applies, given_by, is_for, same_use, stronger};
 use gui_base::{Handle, NoMemory, Pool, Refusal};
 use gui_pool::{Lists, Table};
 use std::alloc::Global;
 use std::marker::Model;
+use style_defs::cascade::{applies, given_by, stronger};
 use style_defs::{Candidate, Entry, Part, Prop, Selector, Use};
 
 /// How many numbers there are for handles, and as many for styles.
@@ -182,7 +182,7 @@ impl Styles {
     {
         let mut entries = self.entries.of(style_owner(style));
         while let Some(entry) = entries.next() {
-            if entry.prop.number() == prop.number() {
+            if entry.prop == prop {
                 return Some(entry.value);
             }
         }
@@ -196,7 +196,7 @@ impl Styles {
         let mut entries = self.entries.of(style_owner(style));
         let mut place = 0;
         while let Some(entry) = entries.next() {
-            if entry.prop.number() == prop.number() {
+            if entry.prop == prop {
                 return Some(place);
             }
             place += 1;
@@ -254,7 +254,7 @@ impl Styles {
         let mut uses = self.uses.of(h.0 as u32);
         let mut place = 0;
         while let Some(other) = uses.next() {
-            if same_use(other, used) {
+            if *other == used {
                 return Some(place);
             }
             place += 1;
@@ -316,7 +316,7 @@ impl Styles {
         let mut entries = self.entries.of(h.0 as u32);
         let mut place = 0;
         while let Some(entry) = entries.next() {
-            if is_for(entry, selector, prop) {
+            if entry.prop == prop && entry.selector() == selector {
                 return Some(place);
             }
             place += 1;
@@ -375,6 +375,16 @@ impl Styles {
     {
         self.entries.clear(h.0 as u32);
         self.uses.clear(h.0 as u32);
+    }
+
+    /// Removes all that is set locally at these objects, and all uses of them. Their slots are spare from
+    /// then on.
+    pub fn forget_all(&mut self, handles: &[Handle])
+        ensures { self.new ≡ all_forgotten self.old handles.now }
+    {
+        for h in handles {
+            self.forget(*h);
+        }
     }
 
     /// What a style that is used gives a property of a part, for an object in these states.

@@ -1,10 +1,14 @@
--- Cascades that were worked out by hand.
+-- Cascades and values that were worked out by hand.
 use Rattle.std.specs.Prelude.{◌≡◌, ℕ, ℤ, pos, Some, None, List, [], ◌∷◌}
 use Rattle.std.specs.declared.option.Option.{Option}
 use Rattle.style_defs.specs.Cascade.{Style, winning}
+use Rattle.style_defs.specs.Value.{Styled, value_on}
+use Rattle.gui_base.specs.declared.words.Kind.{Kind}
+use Rattle.gui_base.specs.declared.words.Kind.TheVariants.{Screen, Obj}
 use Rattle.style_defs.specs.declared.words.Part.{Part}
 use Rattle.style_defs.specs.declared.words.Part.TheVariants.{Main, Knob}
-use Rattle.style_defs.specs.declared.words.Prop.TheVariants.{BgColor, BgOpa}
+use Rattle.style_defs.specs.declared.words.Prop.{Prop}
+use Rattle.style_defs.specs.declared.words.Prop.TheVariants.{BgColor, BgOpa, TextColor}
 use Rattle.style_defs.specs.declared.words.Selector.{Selector}
 use Rattle.style_defs.specs.declared.Entry.{Entry}
 use Rattle.style_defs.specs.declared.Use.{Use}
@@ -43,7 +47,7 @@ of_two_uses first its second others =
     winning two_styles (uses_on first (on Main its) ∷ uses_on second (on Main others) ∷ []) []
     Main pressed BgOpa
 
-pub record AreWorked : Type 0 where
+pub record CascadesAreWorked : Type 0 where
   -- greater states win, also of a style over a local entry
   pub pressed_style_over_checked_local : of_one_and_local pressed checked 33 ≡ Some (pos 10)
   -- released, the style does not apply
@@ -60,3 +64,51 @@ pub record AreWorked : Type 0 where
   pub another_part : winning two_styles (uses_on 1 (on Knob 0) ∷ []) [] Main pressed BgOpa ≡ None
   pub another_property : winning two_styles (uses_on 1 (on Main 0) ∷ []) [] Main pressed BgColor ≡ None
   pub no_such_style : winning two_styles (uses_on 3 (on Main 0) ∷ []) [] Main pressed BgOpa ≡ None
+
+abbrev white : ℤ
+white = pos 16777215
+
+abbrev black : ℤ
+black = pos 0
+
+abbrev red : ℤ
+red = pos 16711680
+
+abbrev green : ℤ
+green = pos 65280
+
+abbrev plain : Kind → ℕ → Styled
+plain kind states = record { kind = kind; states = states; uses = []; locals = [] }
+
+-- an object in some states, with a property set locally for its main part
+abbrev with_set : ℕ → Prop → ℕ → ℤ → Styled
+with_set states prop its value = record {
+  kind = Obj;
+  states = states;
+  uses = [];
+  locals = record { part = Main; prop = prop; states = its; value = value } ∷ [];
+}
+
+-- the text of a part of an object in some states, below one in others whose text is red where it is pressed
+abbrev text_below : ℕ → ℕ → Part → ℤ
+text_below states its part =
+    value_on [] (plain Obj states ∷ with_set its TextColor pressed red ∷ []) part TextColor
+
+pub record ValuesAreWorked : Type 0 where
+  -- an inherited value is given by the states of the object that has it, not of the one below
+  pub pressed_above : text_below 0 pressed Main ≡ red
+  pub pressed_below : text_below pressed 0 Main ≡ black
+  -- a part inherits as the main part does
+  pub part_pressed_above : text_below 0 pressed Knob ≡ red
+  pub part_pressed_below : text_below pressed 0 Knob ≡ black
+  -- and what is set for the main part comes first
+  pub part_of_main : value_on [] (with_set 0 TextColor 0 green ∷ with_set 0 TextColor 0 red ∷ []) Knob TextColor ≡ green
+  -- the nearest above gives the value
+  pub nearest :
+      value_on [] (plain Obj 0 ∷ with_set 0 TextColor 0 green ∷ with_set 0 TextColor 0 red ∷ []) Main TextColor ≡ green
+  -- a fill is not inherited
+  pub fill_above : value_on [] (plain Obj 0 ∷ with_set 0 BgColor 0 red ∷ []) Main BgColor ≡ white
+  -- a screen is filled, what stands on it is not, nor is another part of it
+  pub screen : value_on [] (plain Screen 0 ∷ []) Main BgOpa ≡ pos 255
+  pub on_screen : value_on [] (plain Obj 0 ∷ plain Screen 0 ∷ []) Main BgOpa ≡ pos 0
+  pub part_of_screen : value_on [] (plain Screen 0 ∷ []) Knob BgOpa ≡ pos 0

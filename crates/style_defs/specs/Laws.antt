@@ -1,13 +1,17 @@
--- The winner of a cascade, said without a way to find it.
-use Rattle.std.specs.Prelude.{◌≡◌, ◌<◌, ◌≤◌, ◌↔◌, ◌⊎◌, ℕ, Some, None, List, ◌∷◌, ◌++◌}
+-- The winner of a cascade, said without a way to find it, and what follows for values.
+use Rattle.std.specs.Prelude.{◌≡◌, ◌<◌, ◌≤◌, ◌↔◌, ◌⊎◌, ℕ, ℤ, true, false, Some, None, List, [], ◌∷◌, ◌++◌}
 use Rattle.std.specs.declared.option.Option.{Option}
 use Rattle.std.specs.List.{All}
 use Rattle.std.specs.Option.{ForSome}
 use Rattle.style_defs.specs.Cascade.{Style, of_entry, of_use, winner}
+use Rattle.style_defs.specs.Props.{is_value, inherits}
+use Rattle.style_defs.specs.Value.{Styled, won, inherited, value_on}
 use Rattle.style_defs.specs.declared.words.Part.{Part}
 use Rattle.style_defs.specs.declared.words.Prop.{Prop}
 use Rattle.style_defs.specs.declared.Candidate.{Candidate}
+use Rattle.style_defs.specs.declared.words.Part.TheVariants.{Main}
 use Rattle.style_defs.specs.declared.Entry.{Entry}
+use Rattle.style_defs.specs.declared.Setting.{Setting}
 use Rattle.style_defs.specs.declared.Use.{Use}
 
 -- nothing is given, or for states that are not greater
@@ -66,3 +70,39 @@ abbrev pub NoneWinsOfNone : Type 0
 NoneWinsOfNone =
     (styles : List Style) (uses : List Use) (locals : List Entry) (part : Part) (states : ℕ) (prop : Prop) →
     (winner styles uses locals part states prop ≡ None) ↔ NoneApplies styles uses locals part states prop
+
+-- what wins for a part is its value
+abbrev pub SetWins : Type 0
+SetWins =
+    (styles : List Style) (object : Styled) (above : List Styled) (part : Part) (prop : Prop) (value : ℤ) →
+    won styles object part prop ≡ Some value → value_on styles (object ∷ above) part prop ≡ value
+
+-- a property that is not inherited has the same value whatever stands above
+abbrev pub NothingAbove : Type 0
+NothingAbove =
+    (styles : List Style) (object : Styled) (above : List Styled) (part : Part) (prop : Prop) →
+    inherits prop ≡ false →
+    value_on styles (object ∷ above) part prop ≡ value_on styles (object ∷ []) part prop
+
+-- one that is inherited, and not set at the object, has what comes from above
+abbrev pub FromAbove : Type 0
+FromAbove =
+    (styles : List Style) (object : Styled) (above : List Styled) (part : Part) (prop : Prop) (value : ℤ) →
+    inherits prop ≡ true → won styles object part prop ≡ None → won styles object Main prop ≡ None →
+    inherited styles above prop ≡ Some value → value_on styles (object ∷ above) part prop ≡ value
+
+abbrev pub IsSetting : Setting → Type 0
+IsSetting setting = is_value setting.prop setting.value ≡ true
+
+abbrev pub IsEntry : Entry → Type 0
+IsEntry entry = is_value entry.prop entry.value ≡ true
+
+-- each value that is set is one of its property's
+pub record AreInRange (styles : List Style) (objects : List Styled) : Type 0 where
+  pub settings : All (λ style. All IsSetting style.settings) styles
+  pub locals : All (λ object. All IsEntry object.locals) objects
+
+abbrev pub ValuesInRange : Type 0
+ValuesInRange =
+    (styles : List Style) (objects : List Styled) (part : Part) (prop : Prop) → AreInRange styles objects →
+    is_value prop (value_on styles objects part prop) ≡ true

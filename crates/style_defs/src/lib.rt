@@ -4,6 +4,8 @@
 
 ghost use Rattle.std.specs.Prelude.{◌≡◌};
 
+pub mod cascade;
+pub mod kinds;
 pub mod laws;
 pub mod words;
 
@@ -43,7 +45,7 @@ impl Entry {
 }
 
 /// A shared style that is added to an object.
-#[derive(Clone, Copy, Debug, Drop)]
+#[derive(Clone, Copy, Debug, PartialEq, Eq, Drop)]
 pub struct Use {
     /// The number of the style.
     pub style: u16,

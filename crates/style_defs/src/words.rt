@@ -1,6 +1,10 @@
 //! The words of styles. Each kind of word has one table of its names.
 ghost use Rattle.std.specs.Prelude.{◌≡◌};
 
+use gui_base::intervals::{
+    BORDER, COLOR, Interval, OPACITY, PAD, TEXT_ALIGN, TEXT_FONT, TEXT_SPACE,
+};
+
 /// The part of an object that a property is for.
 #[derive(Clone, Copy, Debug, PartialEq, Eq)]
 pub enum Part {
@@ -116,24 +120,45 @@ pub struct Selector {
     pub states: u16,
 }
 
-impl Part {
-    ghost use Rattle.style_defs.specs.Words.{part_number};
-
-    /// Its place in [`PARTS`], from 0.
-    pub fn number(self) -> u8
-        ensures { result ≡ part_number self }
-    {
-        self as u8
-    }
-}
-
 impl Prop {
-    ghost use Rattle.style_defs.specs.Words.{prop_number};
+    ghost use Rattle.style_defs.specs.Props.{values_of, default_of, inherits};
 
-    /// Its place in [`PROPS`], from 0.
-    pub fn number(self) -> u8
-        ensures { result ≡ prop_number self }
+    /// The values that it may have.
+    pub fn values(self) -> Interval
+        ensures { result ≡ values_of self }
     {
-        self as u8
+        match self {
+            Prop::BgColor | Prop::BorderColor | Prop::ImgRecolor | Prop::TextColor => COLOR,
+            Prop::BgOpa | Prop::BorderOpa | Prop::ImgOpa | Prop::TextOpa => OPACITY,
+            Prop::BorderWidth => BORDER,
+            Prop::PadTop | Prop::PadBottom | Prop::PadLeft | Prop::PadRight => PAD,
+            Prop::PadRow | Prop::PadColumn => PAD,
+            Prop::TextFont => TEXT_FONT,
+            Prop::TextAlign => TEXT_ALIGN,
+            Prop::TextLetterSpace | Prop::TextLineSpace => TEXT_SPACE,
+        }
+    }
+
+    /// Its value where nothing sets it.
+    pub fn default_value(self) -> i32
+        ensures { result ≡ default_of self }
+    {
+        match self {
+            Prop::BgColor => 0xff_ffff,
+            Prop::BorderOpa | Prop::ImgOpa | Prop::TextOpa => 255,
+            _ => 0,
+        }
+    }
+
+    /// Whether it is inherited: where a part has no value, the object's own part is asked, and then the
+    /// object's ancestors.
+    pub fn inherits(self) -> bool
+        ensures { result ≡ inherits self }
+    {
+        match self {
+            Prop::TextColor | Prop::TextOpa | Prop::TextFont => true,
+            Prop::TextAlign | Prop::TextLetterSpace | Prop::TextLineSpace => true,
+            _ => false,
+        }
     }
 }

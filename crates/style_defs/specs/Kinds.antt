@@ -1,0 +1,31 @@
+-- What each kind of object sets by itself.
+use Rattle.std.specs.Prelude.{ℕ, ℤ, List, [], map, unwrap_or}
+use Rattle.std.specs.declared.option.Option.{Option}
+use Rattle.gui_base.specs.declared.words.Kind.{Kind}
+use Rattle.gui_base.specs.declared.words.Kind.TheVariants.{Screen, Layer, Obj}
+use Rattle.style_defs.specs.declared.kinds.TheConstants.{SCREEN}
+use Rattle.style_defs.specs.declared.words.Part.{Part}
+use Rattle.style_defs.specs.declared.words.Prop.{Prop}
+use Rattle.style_defs.specs.declared.Entry.{Entry}
+use Rattle.style_defs.specs.Cascade.{winning}
+use Rattle.style_defs.specs.Props.{default_of}
+
+-- a part, the states that it is for, a property and its value
+abbrev pub KindRow : Type 0
+KindRow = Part × ℕ × Prop × ℤ
+
+abbrev pub entry_in : KindRow → Entry
+entry_in row = record { part = row.0; prop = row.2; states = row.1; value = row.3 }
+
+abbrev pub kind_rows : Kind → List KindRow
+kind_rows Screen = SCREEN
+kind_rows Layer = []
+kind_rows Obj = []
+
+-- of what a kind sets, what wins for a part in these states
+abbrev pub kind_value : Kind → Part → ℕ → Prop → Option ℤ
+kind_value kind part states prop = winning [] [] (map entry_in (kind_rows kind)) part states prop
+
+-- what a part has where nothing is set and nothing is inherited
+abbrev pub default_in : Kind → Part → ℕ → Prop → ℤ
+default_in kind part states prop = unwrap_or (kind_value kind part states prop) (default_of prop)

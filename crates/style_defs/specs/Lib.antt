@@ -1,8 +1,10 @@
+pub mod Book
 pub mod Cascade
 pub mod Examples
 pub mod Firsts
 pub mod Kinds
 pub mod Laws
+pub mod Orders
 pub mod Props
 pub mod Value
 pub mod Words

@@ -6,7 +6,7 @@ use Rattle.gui_pool.specs.Table.{Table, value_at}
 use Rattle.style_defs.specs.declared.Entry.{Entry}
 use Rattle.style_defs.specs.Cascade.{has_style, settings_of}
 use Rattle.gui_style.specs.Kept.{first_style, setting_in, style_in, keys_from}
-use Rattle.gui_style.specs.Styles.{inserted}
+use Rattle.style_defs.specs.Book.{inserted}
 use Rattle.gui_style.proofs.Keys.{is_among, key_inserted, among_keys, key_more}
 
 module _ (entries : Lists Entry) where

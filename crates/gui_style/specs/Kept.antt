@@ -30,9 +30,11 @@ keys_from key (value ∷ values) =
 -- the value that a contract sees
 abbrev pub styles_of : Table (Unit {0}) → Lists Entry → Lists Use → Styles
 styles_of made entries uses = record {
-  styles = map (style_in entries) (keys_from 0 made.values);
-  locals = take (length uses.lists) entries.lists;
-  uses = uses.lists;
+  book = record {
+    styles = map (style_in entries) (keys_from 0 made.values);
+    locals = take (length uses.lists) entries.lists;
+    uses = uses.lists;
+  };
   spare_styles = made.spare;
   spare_entries = entries.spare;
   spare_uses = uses.spare;

@@ -3,7 +3,7 @@ ghost use Rattle.std.specs.Prelude.{◌≡◌, ℕ, ◌+◌, ◌<◌, [], None, 
 ghost use Rattle.style_defs.specs.Firsts.{place_by};
 ghost use Rattle.style_defs.specs.Cascade.{has_style, sets, settings_of, setting_of, of_use, stronger};
 ghost use Rattle.gui_pool.specs.Lists.{pushed};
-ghost use Rattle.gui_style.specs.Styles.{locals_of, uses_of, is_for, is_use, an_entry, a_use, a_setting};
+ghost use Rattle.style_defs.specs.Book.{locals_of, uses_of, is_for, is_use, an_entry, a_use, a_setting};
 ghost use Rattle.gui_style.specs.Styles.{winning_at, shared_at, local_at, full_answer};
 ghost use Rattle.gui_style.specs.Kept.{first_style};
 ghost use Rattle.gui_style.specs.Styles.{style_answer, with_style, style_prop_answer, with_prop};
@@ -103,14 +103,14 @@ impl Styles {
     /// No styles, and room for so many styles, entries and uses. `NoMemory` where there is no memory for
     /// them. No later call takes memory.
     pub fn open(alloc: Global, styles: u32, entries: u32, uses: u32) -> Result<Styles, NoMemory>
-        ensures no_styles { IfOk result (λ s. s.styles ≡ []) }
-        ensures no_locals { IfOk result (λ s. (h : ℕ) → locals_of s h ≡ []) }
-        ensures no_uses { IfOk result (λ s. (h : ℕ) → uses_of s h ≡ []) }
+        ensures no_styles { IfOk result (λ s. s.book.styles ≡ []) }
+        ensures no_locals { IfOk result (λ s. (h : ℕ) → locals_of s.book h ≡ []) }
+        ensures no_uses { IfOk result (λ s. (h : ℕ) → uses_of s.book h ≡ []) }
         ensures spare_styles { IfOk result (λ s. s.spare_styles ≡ styles) }
         ensures spare_entries { IfOk result (λ s. s.spare_entries ≡ entries) }
         ensures spare_uses { IfOk result (λ s. s.spare_uses ≡ uses) }
-        ensures locals { IfOk result (λ s. length s.locals ≡ 65536) }
-        ensures uses { IfOk result (λ s. length s.uses ≡ 65536) }
+        ensures locals { IfOk result (λ s. length s.book.locals ≡ 65536) }
+        ensures uses { IfOk result (λ s. length s.book.uses ≡ 65536) }
     {
         let Ok(made) = Table::open(alloc, NUMBERS, styles) else {
             return Err(NoMemory);
@@ -151,7 +151,7 @@ impl Styles {
 
     /// Whether a style is there.
     pub fn has_style(&self, id: u16) -> bool
-        ensures { result ≡ has_style self.now.styles id }
+        ensures { result ≡ has_style self.now.book.styles id }
     {
         self.made.get(id as u32).is_some()
     }
@@ -178,7 +178,7 @@ impl Styles {
 
     /// The value that a style gives a property.
     fn setting(&self, style: u16, prop: Prop) -> Option<i32>
-        ensures { result ≡ setting_of (settings_of self.now.styles style) prop }
+        ensures { result ≡ setting_of (settings_of self.now.book.styles style) prop }
     {
         let mut entries = self.entries.of(style_owner(style));
         while let Some(entry) = entries.next() {
@@ -191,7 +191,7 @@ impl Styles {
 
     /// Where the property of a style stands among those that it sets.
     fn setting_place(&self, style: u16, prop: Prop) -> Option<u32>
-        ensures { result ≡ place_by (sets prop) (settings_of self.now.styles style) }
+        ensures { result ≡ place_by (sets prop) (settings_of self.now.book.styles style) }
     {
         let mut entries = self.entries.of(style_owner(style));
         let mut place = 0;
@@ -249,7 +249,7 @@ impl Styles {
 
     /// Where a use stands among those of an object.
     fn use_place(&self, h: Handle, used: Use) -> Option<u32>
-        ensures { result ≡ place_by (is_use used) (uses_of self.now h.0) }
+        ensures { result ≡ place_by (is_use used) (uses_of self.now.book h.0) }
     {
         let mut uses = self.uses.of(h.0 as u32);
         let mut place = 0;
@@ -311,7 +311,7 @@ impl Styles {
 
     /// Where a property that is set locally for a selector stands among the entries of an object.
     fn local_place(&self, h: Handle, selector: Selector, prop: Prop) -> Option<u32>
-        ensures { result ≡ place_by (is_for selector prop) (locals_of self.now h.0) }
+        ensures { result ≡ place_by (is_for selector prop) (locals_of self.now.book h.0) }
     {
         let mut entries = self.entries.of(h.0 as u32);
         let mut place = 0;
@@ -389,7 +389,7 @@ impl Styles {
 
     /// What a style that is used gives a property of a part, for an object in these states.
     fn shared_by(&self, used: &Use, part: Part, states: u16, prop: Prop) -> Option<Candidate>
-        ensures { result ≡ of_use self.now.styles part states prop used.now }
+        ensures { result ≡ of_use self.now.book.styles part states prop used.now }
     {
         if !applies(used.selector, part, states) {
             return None;
@@ -403,7 +403,7 @@ impl Styles {
 
     /// The candidate that wins of the styles that an object uses.
     fn best_shared(&self, h: Handle, part: Part, states: u16, prop: Prop) -> Option<Candidate>
-        ensures { result ≡ fold stronger None (shared_at self.now h.0 part states prop) }
+        ensures { result ≡ fold stronger None (shared_at self.now.book h.0 part states prop) }
     {
         let mut best = None;
         let mut uses = self.uses.of(h.0 as u32);
@@ -424,7 +424,7 @@ impl Styles {
         states: u16,
         prop: Prop,
     ) -> Option<Candidate>
-        ensures { result ≡ fold stronger shared (local_at self.now h.0 part states prop) }
+        ensures { result ≡ fold stronger shared (local_at self.now.book h.0 part states prop) }
     {
         let mut best = shared;
         let mut entries = self.entries.of(h.0 as u32);
@@ -439,7 +439,7 @@ impl Styles {
     /// The value of a property of a part that wins, for an object in these states: `None` exactly where none
     /// applies. It reads the entries of the object and of the styles that it uses.
     pub fn lookup(&self, h: Handle, part: Part, states: u16, prop: Prop) -> Option<i32>
-        ensures { result ≡ winning_at self.now h.0 part states prop }
+        ensures { result ≡ winning_at self.now.book h.0 part states prop }
     {
         let shared = self.best_shared(h, part, states, prop);
         let best = self.best_local(shared, h, part, states, prop)?;

@@ -105,7 +105,7 @@ without_use book h u = record book { uses = slice_set book.uses h (drop_by (is_u
 abbrev pub with_local : Book → ℕ → Entry → Book
 with_local book h entry =
     record book {
-      locals = slice_set book.locals h (put_by (is_for (selector_of entry) entry.prop) entry (locals_of book h))
+      locals = slice_set book.locals h (put_by (is_for (selector_of entry) entry.prop) entry (locals_of book h));
     }
 
 -- without a local entry

@@ -1,6 +1,7 @@
 use Rattle.std.proofs.Common.{is_some, sym, ap, ◌∙◌}
 use Rattle.gui_base.specs.declared.limits.Pool.TheVariants.{Uses}
-use Rattle.gui_style.specs.Styles.{a_use, full_answer}
+use Rattle.style_defs.specs.Book.{a_use}
+use Rattle.gui_style.specs.Styles.{full_answer}
 use Rattle.gui_style.proofs.Answers.{add_taken, add_full}
 use Rattle.gui_style.proofs.styles.Styles.add_style.Goals as goal
 

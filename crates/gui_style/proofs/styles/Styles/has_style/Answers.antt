@@ -6,5 +6,5 @@ use Rattle.gui_style.proofs.styles.Styles.has_style.Goals as goal
 pub returns : goal.returns
 returns c =
     let s = c.self.inside in let id = c.args.id in
-    let has = sym (has_made s.made s.entries id) ∙ ap (λ s. has_style s.styles id) c.self.view_is in
+    let has = sym (has_made s.made s.entries id) ∙ ap (λ s. has_style s.book.styles id) c.self.view_is in
     rw (← has) (grind arith)

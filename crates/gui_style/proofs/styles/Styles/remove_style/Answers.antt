@@ -1,5 +1,5 @@
 use Rattle.std.proofs.Common.{sym, ap, ◌∙◌}
-use Rattle.gui_style.specs.Styles.{a_use}
+use Rattle.style_defs.specs.Book.{a_use}
 use Rattle.gui_style.specs.Kept.{styles_of}
 use Rattle.gui_style.proofs.Answers.{remove_there, remove_none}
 use Rattle.gui_style.proofs.Views.{use_there, use_removed}

@@ -7,7 +7,7 @@ use Rattle.gui_style.proofs.styles.Styles.setting_place.Given as goal
 
 abbrev pub invariant-loop-entry : goal.invariant-loop-entry
 invariant-loop-entry l = record {
-  rest : place_by (sets l.prop) (settings_of l.self.styles l.style) ≡ beyond l.place (place_by (sets l.prop) (map setting_in l.entries));
+  rest : place_by (sets l.prop) (settings_of l.self.book.styles l.style) ≡ beyond l.place (place_by (sets l.prop) (map setting_in l.entries));
   few : l.place + length l.entries < 2 ^ 32;
 }
 

@@ -36,7 +36,7 @@ returns-in-Some-clause-ok c =
 pub invariant_of-self-in-None : goal.invariant_of-self-in-None
 invariant_of-self-in-None c =
     let s = c.self.inside in let id = c.args.id in
-    let has = ap (λ s. has_style s.styles id) c.self.view_is ∙ sym c.if-not-has_style.ensures in
+    let has = ap (λ s. has_style s.book.styles id) c.self.view_is ∙ sym c.if-not-has_style.ensures in
     let more = more_kept s.made s.entries s.uses c.self.invariant id c.ranges.id.fits c.entry_of-entry.result has in
     either c.push_into.result c.push_into.ensures.ok c.push_into.ensures.refused
     (λ e. subst (λ e. AreStyles s.made e s.uses) (sym (e ∙ ap (λ o. pushed s.entries o c.entry_of-entry.result) c.style_owner-in-None.ensures.value)) more)

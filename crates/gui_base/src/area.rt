@@ -2,8 +2,8 @@
 ghost use Rattle.std.specs.Prelude.{◌≡◌, ◌↔◌, ◌≤◌, ◌^◌, ◌&&◌, ◌||◌, IsTrue, true, ℕ, ℤ, pos, ◌≤ℤ◌};
 ghost use Rattle.std.specs.Int.{int_max, int_min};
 ghost use Rattle.std.specs.Int.Signed.{le_z, lt_z};
-ghost use Rattle.gui_base.specs.Area.{IsCoordinate, IsInner, Rect, area_at, has, is_empty, count_between, size_of, width_of};
-ghost use Rattle.gui_base.specs.Area.{height_of, common, joined, Covers, has_corners};
+ghost use Rattle.gui_base.specs.Area.{IsCoordinate, IsInner, Rect, area_at, has, is_empty, count_between};
+ghost use Rattle.gui_base.specs.Area.{size_of, width_of, height_of, common, joined, Covers, has_corners};
 
 /// The pixels between two corners, both included, counted from the top left. It is empty where the second
 /// corner lies left of the first or above it. Its numbers lie from -2^30 to 2^30 - 1.

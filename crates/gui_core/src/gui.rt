@@ -86,7 +86,7 @@ impl Gui {
     }
 
     /// Sends the picture of the scene, in slices of at most the panel's limit, and stops at the first fault.
-    /// `steps` counts the pixels that are made black as each slice begins, and those that a fill is mixed over.
+    /// `steps` counts the pixels that are made black as each slice begins, and each mix over a pixel.
     pub fn refresh<P: Panel, B: Ledger>(&mut self, panel: &mut P, steps: &mut Steps<B>) -> Refreshed
         requires { HasSizes (P.state panel.old) (machine_of self.old).scene.limits }
         ensures machine { machine_of self.new ≡ machine_of self.old }

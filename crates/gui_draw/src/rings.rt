@@ -12,8 +12,8 @@ use gui_base::{Area, Rgb565, Steps};
 use gui_color::DrawBuf;
 use std::sync::ledger::Ledger;
 
-/// Mixes a colour with an opacity from 0 to 255 over the pixels of the buffer that are in the clip and at most
-/// `width` pixels from a side of the area, inside it.
+/// Mixes a colour with an opacity from 0 to 255 over the pixels of the buffer that are in the clip and among
+/// the outermost `width` pixels of the area at each side.
 pub fn ring<L: Ledger>(
     buf: &mut DrawBuf,
     clip: Area,

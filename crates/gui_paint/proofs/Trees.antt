@@ -1,10 +1,9 @@
 -- How trees are painted one after another.
-use Rattle.std.proofs.Common.{◌≡◌, ◌∙◌, ◌<◌, IsSome, refl, sym, ap, subst, ℕ, ℤ, Bool, true, false, ◌&&◌, if◌then◌else◌, Option, Some, None, option_map, fold, eqb, arith}
+use Rattle.std.proofs.Common.{◌≡◌, ◌∙◌, ◌<◌, IsSome, refl, sym, ap, subst, ℕ, ℤ, Bool, true, false, ◌&&◌, if◌then◌else◌, [], ◌∷◌, Option, Some, None, option_map, fold, eqb, arith}
 use Rattle.std.proofs.lemmas.Bool.Decides.{nat_tests}
 use Rattle.gui_base.specs.declared.color.Rgb565.{Rgb565}
-use Rattle.gui_base.specs.declared.words.Prop.TheVariants.{BgColor, BgOpa}
 use Rattle.gui_base.specs.Area.{Rect, has}
-use Rattle.gui_base.specs.Coats.{Dab, laid, within, fill_coat}
+use Rattle.gui_base.specs.Coats.{Dab, laid, within}
 use Rattle.gui_base.specs.declared.Handle.{Handle}
 use Rattle.gui_base.specs.Forest.{Forest, Empty, Tree, size, tree_by, first_root, children_by, children_of, next_by, next_to}
 use Rattle.gui_base.proofs.Forests.{map-children_by, map-first_root, map-next_by}
@@ -12,16 +11,15 @@ use Rattle.gui_base.proofs.Visits.{HasCome, GoesOn, walk_goes_on, trees_from, tr
 use Rattle.gui_color.specs.Buffer.{Buffer, pixel_at}
 use Rattle.gui_draw.specs.Drawing.{Draws}
 use Rattle.scene_defs.specs.declared.Row.{Row}
-use Rattle.scene_defs.specs.Row.{value_of}
 use Rattle.gui_tree.specs.Handles.{as_handle}
 use Rattle.scene_defs.specs.Scene.{Object, Scene, handle_of, handles_of, is_at, object_by, row_at, row_of}
 use Rattle.scene_defs.specs.Place.{panel_of, place, wanted_in}
 use Rattle.scene_defs.specs.Visible.{holds}
-use Rattle.scene_defs.specs.Items.{items_at, items_of, paint_item, rgb_of, opa_of}
+use Rattle.scene_defs.specs.Items.{Item, items_at, items_of, coat_of, paint_item}
 use Rattle.scene_defs.specs.Valid.{IsValid}
 use Rattle.scene_defs.proofs.Distinct.{distinct_once}
 use Rattle.scene_defs.proofs.Places.{children_in_parents}
-use Rattle.gui_paint.specs.Painting.{Painting, Leaves, Paints, IsSeenPart, IsUnseen, no_more, is_seen, painted, painted_row, painted_tree, painted_scene}
+use Rattle.gui_paint.specs.Painting.{Painting, Leaves, Paints, IsSeenPart, IsUnseen, no_more, is_seen, painted, painted_items, painted_tree, painted_scene}
 use Rattle.gui_paint.proofs.Painted.{painted-unseen, three_trees}
 
 -- nothing is painted
@@ -44,17 +42,16 @@ leaves_less p q own later h = record { area_stays = h.area_stays; limit_stays = 
 pub leaves_same : (p q : Buffer) (a b c : Painting) → ((x y : ℤ) → has p.area x y ≡ true → a x y (pixel_at p x y) ≡ b x y (pixel_at p x y)) → Leaves p q a c → Leaves p q b c
 leaves_same p q a b c same h = record { area_stays = h.area_stays; limit_stays = h.limit_stays; pixels = λ x y i. h.pixels x y i ∙ same x y i }
 
--- the fill of an object where it is seen
+-- an item in what is seen of its object
 laid_if : (seen : Bool) (d : Option Dab) (under : Rgb565) → laid (if seen then d else None) under ≡ (if seen then laid d under else under)
 laid_if true d under = refl
 laid_if false d under = refl
 
-pub paints_row : (old new : Buffer) (from to : ℕ) (visible place : Rect) (row : Row) (fg : Rgb565) (opa : ℕ) → fg ≡ rgb_of (value_of row BgColor) → opa ≡ opa_of (value_of row BgOpa) →
-    Draws old new from to (within visible (fill_coat place fg opa)) → Paints old new (painted_row visible place row)
-paints_row old new from to visible place row fg opa color opacity h = record {
+pub paints_item : (old new : Buffer) (from to : ℕ) (visible : Rect) (item : Item) → Draws old new from to (within visible (coat_of item.area item.paint)) → Paints old new (painted_items visible (item ∷ []))
+paints_item old new from to visible item h = record {
   area_stays = h.area_stays;
   limit_stays = h.limit_stays;
-  pixels = λ x y i. rw (← color, ← opacity) (h.pixels x y i ∙ laid_if (has visible x y) (fill_coat place fg opa x y) (pixel_at old x y));
+  pixels = λ x y i. h.pixels x y i ∙ laid_if (has visible x y) (coat_of item.area item.paint x y) (pixel_at old x y);
 }
 
 -- the trees from `next` on, where the clip is what is seen of their parent
@@ -126,14 +123,14 @@ unseen_tree scene clip h row area x y under is at unseen =
 
 -- an object where it is seen, and then all below it
 pub seen_tree : (old mid new : Buffer) (scene : Scene) (clip visible : Rect) (h : ℕ) (row : Row) (area : Rect) (first : Option Handle) → Some row ≡ row_at scene h → place scene h ≡ Some area → IsSeenPart clip row area visible →
-    trees_from handle_of first scene.trees ≡ children_by (is_at h) scene.trees → Paints old mid (painted_row visible area row) → Leaves mid new (painted_from scene visible first) no_more → Paints old new (painted_tree scene clip h)
+    trees_from handle_of first scene.trees ≡ children_by (is_at h) scene.trees → Paints old mid (painted_items visible (items_of area row)) → Leaves mid new (painted_from scene visible first) no_more → Paints old new (painted_tree scene clip h)
 seen_tree old mid new scene clip visible h row area first is at seen from own below =
-    leaves_same old new (λ x y under. painted_from scene visible first x y (painted_row visible area row x y under)) (painted_tree scene clip h) no_more (λ x y i.
+    leaves_same old new (λ x y under. painted_from scene visible first x y (painted_items visible (items_of area row) x y under)) (painted_tree scene clip h) no_more (λ x y i.
     let under = pixel_at old x y in
-    ap (λ (t : Forest Object). painted scene x y (has visible x y) t (painted_row visible area row x y under)) from
+    ap (λ (t : Forest Object). painted scene x y (has visible x y) t (painted_items visible (items_of area row) x y under)) from
     ∙ (ap (λ (here : Bool). painted scene x y here (children_by (is_at h) scene.trees) (if here then fold (paint_item x y) under (items_of area row) else under)) (seen.pixels x y)
     ∙ sym (tree_painted scene clip h row area x y under is at)))
-    (leaves_then old mid new _ (painted_from scene visible first) no_more (leaves_less old mid (painted_row visible area row) (painted_from scene visible first) own) below)
+    (leaves_then old mid new _ (painted_from scene visible first) no_more (leaves_less old mid (painted_items visible (items_of area row)) (painted_from scene visible first) own) below)
 
 -- a child, and the trees after it
 module _ (scene : Scene) (h : ℕ) (child : Handle) (valid : IsValid scene) (come : HasCome handle_of scene.trees h (Some child)) where

@@ -1,5 +1,5 @@
 -- What painting does to a draw buffer.
-use Rattle.std.specs.Prelude.{◌≡◌, ℕ, Bool, true, false, not, ◌&&◌, if◌then◌else◌, fold, ℤ}
+use Rattle.std.specs.Prelude.{◌≡◌, ℕ, Bool, true, false, not, ◌&&◌, if◌then◌else◌, fold, List, ℤ}
 use Rattle.gui_base.specs.declared.color.Rgb565.{Rgb565}
 use Rattle.gui_base.specs.declared.words.Flag.TheVariants.{Hidden}
 use Rattle.gui_base.specs.Area.{Rect, has}
@@ -10,7 +10,7 @@ use Rattle.scene_defs.specs.Row.{is_on}
 use Rattle.scene_defs.specs.Scene.{Object, Scene, is_at}
 use Rattle.scene_defs.specs.Place.{place}
 use Rattle.scene_defs.specs.Visible.{holds}
-use Rattle.scene_defs.specs.Items.{items, items_of, paint_item}
+use Rattle.scene_defs.specs.Items.{Item, items, paint_item}
 use Rattle.scene_defs.specs.Shown.{shown}
 use Rattle.scene_defs.specs.Picture.{paint_seen}
 
@@ -48,10 +48,9 @@ painted scene x y inside (Tree object cs rest) under =
 abbrev pub painted_tree : Scene → Rect → ℕ → Painting
 painted_tree scene clip h x y under = painted scene x y (has clip x y) (tree_by (is_at h) scene.trees) under
 
--- an object by itself where it is seen
-abbrev pub painted_row : Rect → Rect → Row → Painting
-painted_row visible place row x y under =
-    if has visible x y then fold (paint_item x y) under (items_of place row) else under
+-- items in what is seen of their object
+abbrev pub painted_items : Rect → List Item → Painting
+painted_items visible items x y under = if has visible x y then fold (paint_item x y) under items else under
 
 -- all that is shown
 abbrev pub painted_scene : Scene → Painting

@@ -2,13 +2,13 @@
 ghost use Rattle.std.specs.Prelude.{◌≡◌, MatchOption, IsSome, Some, option_map};
 ghost use Rattle.gui_base.specs.Corners.{rect_of};
 ghost use Rattle.gui_base.specs.declared.words.Prop.TheVariants.{BgColor};
-ghost use Rattle.scene_defs.specs.Items.{rgb_of};
+ghost use Rattle.scene_defs.specs.Items.{items_of, rgb_of};
 ghost use Rattle.scene_defs.specs.Place.{pixels_of, wanted_in, place as place_of};
 ghost use Rattle.scene_defs.specs.Placing.{IsNear};
 ghost use Rattle.scene_defs.specs.Scene.{row_at};
 ghost use Rattle.scene_defs.specs.Valid.{IsRow, IsSize, IsValue};
 ghost use Rattle.gui_store.specs.Views.{scene_of};
-ghost use Rattle.gui_paint.specs.Painting.{Paints, IsSeenPart, IsUnseen, painted_row, painted_tree};
+ghost use Rattle.gui_paint.specs.Painting.{Paints, IsSeenPart, IsUnseen, painted_items, painted_tree};
 ghost use Rattle.gui_paint.specs.Painting.{painted_scene};
 
 use gui_base::{Area, Flag, Handle, Length, Part, Prop, Rgb565, Steps};
@@ -140,7 +140,8 @@ fn paint_row<L: Ledger>(
     steps: &mut Steps<L>,
 )
     requires { IsRow row.now }
-    ensures { Paints buf.old buf.new (painted_row (rect_of visible) (rect_of place) row.now) }
+    ensures { Paints buf.old buf.new
+        (painted_items (rect_of visible) (items_of (rect_of place) row.now)) }
 {
     let fg = rgb_of(row.value(Part::Main, Prop::BgColor));
     let opa = row.value(Part::Main, Prop::BgOpa).unsigned_abs() as u8;

@@ -2,8 +2,8 @@ use Rattle.std.proofs.Common.{◌∙◌, ap, FitsSigned, w32, rules, arith}
 use Rattle.std.specs.Int.RustNames.{unsigned_abs}
 use Rattle.std.proofs.lemmas.Int.{to_z-of_z}
 use Rattle.gui_base.specs.Corners.{rect_of}
-use Rattle.scene_defs.specs.Items.{rgb_of}
-use Rattle.gui_paint.proofs.Trees.{paints_row}
+use Rattle.scene_defs.specs.Items.{Fill, rgb_of}
+use Rattle.gui_paint.proofs.Trees.{paints_item}
 use Rattle.gui_paint.proofs.Values.{color_in_range, opa_byte}
 use Rattle.gui_paint.proofs.paint.paint_row.Goals as goal
 
@@ -23,6 +23,6 @@ pub returns : goal.returns
 returns g c =
     let color : FitsSigned w32 c.value.result = search rules in
     let opa : FitsSigned w32 c.value-2.result = search rules in
-    paints_row _ _ _ _ (rect_of c.args.visible) (rect_of c.args.place) c.args.row.now c.rgb_of-fg.result c.unsigned_abs-opa.result
-    (c.rgb_of-fg.ensures ∙ ap rgb_of (to_z-of_z w32 c.value.result color ∙ c.value.ensures))
-    (c.unsigned_abs-opa.ensures.value ∙ ap unsigned_abs (to_z-of_z w32 c.value-2.result opa ∙ c.value-2.ensures)) c.fill.ensures
+    let color_is = c.rgb_of-fg.ensures ∙ ap rgb_of (to_z-of_z w32 c.value.result color ∙ c.value.ensures) in
+    let opa_is = c.unsigned_abs-opa.ensures.value ∙ ap unsigned_abs (to_z-of_z w32 c.value-2.result opa ∙ c.value-2.ensures) in
+    paints_item _ _ _ _ (rect_of c.args.visible) (record { area = rect_of c.args.place; paint = Fill _ _ }) (rw (color_is, opa_is) at c.fill.ensures)

@@ -1,5 +1,5 @@
 -- How trees are painted one after another.
-use Rattle.std.proofs.Common.{◌≡◌, ◌∙◌, ◌<◌, IsSome, refl, sym, ap, subst, ℕ, ℤ, Bool, true, false, ◌&&◌, if◌then◌else◌, [], ◌∷◌, Option, Some, None, option_map, fold, eqb, arith}
+use Rattle.std.proofs.Common.{◌≡◌, ◌∙◌, ◌<◌, IsSome, refl, sym, ap, subst, ℕ, ℤ, Bool, true, false, ◌&&◌, if◌then◌else◌, List, [], ◌∷◌, Option, Some, None, option_map, fold, eqb, arith}
 use Rattle.std.proofs.lemmas.Bool.Decides.{nat_tests}
 use Rattle.gui_base.specs.declared.color.Rgb565.{Rgb565}
 use Rattle.gui_base.specs.Area.{Rect, has}
@@ -7,7 +7,7 @@ use Rattle.gui_base.specs.Coats.{Dab, laid, within}
 use Rattle.gui_base.specs.declared.Handle.{Handle}
 use Rattle.gui_base.specs.Forest.{Forest, Empty, Tree, size, tree_by, first_root, children_by, children_of, next_by, next_to}
 use Rattle.gui_base.proofs.Forests.{map-children_by, map-first_root, map-next_by}
-use Rattle.gui_base.proofs.Visits.{HasCome, GoesOn, walk_goes_on, trees_from, tree-opens, name_of}
+use Rattle.gui_base.proofs.Visits.{HasCome, GoesOn, walk_goes_on, trees_from, name_of}
 use Rattle.gui_color.specs.Buffer.{Buffer, pixel_at}
 use Rattle.gui_draw.specs.Drawing.{Draws}
 use Rattle.scene_defs.specs.declared.Row.{Row}
@@ -63,31 +63,14 @@ object_root : (test : Object → Bool) (f : Forest Object) → object_by test f 
 object_root test Empty = refl
 object_root test (Tree object cs rest) = grind (arith, nat_tests, object_root test cs, object_root test rest)
 
-object_named : (f : Forest Object) (h : ℕ) (o : Object) → object_by (is_at h) f ≡ Some o → o.handle ≡ h
-object_named Empty h o e = cc
-object_named (Tree object cs rest) h o e = grind (arith, nat_tests, object_named cs h o, object_named rest h o)
+pub no_tree : (f : Forest Object) (h : ℕ) → None ≡ option_map row_of (object_by (is_at h) f) → tree_by (is_at h) f ≡ Empty
+no_tree Empty h e = refl
+no_tree (Tree object cs rest) h e = grind (arith, nat_tests, no_tree cs h, no_tree rest h)
 
-module _ (scene : Scene) (h : ℕ) where
-  pub no_tree : None ≡ row_at scene h → tree_by (is_at h) scene.trees ≡ Empty
-  no_tree none = go (tree_by (is_at h) scene.trees) (object_root (is_at h) scene.trees)
-    where
-      go : (t : Forest Object) → object_by (is_at h) scene.trees ≡ first_root t → t ≡ Empty
-      go Empty e = refl
-      go (Tree a cs rest) e = let n : None ≡ option_map row_of (Some a) = rw e at none in cc
-
-  -- a tree by its root's row
-  pub tree_is : (row : Row) → Some row ≡ row_at scene h → tree_by (is_at h) scene.trees ≡ Tree (record { handle = h; row = row }) (children_by (is_at h) scene.trees) Empty
-  tree_is row is = go (object_by (is_at h) scene.trees) refl is
-    where
-      same : (o : Object) → o.handle ≡ h → row ≡ o.row → o ≡ record { handle = h; row = row }
-      same o p q = rw (← p, q) refl
-
-      go : (o : Option Object) → object_by (is_at h) scene.trees ≡ o → Some row ≡ option_map row_of o → tree_by (is_at h) scene.trees ≡ Tree (record { handle = h; row = row }) (children_by (is_at h) scene.trees) Empty
-      go None e i = cc
-      go (Some o) e i =
-          let q : row ≡ o.row = cc in
-          tree-opens handle_of scene.trees h o (sym (object_root (is_at h) scene.trees) ∙ e)
-          ∙ ap (λ (a : Object). Tree a (children_by (is_at h) scene.trees) Empty) (same o (object_named scene.trees h o e) q)
+-- a tree by its root's row
+tree_is : (f : Forest Object) (h : ℕ) (row : Row) → Some row ≡ option_map row_of (object_by (is_at h) f) → tree_by (is_at h) f ≡ Tree (record { handle = h; row = row }) (children_by (is_at h) f) Empty
+tree_is Empty h row e = cc
+tree_is (Tree object cs rest) h row e = grind (arith, nat_tests, tree_is cs h row, tree_is rest h row)
 
 -- the walkers of a tree of handles, over objects
 named : (o : Option Object) → option_map as_handle (option_map handle_of o) ≡ name_of handle_of o
@@ -102,35 +85,29 @@ first_named f h =
 pub next_named : (f : Forest Object) (h : ℕ) → option_map as_handle (next_to (handles_of f) h) ≡ name_of handle_of (next_by (is_at h) f)
 next_named f h = ap (option_map as_handle) (sym (map-next_by handle_of (λ k. eqb k h) f)) ∙ named (next_by (is_at h) f)
 
--- what painting an object and all below it comes to
-pub tree_painted : (scene : Scene) (clip : Rect) (h : ℕ) (row : Row) (area : Rect) (x y : ℤ) (under : Rgb565) → Some row ≡ row_at scene h → place scene h ≡ Some area →
-    painted_tree scene clip h x y under ≡
-    painted scene x y (has clip x y && is_seen row (has area x y)) (children_by (is_at h) scene.trees)
-    (if has clip x y && is_seen row (has area x y) then fold (paint_item x y) under (items_of area row) else under)
-tree_painted scene clip h row area x y under is at =
-    let by : Option Rect → Option Row → Rgb565 = λ (p : Option Rect) (r : Option Row).
-    let here = has clip x y && is_seen row (holds p x y) in
-    painted scene x y here (children_by (is_at h) scene.trees) (if here then fold (paint_item x y) under (items_at p r) else under) in
-    ap (λ (t : Forest Object). painted scene x y (has clip x y) t under) (tree_is scene h row is) ∙ (ap (λ (p : Option Rect). by p (row_at scene h)) at ∙ ap (by (Some area)) (sym is))
+-- an object with these items where it is seen, and then all below it
+abbrev painted_below : Scene → ℕ → List Item → ℤ → ℤ → Rgb565 → Bool → Rgb565
+painted_below scene h own x y under here = painted scene x y here (children_by (is_at h) scene.trees) (if here then fold (paint_item x y) under own else under)
 
--- an object of which nothing is seen
-pub unseen_tree : (scene : Scene) (clip : Rect) (h : ℕ) (row : Row) (area : Rect) (x y : ℤ) (under : Rgb565) → Some row ≡ row_at scene h → place scene h ≡ Some area → IsUnseen clip row area →
-    painted_tree scene clip h x y under ≡ under
-unseen_tree scene clip h row area x y under is at unseen =
-    tree_painted scene clip h row area x y under is at
-    ∙ (ap (λ (here : Bool). painted scene x y here (children_by (is_at h) scene.trees) (if here then fold (paint_item x y) under (items_of area row) else under)) (unseen.pixels x y)
-    ∙ painted-unseen scene x y (children_by (is_at h) scene.trees) under)
+module _ (scene : Scene) (clip : Rect) (h : ℕ) (row : Row) (area : Rect) (is : Some row ≡ row_at scene h) (at : place scene h ≡ Some area) where
+  tree_painted : (x y : ℤ) (under : Rgb565) → painted_tree scene clip h x y under ≡ painted_below scene h (items_of area row) x y under (has clip x y && is_seen row (has area x y))
+  tree_painted x y under =
+      let by : Option Rect → Option Row → Rgb565 = λ (p : Option Rect) (r : Option Row). painted_below scene h (items_at p r) x y under (has clip x y && is_seen row (holds p x y)) in
+      ap (λ (t : Forest Object). painted scene x y (has clip x y) t under) (tree_is scene.trees h row is) ∙ (ap (λ (p : Option Rect). by p (row_at scene h)) at ∙ ap (by (Some area)) (sym is))
 
--- an object where it is seen, and then all below it
-pub seen_tree : (old mid new : Buffer) (scene : Scene) (clip visible : Rect) (h : ℕ) (row : Row) (area : Rect) (first : Option Handle) → Some row ≡ row_at scene h → place scene h ≡ Some area → IsSeenPart clip row area visible →
-    trees_from handle_of first scene.trees ≡ children_by (is_at h) scene.trees → Paints old mid (painted_items visible (items_of area row)) → Leaves mid new (painted_from scene visible first) no_more → Paints old new (painted_tree scene clip h)
-seen_tree old mid new scene clip visible h row area first is at seen from own below =
-    leaves_same old new (λ x y under. painted_from scene visible first x y (painted_items visible (items_of area row) x y under)) (painted_tree scene clip h) no_more (λ x y i.
-    let under = pixel_at old x y in
-    ap (λ (t : Forest Object). painted scene x y (has visible x y) t (painted_items visible (items_of area row) x y under)) from
-    ∙ (ap (λ (here : Bool). painted scene x y here (children_by (is_at h) scene.trees) (if here then fold (paint_item x y) under (items_of area row) else under)) (seen.pixels x y)
-    ∙ sym (tree_painted scene clip h row area x y under is at)))
-    (leaves_then old mid new _ (painted_from scene visible first) no_more (leaves_less old mid (painted_items visible (items_of area row)) (painted_from scene visible first) own) below)
+  -- where nothing of it is seen
+  pub unseen_tree : (x y : ℤ) (under : Rgb565) → IsUnseen clip row area → painted_tree scene clip h x y under ≡ under
+  unseen_tree x y under unseen =
+      tree_painted x y under ∙ (ap (painted_below scene h (items_of area row) x y under) (unseen.pixels x y) ∙ painted-unseen scene x y (children_by (is_at h) scene.trees) under)
+
+  pub seen_tree : (old mid new : Buffer) (visible : Rect) (first : Option Handle) → IsSeenPart clip row area visible → trees_from handle_of first scene.trees ≡ children_by (is_at h) scene.trees →
+      Paints old mid (painted_items visible (items_of area row)) → Leaves mid new (painted_from scene visible first) no_more → Paints old new (painted_tree scene clip h)
+  seen_tree old mid new visible first seen from own below =
+      let items = painted_items visible (items_of area row) in
+      leaves_same old new (λ x y under. painted_from scene visible first x y (items x y under)) (painted_tree scene clip h) no_more (λ x y i.
+      let under = pixel_at old x y in
+      ap (λ (t : Forest Object). painted scene x y (has visible x y) t (items x y under)) from ∙ (ap (painted_below scene h (items_of area row) x y under) (seen.pixels x y) ∙ sym (tree_painted x y under)))
+      (leaves_then old mid new _ (painted_from scene visible first) no_more (leaves_less old mid items (painted_from scene visible first) own) below)
 
 -- a child, and the trees after it
 module _ (scene : Scene) (h : ℕ) (child : Handle) (valid : IsValid scene) (come : HasCome handle_of scene.trees h (Some child)) where
@@ -144,7 +121,7 @@ module _ (scene : Scene) (h : ℕ) (child : Handle) (valid : IsValid scene) (com
   child_there = rw (object_root (is_at child.0) scene.trees, on.tree) refl
 
   pub child_small : (row : Row) → Some row ≡ row_at scene h → size (tree_by (is_at child.0) scene.trees) < size (tree_by (is_at h) scene.trees)
-  child_small row is = rw (on.tree, tree_is scene h row is) (omega (arith, on.small))
+  child_small row is = rw (on.tree, tree_is scene.trees h row is) (omega (arith, on.small))
 
   pub child_place : (area result : Rect) → place scene h ≡ Some area → option_map (wanted_in area) (row_at scene child.0) ≡ Some result → place scene child.0 ≡ Some result
   child_place area result at e = children_in_parents scene h child.0 area valid at on.below ∙ e

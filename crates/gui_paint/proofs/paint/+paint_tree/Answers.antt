@@ -40,12 +40,12 @@ next_is g t c =
 pub returns-in_default : goal.returns-in_default
 returns-in_default g t c =
     let scene = scene_of c.args.store.now in
-    leaves_self c.args.buf.now _ _ (λ x y. ap (λ (f : Forest Object). painted scene x y (has (rect_of c.args.clip) x y) f (pixel_at c.args.buf.now x y)) (no_tree scene c.args.h.0 c.in_default.ensures.value))
+    leaves_self c.args.buf.now _ _ (λ x y. ap (λ (f : Forest Object). painted scene x y (has (rect_of c.args.clip) x y) f (pixel_at c.args.buf.now x y)) (no_tree scene.trees c.args.h.0 c.in_default.ensures.value))
 
 pub returns-in_default-seen_part : goal.returns-in_default-seen_part
 returns-in_default-seen_part g t c =
     leaves_self c.args.buf.now _ _ (λ x y.
-    unseen_tree (scene_of c.args.store.now) (rect_of c.args.clip) c.args.h.0 c.in-Some.row.now (rect_of c.args.place) x y _ c.in-Some.ensures.value c.requires c.in_default-seen_part.ensures)
+    unseen_tree (scene_of c.args.store.now) (rect_of c.args.clip) c.args.h.0 c.in-Some.row.now (rect_of c.args.place) c.in-Some.ensures.value c.requires x y _ c.in_default-seen_part.ensures)
 
 pub loop-next-init : goal.loop-next-init
 loop-next-init g t c = record { come = (begins g t (goal.at.loop-next-init g t c).After-first_child-next).1; left = leaves_self _ _ _ (λ x y. refl) }
@@ -88,5 +88,5 @@ returns g t c =
     let scene = scene_of c.args.store.now in
     let visible = rect_of c.in-Some-seen_part.visible in
     let below = subst (λ (next : Option Handle). Leaves c.paint_row.new.buf c.loop-next.buf (painted_from scene visible c.first_child-next.result) (painted_from scene visible next)) c.in_default-next.is c.loop-next.invariant.left in
-    seen_tree c.args.buf.now c.paint_row.new.buf c.loop-next.buf scene (rect_of c.args.clip) visible c.args.h.0 c.in-Some.row.now (rect_of c.args.place) c.first_child-next.result c.in-Some.ensures.value c.requires c.in-Some-seen_part.ensures
+    seen_tree scene (rect_of c.args.clip) c.args.h.0 c.in-Some.row.now (rect_of c.args.place) c.in-Some.ensures.value c.requires c.args.buf.now c.paint_row.new.buf c.loop-next.buf visible c.first_child-next.result c.in-Some-seen_part.ensures
     (begins g t (goal.at.returns g t c).After-first_child-next).0 c.paint_row.ensures below

@@ -1,15 +1,5 @@
 -- A ring is four bands, of which no two have a pixel in common.
-use Rattle.std.proofs.Common.{◌≡◌, ◌∙◌, refl, sym, ap, ℕ, ◌*◌, ◌<◌, Bool, true, false, not, ◌&&◌, ◌||◌, if◌then◌else◌, Option, None, arith, inl, inr, ℤ, ◌+ℤ◌, ◌-ℤ◌}
-use Rattle.std.specs.Prelude.{pos}
-use Rattle.std.proofs.lemmas.Int.{ints}
-use Rattle.std.proofs.lemmas.Bool.Decides.{nat_tests}
-use Rattle.std.specs.Int.Signed.{le_z}
-use Rattle.gui_base.specs.declared.color.Rgb565.{Rgb565}
-use Rattle.gui_base.specs.Area.{Rect, has, count_between}
-use Rattle.gui_base.specs.Coats.{Dab, only, within, plain, fill_coat, ring_coat, shrunk, is_between}
-use Rattle.gui_color.specs.Buffer.{Buffer}
-use Rattle.gui_draw.specs.Drawing.{Draws}
-use Rattle.gui_draw.specs.Rings.{IsThin, IsThick, top_band, bottom_band, left_band, right_band}
+use Rattle.gui_draw.proofs.Common.{pos, ◌≡◌, ◌∙◌, refl, sym, ap, ℕ, ◌*◌, ◌<◌, Bool, true, false, not, ◌&&◌, ◌||◌, if◌then◌else◌, Option, None, arith, inl, inr, ℤ, ◌+ℤ◌, ◌-ℤ◌, ints, nat_tests, le_z, Rgb565, Rect, has, count_between, Dab, only, within, plain, fill_coat, ring_coat, shrunk, is_between, Buffer, Draws, IsThin, IsThick, top_band, bottom_band, left_band, right_band}
 use Rattle.gui_draw.proofs.Steps.{draws_none, draws_same, draws_both}
 
 -- a number of an interval is one of the first, of the middle or of the last ones

@@ -1,11 +1,5 @@
 -- Counting pixels.
-use Rattle.std.proofs.Common.{◌≡◌, ◌≢◌, ◌∙◌, refl, sym, ap, subst, ℕ, zero, suc, ◌+◌, ◌-◌, ◌*◌, ◌<◌, ◌≤◌, Bool, true, false, ◌&&◌, ◌||◌, if◌then◌else◌, Option, None, is_some, arith, ℤ, pos, ◌≤ℤ◌, ◌+ℤ◌}
-use Rattle.std.proofs.lemmas.Int.{ints}
-use Rattle.std.proofs.lemmas.Bool.Decides.{nat_tests}
-use Rattle.gui_base.specs.Area.{Rect, has, width_of, height_of, count_between}
-use Rattle.gui_base.specs.Coats.{Dab, Coat, only, within}
-use Rattle.gui_color.specs.Buffer.{distance, row_area}
-use Rattle.gui_draw.specs.Counts.{sum_below, one_if_laid, row_count, pixel_count}
+use Rattle.gui_draw.proofs.Common.{pos, ◌≡◌, ◌≢◌, ◌∙◌, refl, sym, ap, subst, ℕ, zero, suc, ◌+◌, ◌-◌, ◌*◌, ◌<◌, ◌≤◌, Bool, true, false, ◌&&◌, ◌||◌, if◌then◌else◌, Option, None, is_some, arith, ℤ, ◌≤ℤ◌, ◌+ℤ◌, ints, nat_tests, Rect, has, width_of, height_of, count_between, Dab, Coat, only, within, distance, row_area, sum_below, one_if_laid, row_count, pixel_count}
 
 sum_same : (n : ℕ) (f g : ℕ → ℕ) → ((i : ℕ) → i < n → f i ≡ g i) → sum_below n f ≡ sum_below n g
 unfolding sum_below

@@ -1,4 +1,5 @@
 pub mod Bands
+pub mod Common
 pub mod Counts
 pub mod Lines
 pub mod Steps

@@ -1,16 +1,5 @@
 -- A part of a draw buffer, line by line.
-use Rattle.std.proofs.Common.{◌≡◌, ◌∙◌, refl, sym, ap, ℕ, ◌+◌, ◌<◌, Bool, true, false, ◌&&◌, ◌||◌, if◌then◌else◌, List, map, length, Option, None, arith, ℤ, pos, ◌≤ℤ◌, ◌+ℤ◌, ◌-ℤ◌}
-use Rattle.std.proofs.lemmas.Int.{ints}
-use Rattle.std.specs.Int.Signed.{le_z}
-use Rattle.std.proofs.lemmas.Bool.Decides.{nat_tests}
-use Rattle.std.proofs.lemmas.List.{length-map, get_or-map}
-use Rattle.gui_base.specs.declared.color.Rgb565.{Rgb565}
-use Rattle.gui_base.specs.Area.{Rect, has, is_empty, width_of, height_of}
-use Rattle.gui_base.specs.Coats.{Dab, Coat, within, plain, fill_coat}
-use Rattle.gui_base.specs.Color.{mix, black}
-use Rattle.gui_color.specs.Buffer.{Buffer, HoldsRow, distance, row_of, with_row}
-use Rattle.gui_draw.specs.Drawing.{Draws}
-use Rattle.gui_draw.specs.Parts.{IsInside, IsPart, IsOutside, HasLine, line_of}
+use Rattle.gui_draw.proofs.Common.{pos, ◌≡◌, ◌∙◌, refl, sym, ap, ℕ, ◌+◌, ◌<◌, Bool, true, false, ◌&&◌, ◌||◌, if◌then◌else◌, List, map, length, Option, None, arith, ℤ, ◌≤ℤ◌, ◌+ℤ◌, ◌-ℤ◌, ints, le_z, nat_tests, length-map, get_or-map, Rgb565, Rect, has, is_empty, width_of, height_of, Dab, Coat, within, plain, fill_coat, mix, black, Buffer, HoldsRow, distance, row_of, with_row, Draws, IsInside, IsPart, IsOutside, HasLine, line_of}
 use Rattle.gui_draw.proofs.Counts.{row_count_all}
 use Rattle.gui_draw.proofs.Steps.{draws_none, draws_same, draws_both, draws_row}
 

@@ -1,12 +1,5 @@
 -- One drawing after another.
-use Rattle.std.proofs.Common.{◌≡◌, ◌∙◌, refl, sym, ap, subst, ℕ, ◌+◌, Bool, true, false, ◌&&◌, ◌||◌, if◌then◌else◌, List, length, slice_index_or, Option, None, arith, ℤ, ◌≤ℤ◌}
-use Rattle.gui_base.specs.declared.color.Rgb565.{Rgb565}
-use Rattle.gui_base.specs.Area.{Rect, has, count_between}
-use Rattle.gui_base.specs.Coats.{Dab, Coat, laid, only, within}
-use Rattle.gui_base.specs.Color.{black}
-use Rattle.gui_color.specs.Buffer.{Buffer, HoldsRow, distance, pixel_at, with_row, row_area}
-use Rattle.gui_draw.specs.Counts.{row_count, pixel_count}
-use Rattle.gui_draw.specs.Drawing.{Draws}
+use Rattle.gui_draw.proofs.Common.{◌≡◌, ◌∙◌, refl, sym, ap, subst, ℕ, ◌+◌, Bool, true, false, ◌&&◌, ◌||◌, if◌then◌else◌, List, length, slice_index_or, Option, None, arith, ℤ, ◌≤ℤ◌, Rgb565, Rect, has, count_between, Dab, Coat, laid, only, within, black, Buffer, HoldsRow, distance, pixel_at, with_row, row_area, row_count, pixel_count, Draws}
 use Rattle.gui_draw.proofs.Counts.{pixel_count_same, pixel_count_both, pixel_count_none, pixel_count_row}
 
 -- nothing is laid on the buffer

@@ -1,3 +1,4 @@
+pub mod Common
 pub mod Painted
 pub mod Trees
 pub mod Values

@@ -1,25 +1,5 @@
 -- How trees are painted one after another.
-use Rattle.std.proofs.Common.{◌≡◌, ◌∙◌, ◌<◌, IsSome, refl, sym, ap, subst, ℕ, ℤ, Bool, true, false, ◌&&◌, if◌then◌else◌, List, [], ◌∷◌, Option, Some, None, option_map, fold, eqb, arith}
-use Rattle.std.proofs.lemmas.Bool.Decides.{nat_tests}
-use Rattle.gui_base.specs.declared.color.Rgb565.{Rgb565}
-use Rattle.gui_base.specs.Area.{Rect, has}
-use Rattle.gui_base.specs.Coats.{Dab, laid, within}
-use Rattle.gui_base.specs.declared.Handle.{Handle}
-use Rattle.gui_base.specs.Forest.{Forest, Empty, Tree, size, tree_by, first_root, children_by, children_of, next_by, next_to}
-use Rattle.gui_base.proofs.Forests.{map-children_by, map-first_root, map-next_by}
-use Rattle.gui_base.proofs.Visits.{HasCome, GoesOn, walk_goes_on, trees_from, name_of}
-use Rattle.gui_color.specs.Buffer.{Buffer, pixel_at}
-use Rattle.gui_draw.specs.Drawing.{Draws}
-use Rattle.scene_defs.specs.declared.Row.{Row}
-use Rattle.gui_tree.specs.Handles.{as_handle}
-use Rattle.scene_defs.specs.Scene.{Object, Scene, handle_of, handles_of, is_at, object_by, row_at, row_of}
-use Rattle.scene_defs.specs.Place.{panel_of, place, wanted_in}
-use Rattle.scene_defs.specs.Visible.{holds}
-use Rattle.scene_defs.specs.Items.{Item, items_at, items_of, coat_of, paint_item}
-use Rattle.scene_defs.specs.Valid.{IsValid}
-use Rattle.scene_defs.proofs.Distinct.{distinct_once}
-use Rattle.scene_defs.proofs.Places.{children_in_parents}
-use Rattle.gui_paint.specs.Painting.{Painting, Leaves, Paints, IsSeenPart, IsUnseen, no_more, is_seen, painted, painted_items, painted_tree, painted_scene}
+use Rattle.gui_paint.proofs.Common.{◌≡◌, ◌∙◌, ◌<◌, IsSome, refl, sym, ap, subst, ℕ, ℤ, Bool, true, false, ◌&&◌, if◌then◌else◌, List, [], ◌∷◌, Option, Some, None, option_map, fold, eqb, arith, nat_tests, Rgb565, Rect, has, Dab, laid, within, Handle, Forest, Empty, Tree, size, tree_by, first_root, children_by, children_of, next_by, next_to, map-children_by, map-first_root, map-next_by, HasCome, GoesOn, walk_goes_on, trees_from, name_of, Buffer, pixel_at, Draws, Row, as_handle, Object, Scene, handle_of, handles_of, is_at, object_by, row_at, row_of, panel_of, place, wanted_in, holds, Item, items_at, items_of, coat_of, paint_item, IsValid, distinct_once, children_in_parents, Painting, Leaves, Paints, IsSeenPart, IsUnseen, no_more, is_seen, painted, painted_items, painted_tree, painted_scene}
 use Rattle.gui_paint.proofs.Painted.{painted-unseen, three_trees}
 
 -- nothing is painted

@@ -1,20 +1,5 @@
 -- The values of a row lie in their intervals.
-use Rattle.std.proofs.Common.{◌≡◌, refl, true, ◌≤◌, ℤ, pos, ◌≤ℤ◌, Option, Some, None, arith}
-use Rattle.std.specs.Prelude.{unwrap_or}
-use Rattle.std.specs.Int.RustNames.{unsigned_abs}
-use Rattle.std.proofs.lemmas.Int.{ints}
-use Rattle.std.proofs.lemmas.Bool.Decides.{nat_tests}
-use Rattle.gui_base.specs.declared.words.Kind.{Kind}
-use Rattle.gui_base.specs.declared.words.Kind.TheVariants.{Screen}
-use Rattle.gui_base.specs.declared.words.Length.{Length}
-use Rattle.gui_base.specs.declared.words.Length.TheVariants.{Pixels}
-use Rattle.gui_base.specs.declared.words.Prop.{Prop}
-use Rattle.gui_base.specs.declared.words.Prop.TheVariants.{BgColor, BgOpa}
-use Rattle.scene_defs.specs.declared.Row.{Row}
-use Rattle.scene_defs.specs.Row.{default_of, value_of, is_local}
-use Rattle.scene_defs.specs.Place.{pixels_of}
-use Rattle.scene_defs.specs.Valid.{IsRow, IsSize, IsValue}
-use Rattle.scene_defs.proofs.InRange.{numbers_of}
+use Rattle.gui_paint.proofs.Common.{◌≡◌, refl, true, ◌≤◌, ℤ, pos, ◌≤ℤ◌, Option, Some, None, arith, unwrap_or, unsigned_abs, ints, nat_tests, Kind, Screen, Length, Pixels, Prop, BgColor, BgOpa, Row, default_of, value_of, is_local, pixels_of, IsRow, IsSize, IsValue, numbers_of}
 
 set_or_default : (prop : Prop) (o : Option ℤ) (d : ℤ) → is_local prop o ≡ true → IsValue prop d → IsValue prop (unwrap_or o d)
 set_or_default prop None d set other = other

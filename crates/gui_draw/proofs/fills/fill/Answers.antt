@@ -1,4 +1,4 @@
-use Rattle.gui_base.specs.Corners.{rect_of}
+use Rattle.gui_draw.proofs.Common.{rect_of}
 use Rattle.gui_draw.proofs.Lines.{part_inside, part_outside}
 use Rattle.gui_draw.proofs.fills.fill.Goals as goal
 

@@ -1,6 +1,4 @@
-use Rattle.std.proofs.Common.{◌∙◌, ap, ℕ, ◌+◌, length, map, sym}
-use Rattle.gui_base.specs.Color.{mix}
-use Rattle.gui_base.specs.Corners.{rect_of}
+use Rattle.gui_draw.proofs.Common.{◌∙◌, ap, ℕ, ◌+◌, length, map, sym, mix, rect_of}
 use Rattle.gui_draw.proofs.Lines.{fill_line}
 use Rattle.gui_draw.proofs.fills.fill_line.Goals as goal
 

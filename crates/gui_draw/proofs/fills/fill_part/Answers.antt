@@ -1,7 +1,4 @@
-use Rattle.std.proofs.Common.{sym, subst, arith}
-use Rattle.gui_base.specs.Area.{Rect}
-use Rattle.gui_base.specs.Corners.{rect_of}
-use Rattle.gui_draw.specs.Parts.{HasLine}
+use Rattle.gui_draw.proofs.Common.{sym, subst, arith, Rect, rect_of, HasLine}
 use Rattle.gui_draw.proofs.Lines.{part_start, part_more, part_all, has_line}
 use Rattle.gui_draw.proofs.fills.fill_part.Goals as goal
 

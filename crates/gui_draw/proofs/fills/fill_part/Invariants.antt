@@ -1,6 +1,4 @@
-use Rattle.gui_base.specs.Coats.{fill_coat}
-use Rattle.gui_base.specs.Corners.{rect_of}
-use Rattle.gui_draw.specs.Drawing.{Draws}
+use Rattle.gui_draw.proofs.Common.{fill_coat, rect_of, Draws}
 use Rattle.gui_draw.proofs.Lines.{first_lines}
 use Rattle.gui_draw.proofs.fills.fill_part.Given as goal
 

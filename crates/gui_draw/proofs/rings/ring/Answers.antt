@@ -1,4 +1,4 @@
-use Rattle.gui_base.specs.Corners.{rect_of}
+use Rattle.gui_draw.proofs.Common.{rect_of}
 use Rattle.gui_draw.proofs.Bands.{ring_none, ring_thick, ring_bands}
 use Rattle.gui_draw.proofs.rings.ring.Goals as goal
 

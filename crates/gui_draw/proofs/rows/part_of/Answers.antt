@@ -1,6 +1,4 @@
-use Rattle.std.proofs.Common.{◌∙◌, sym, ap, ◌&&◌}
-use Rattle.gui_base.specs.Area.{Rect, has}
-use Rattle.gui_base.specs.Corners.{rect_of}
+use Rattle.gui_draw.proofs.Common.{◌∙◌, sym, ap, ◌&&◌, Rect, has, rect_of}
 use Rattle.gui_draw.proofs.Lines.{part_is}
 use Rattle.gui_draw.proofs.rows.part_of.Goals as goal
 

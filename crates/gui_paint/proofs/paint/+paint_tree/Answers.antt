@@ -1,18 +1,4 @@
-use Rattle.std.proofs.Common.{◌≡◌, ◌∙◌, refl, sym, ap, subst, rules, ℕ, Option, Some, option_map, ◌<◌}
-use Rattle.std.specs.Option.{IfSome}
-use Rattle.gui_base.specs.Area.{Rect, has}
-use Rattle.gui_base.specs.Corners.{rect_of}
-use Rattle.gui_base.specs.declared.Handle.{Handle}
-use Rattle.gui_base.specs.Forest.{Forest, size, children_of, children_by, next_by, next_to, first_root}
-use Rattle.gui_base.proofs.Visits.{HasCome, walk_begins, trees_from, name_of}
-use Rattle.gui_color.specs.Buffer.{pixel_at}
-use Rattle.gui_tree.specs.Handles.{as_handle}
-use Rattle.scene_defs.specs.Scene.{Object, handle_of, is_at}
-use Rattle.scene_defs.specs.Placing.{IsNear}
-use Rattle.scene_defs.proofs.Distinct.{distinct_once}
-use Rattle.scene_defs.proofs.Places.{places_near}
-use Rattle.gui_store.specs.Views.{scene_of}
-use Rattle.gui_paint.specs.Painting.{Leaves, painted}
+use Rattle.gui_paint.proofs.Common.{◌≡◌, ◌∙◌, refl, sym, ap, subst, rules, ℕ, Option, Some, option_map, ◌<◌, IfSome, Rect, has, rect_of, Handle, Forest, size, children_of, children_by, next_by, next_to, first_root, HasCome, walk_begins, trees_from, name_of, pixel_at, as_handle, Object, handle_of, is_at, IsNear, distinct_once, places_near, scene_of, Leaves, painted}
 use Rattle.gui_paint.proofs.Trees.{leaves_self, painted_from, no_tree, unseen_tree, seen_tree, first_named, next_named, child_there, child_small, child_place, come_further, fewer_left, leaves_after}
 use Rattle.gui_paint.proofs.paint.+paint_tree.Given.{Over}
 use Rattle.gui_paint.proofs.paint.+paint_tree.Goals as goal

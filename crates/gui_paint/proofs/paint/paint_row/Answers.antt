@@ -1,8 +1,4 @@
-use Rattle.std.proofs.Common.{◌∙◌, ap, FitsSigned, w32, rules, arith}
-use Rattle.std.specs.Int.RustNames.{unsigned_abs}
-use Rattle.std.proofs.lemmas.Int.{to_z-of_z}
-use Rattle.gui_base.specs.Corners.{rect_of}
-use Rattle.scene_defs.specs.Items.{Fill, rgb_of}
+use Rattle.gui_paint.proofs.Common.{◌∙◌, ap, FitsSigned, w32, rules, arith, unsigned_abs, to_z-of_z, rect_of, Fill, rgb_of}
 use Rattle.gui_paint.proofs.Trees.{paints_item}
 use Rattle.gui_paint.proofs.Values.{color_in_range, opa_byte}
 use Rattle.gui_paint.proofs.paint.paint_row.Goals as goal

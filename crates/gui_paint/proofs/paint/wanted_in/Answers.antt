@@ -1,8 +1,4 @@
-use Rattle.std.proofs.Common.{◌≡◌, ◌∙◌, ℕ, ℤ, refl, FitsSigned, w32, rules, arith}
-use Rattle.std.proofs.lemmas.Int.{ints}
-use Rattle.gui_base.specs.Area.{area_at}
-use Rattle.scene_defs.proofs.InRange.{numbers_of}
-use Rattle.scene_defs.proofs.Places.{offset_bounds}
+use Rattle.gui_paint.proofs.Common.{◌≡◌, ◌∙◌, ℕ, ℤ, refl, FitsSigned, w32, rules, arith, ints, area_at, numbers_of, offset_bounds}
 use Rattle.gui_paint.proofs.paint.wanted_in.Goals as goal
 
 pub at-requires-clause-corner : goal.at-requires-clause-corner

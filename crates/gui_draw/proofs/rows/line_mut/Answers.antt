@@ -10,4 +10,4 @@ returns c =
     let x2 = to_z-of_z w32 c.args.part.x2 right in
     let y : to_z w32 (of_z w32 c.y_of.result) ≡ c.args.part.y1 +ℤ pos c.args.line = to_z-of_z w32 c.y_of.result fits ∙ c.y_of.ensures in
     let e = c.row_mut.ensures in
-    ((refl {a = c.row_mut.result.ghost_name}, λ w. rw (y, x1) refl), record { writes_back = tt; row = rw (y, x1, x2) at e.row; len = rw (x1, x2) at e.len; pixels = rw (y, x1, x2) at e.pixels })
+    ((refl, λ w. rw (y, x1)), record { writes_back = tt; row = rw (y, x1, x2) at e.row; len = rw (x1, x2) at e.len; pixels = rw (y, x1, x2) at e.pixels })

@@ -48,35 +48,40 @@ gone_start first source log before panel runner is line number frame noted sizes
   };
 }
 
--- the bytes of a piece for which there is room are those within the longest script
-within_longest : (taken piece within : List ℕ) (room : ℕ) → length taken + room ≡ max_script → within ≡ take room piece → taken ++ within ≡ take max_script (taken ++ piece)
-within_longest taken piece within room many is = ap (λ (t : List ℕ). taken ++ t) is ∙ sym (ap (λ (k : ℕ). take k (taken ++ piece)) (sym many) ∙ take-append-add taken piece room)
-
--- what was taken of a piece, by its number of bytes and the room
-pub taken_piece : (buffer within : List ℕ) (count room : ℕ) → count ≤ length buffer → within ≡ take (min count room) buffer → within ≡ take room (take count buffer)
-taken_piece buffer within count room fits is =
-    let least : min count room ≡ min room (length (take count buffer)) = omega (arith, length-take count buffer) in
-    is ∙ (sym (take-take (min count room) count buffer (omega arith)) ∙ (ap (λ (k : ℕ). take k (take count buffer)) least ∙ take_min room (take count buffer)))
-
 pub all_taken : (bytes : List ℕ) (room : ℕ) → length bytes ≤ room → take room bytes ≡ bytes
 all_taken bytes room few = let least : min room (length bytes) ≡ length bytes = omega arith in sym (take_min room bytes) ∙ (ap (λ (k : ℕ). take k bytes) least ∙ take-length bytes)
 
-pub gone_more : (first : Machine) (old : Outside) (mid source : SourceState) (a b : Reading) (room count : ℕ) (piece within : List ℕ) → length piece ≡ count → count ≤ room → within ≡ take room piece →
-    Gone first old mid a room → Consumes mid.left source.left piece → Reads a b within → Gone first old source b (room - count)
-gone_more first old mid source a b room count piece within many fits is h consumes reads = record {
-  taken = h.taken ++ piece;
-  source_is = Consumes-trans old.source.left mid.left source.left h.taken piece h.source_is consumes;
-  many = omega (arith, length-append h.taken piece, h.many);
-  read = subst (λ (t : List ℕ). HasRead first old.output b (h.taken ++ t)) (is ∙ all_taken piece room (omega arith)) (reads.from first old.output h.taken h.read);
-}
+-- the bytes that there is room for are those within the longest script
+within_longest : (taken buffer within : List ℕ) (count room : ℕ) → count ≤ length buffer → within ≡ take (min count room) buffer → length taken + room ≡ max_script → taken ++ within ≡ take max_script (taken ++ take count buffer)
+within_longest taken buffer within count room fits is many =
+    let piece = take count buffer in
+    let least : min count room ≡ min room (length piece) = omega (arith, length-take count buffer) in
+    let cut : take (min count room) buffer ≡ take room piece = sym (take-take (min count room) count buffer (omega arith)) ∙ (ap (λ (k : ℕ). take k piece) least ∙ take_min room piece) in
+    ap (λ (t : List ℕ). taken ++ t) (is ∙ cut) ∙ sym (ap (λ (k : ℕ). take k (taken ++ piece)) (sym many) ∙ take-append-add taken piece room)
+
+more_taken : (first : Machine) (old : Outside) (mid source : SourceState) (now : Reading) (buffer : List ℕ) (count room : ℕ) (h : Gone first old mid now room) → Consumes mid.left source.left (take count buffer) → Consumes old.source.left source.left (h.taken ++ take count buffer)
+more_taken first old mid source now buffer count room h consumes = Consumes-trans old.source.left mid.left source.left h.taken (take count buffer) h.source_is consumes
+
+pub gone_more : (first : Machine) (old : Outside) (mid source : SourceState) (a b : Reading) (buffer within : List ℕ) (count room : ℕ) → count ≤ length buffer → within ≡ take (min count room) buffer → count ≤ room →
+    Gone first old mid a room → Consumes mid.left source.left (take count buffer) → Reads a b within → Gone first old source b (room - count)
+gone_more first old mid source a b buffer within count room fits is few h consumes reads =
+    let all : min count room ≡ count = omega arith in record {
+      taken = h.taken ++ take count buffer;
+      source_is = more_taken first old mid source a buffer count room h consumes;
+      many = omega (arith, length-append h.taken (take count buffer), length-take count buffer, h.many);
+      read = subst (λ (t : List ℕ). HasRead first old.output b (h.taken ++ t)) (is ∙ ap (λ (k : ℕ). take k buffer) all) (reads.from first old.output h.taken h.read);
+    }
 
 -- more was read than may be taken
-pub runs_long : (first : Machine) (old : Outside) (mid source : SourceState) (a b : Reading) (room : ℕ) (piece within : List ℕ) → room < length piece → within ≡ take room piece →
-    Gone first old mid a room → Consumes mid.left source.left piece → Reads a b within → Runs first old (at source b.run.output) TooLong
-runs_long first old mid source a b room piece within long is h consumes reads = record {
-  taken = h.taken ++ piece;
-  source = Consumes-trans old.source.left mid.left source.left h.taken piece h.source_is consumes;
-  ended = (omega (arith, length-append h.taken piece, h.many), rw (within_longest h.taken piece within room h.many is) at ((reads.from first old.output h.taken h.read).answered.answers));
+pub runs_long : (first : Machine) (old : Outside) (mid source : SourceState) (a b : Reading) (buffer within : List ℕ) (count room : ℕ) → count ≤ length buffer → within ≡ take (min count room) buffer → room < count →
+    Gone first old mid a room → Consumes mid.left source.left (take count buffer) → Reads a b within → Runs first old (at source b.run.output) TooLong
+runs_long first old mid source a b buffer within count room fits is long h consumes reads = record {
+  taken = h.taken ++ take count buffer;
+  source = more_taken first old mid source a buffer count room h consumes;
+  ended = (
+    omega (arith, length-append h.taken (take count buffer), length-take count buffer, h.many),
+    rw (within_longest h.taken buffer within count room fits is h.many) at ((reads.from first old.output h.taken h.read).answered.answers),
+  );
 }
 
 longer : (first : Machine) (start now : Output) (taken : List ℕ) (left : Option (List ℕ)) → Halted first start now (says_cut taken) → Halted first start now (says (end_of left) taken)
@@ -92,12 +97,12 @@ halted_by first start now taken left false e h =
     rw e (longer first start now taken left (subst (λ (bytes : List ℕ). Halted first start now (says_cut bytes)) (all_taken taken max_script few) h))
 
 -- a write failed
-pub runs_broken : (first : Machine) (old : Outside) (mid source : SourceState) (output : Output) (a : Reading) (room : ℕ) (piece within : List ℕ) → within ≡ take room piece →
-    Gone first old mid a room → Consumes mid.left source.left piece → Stops a output within → Runs first old (at source output) WriteFault
-runs_broken first old mid source output a room piece within is h consumes stops = record {
-  taken = h.taken ++ piece;
-  source = Consumes-trans old.source.left mid.left source.left h.taken piece h.source_is consumes;
-  ended = halted_by first old.output output (h.taken ++ piece) source.left _ refl (rw (within_longest h.taken piece within room h.many is) at (stops.from first old.output h.taken h.read));
+pub runs_broken : (first : Machine) (old : Outside) (mid source : SourceState) (output : Output) (a : Reading) (buffer within : List ℕ) (count room : ℕ) → count ≤ length buffer → within ≡ take (min count room) buffer →
+    Gone first old mid a room → Consumes mid.left source.left (take count buffer) → Stops a output within → Runs first old (at source output) WriteFault
+runs_broken first old mid source output a buffer within count room fits is h consumes stops = record {
+  taken = h.taken ++ take count buffer;
+  source = more_taken first old mid source a buffer count room h consumes;
+  ended = halted_by first old.output output (h.taken ++ take count buffer) source.left _ refl (rw (within_longest h.taken buffer within count room fits is h.many) at (stops.from first old.output h.taken h.read));
 }
 
 -- a read failed

@@ -3,4 +3,3 @@ pub mod Effects
 pub mod Going
 pub mod Gone
 pub mod Headlines
-pub mod Pools

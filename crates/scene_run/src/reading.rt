@@ -14,8 +14,8 @@ use gui_edge::{Failed, Panel, Sink, Source};
 /// The longest script in bytes.
 const MAX_SCRIPT: usize = 16_777_216;
 
-/// Reads the script to its end, and answers each of its lines. `before` is the panel at any moment since which
-/// nothing came to it.
+/// Reads the script to its end, and answers each of its lines. What it writes is counted from any moment
+/// `before` on, since which nothing came to the panel.
 pub fn read_script<S: Source, L: Sink, P: Panel>(
     gui: Gui,
     source: &mut S,

@@ -61,10 +61,11 @@ fn first_setting<'a>(words: &'a [&'a str], pool: Pool) -> Option<(&'a [u8], &'a 
 
 /// The limits with what the words set of a pool: nothing, or once a number in its range.
 #[tactic(auto, unfolding(run_defs::specs::Words::with_pool))]
-fn with_pool(limits: Limits, pool: Pool, words: &[&str]) -> Option<Limits>
+fn with_pool(limits: Option<Limits>, pool: Pool, words: &[&str]) -> Option<Limits>
     ensures { option_map bounds_of result
-        ≡ with_pool (map (λ w. w.now) words.now) (Some (bounds_of limits)) pool }
+        ≡ with_pool (map (λ w. w.now) words.now) (option_map bounds_of limits) pool }
 {
+    let mut limits = limits?;
     let Some((number_word, later)) = first_setting(words, pool) else {
         return Some(limits);
     };
@@ -73,21 +74,20 @@ fn with_pool(limits: Limits, pool: Pool, words: &[&str]) -> Option<Limits>
     }
     let (least, most) = pool.range();
     let count = number(number_word, least, most)?;
-    let mut limits = limits;
     limits.set_slots(pool, count);
     Some(limits)
 }
 
 /// The limits with what the words set of each of these pools.
-fn with_each(limits: Limits, pools: &[Pool], words: &[&str]) -> Option<Limits>
+fn with_each(limits: Option<Limits>, pools: &[Pool], words: &[&str]) -> Option<Limits>
     ensures { option_map bounds_of result
-        ≡ fold (with_pool (map (λ w. w.now) words.now)) (Some (bounds_of limits)) pools.now }
+        ≡ fold (with_pool (map (λ w. w.now) words.now)) (option_map bounds_of limits) pools.now }
 {
     let mut limits = limits;
     for pool in pools {
-        limits = with_pool(limits, *pool, words)?;
+        limits = with_pool(limits, *pool, words);
     }
-    Some(limits)
+    limits
 }
 
 /// The limits with these sizes, if they are in range.
@@ -120,14 +120,14 @@ fn with_pools(limits: Limits, words: &[&str]) -> Option<Limits>
         ≡ with_pools (Some (bounds_of limits)) (map (λ w. w.now) words.now) }
 {
     if set_pools(words) {
-        with_each(limits, &POOLS, words)
+        with_each(Some(limits), &POOLS, words)
     } else {
         None
     }
 }
 
 /// The limits of the words, if they have limits.
-#[tactic(auto, using(crate::proofs::Pools::no_sizes))]
+#[tactic(auto, unfolding(run_defs::specs::Words::with_pools))]
 pub fn read_limits(words: &[&str]) -> Option<Limits>
     ensures { option_map bounds_of result ≡ limits_of (map (λ w. w.now) words.now) }
 {

@@ -1,9 +1,9 @@
-use Rattle.std.proofs.Common.{arith, ◌∙◌, ap, length-take, take}
+use Rattle.std.proofs.Common.{arith, ◌∙◌, ap, take}
 use Rattle.std.specs.Prelude.{None}
 use Rattle.gui_core.specs.Machines.{machine_of}
 use Rattle.scene_run.proofs.Effects.{PanelEffects-none}
 use Rattle.scene_run.proofs.Going.{ready_less}
-use Rattle.scene_run.proofs.Gone.{gone_start, gone_more, taken_piece, runs_unread, runs_whole, runs_broken_last, runs_broken, runs_long, runs_cause}
+use Rattle.scene_run.proofs.Gone.{gone_start, gone_more, runs_unread, runs_whole, runs_broken_last, runs_broken, runs_long, runs_cause}
 use Rattle.scene_run.proofs.reading.read_script.Goals as goal
 
 pub loop-init : goal.loop-init
@@ -35,27 +35,23 @@ returns-in-Err-finish-clause-write_fault g c = λ e. runs_cause _ _ _ (returns-i
 
 pub returns-in-Err-take_piece-clause-runs : goal.returns-in-Err-take_piece-clause-runs
 returns-in-Err-take_piece-clause-runs g c = λ before since.
-    runs_broken _ _ _ _ _ _ _ _ _ (taken_piece c.read.new.buf _ c.in-Ok.count c.loop.room c.in-Ok.ensures.bound.0 (c.split_at.ensures.front ∙ ap (λ k. take k c.read.new.buf) c.min.ensures)) (c.loop.invariant.gone before since) c.in-Ok.ensures.bytes.0 c.in-Err-take_piece.ensures.err
+    runs_broken _ _ _ _ _ _ c.read.new.buf _ c.in-Ok.count c.loop.room c.in-Ok.ensures.bound.0 (c.split_at.ensures.front ∙ ap (λ k. take k c.read.new.buf) c.min.ensures)
+    (c.loop.invariant.gone before since) c.in-Ok.ensures.bytes.0 c.in-Err-take_piece.ensures.err
 
 pub returns-in-Err-take_piece-clause-write_fault : goal.returns-in-Err-take_piece-clause-write_fault
 returns-in-Err-take_piece-clause-write_fault g c = λ e. runs_cause _ _ _ (returns-in-Err-take_piece-clause-runs g c _ (PanelEffects-none _ None tt))
 
 pub returns-then-count-room-clause-runs : goal.returns-then-count-room-clause-runs
 returns-then-count-room-clause-runs g c = λ before since.
-    runs_long _ _ _ _ _ _ c.loop.room (take c.in-Ok.count c.read.new.buf) c.split_at.result.0.now
-    (omega (arith, c.if-count-room.true, c.in-Ok.ensures.bound.0, length-take c.in-Ok.count c.read.new.buf))
-    (taken_piece c.read.new.buf _ c.in-Ok.count c.loop.room c.in-Ok.ensures.bound.0 (c.split_at.ensures.front ∙ ap (λ k. take k c.read.new.buf) c.min.ensures))
+    runs_long _ _ _ _ _ _ c.read.new.buf _ c.in-Ok.count c.loop.room c.in-Ok.ensures.bound.0 (c.split_at.ensures.front ∙ ap (λ k. take k c.read.new.buf) c.min.ensures) c.if-count-room.true
     (c.loop.invariant.gone before since) c.in-Ok.ensures.bytes.0 c.in-Ok-take_piece.ensures.ok
 
 pub loop-preserved : goal.loop-preserved
-loop-preserved g c =
-    record {
-      gone = λ before since. gone_more _ _ _ _ _ _ c.loop.room c.in-Ok.count (take c.in-Ok.count c.read.new.buf) c.split_at.result.0.now
-          (omega (arith, c.in-Ok.ensures.bound.0, length-take c.in-Ok.count c.read.new.buf)) c.if-count-room.false
-          (taken_piece c.read.new.buf _ c.in-Ok.count c.loop.room c.in-Ok.ensures.bound.0 (c.split_at.ensures.front ∙ ap (λ k. take k c.read.new.buf) c.min.ensures))
-          (c.loop.invariant.gone before since) c.in-Ok.ensures.bytes.0 c.in-Ok-take_piece.ensures.ok;
-      ready = c.in-Ok-take_piece.ensures.ok.ready _ (ready_less _ _ _ (omega (arith, c.split_at.ensures.front_len, c.min.ensures)) c.loop.invariant.ready);
-      within = omega arith;
-      turns = omega arith;
-      source_faults = omega arith;
-    }
+loop-preserved g c = record {
+  gone = λ before since. gone_more _ _ _ _ _ _ c.read.new.buf _ c.in-Ok.count c.loop.room c.in-Ok.ensures.bound.0 (c.split_at.ensures.front ∙ ap (λ k. take k c.read.new.buf) c.min.ensures) c.if-count-room.false
+      (c.loop.invariant.gone before since) c.in-Ok.ensures.bytes.0 c.in-Ok-take_piece.ensures.ok;
+  ready = c.in-Ok-take_piece.ensures.ok.ready _ (ready_less _ _ _ (omega (arith, c.split_at.ensures.front_len, c.min.ensures)) c.loop.invariant.ready);
+  within = omega arith;
+  turns = omega arith;
+  source_faults = omega arith;
+}

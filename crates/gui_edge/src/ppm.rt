@@ -44,6 +44,19 @@ fn fill_bytes(bytes: &mut [u8], pixels: &[Rgb565])
     }
 }
 
+/// Puts the bytes of some pixels. `bytes` has room for them.
+fn put_pixels<F: Sink>(frames: &mut F, bytes: &mut [u8], pixels: &[Rgb565]) -> Result<(), Failed>
+    requires { 3 * length pixels.now ≤ length bytes.old }
+    ensures ok { OnOk result
+        (Appends (F.state frames.old).held (F.state frames.new).held (flat_map rgb_bytes pixels.now)) }
+    ensures err { OnErr result
+        (AppendsPrefix (F.state frames.old).held (F.state frames.new).held (flat_map rgb_bytes pixels.now)) }
+    ensures cause { HasCause (F.state frames.old).faults (F.state frames.new).faults result }
+{
+    fill_bytes(bytes, pixels);
+    frames.put(&bytes[..3 * pixels.len()])
+}
+
 /// Writes the file of a picture whose pixels are given in reading order, or where the sink fails a prefix of
 /// it.
 pub fn write_frame<F: Sink>(
@@ -63,8 +76,7 @@ pub fn write_frame<F: Sink>(
     let mut rest = pixels;
     while !rest.is_empty() {
         let (piece, later) = rest.split_at(rest.len().min(PIECE));
-        fill_bytes(&mut bytes, piece);
-        frames.put(&bytes[..3 * piece.len()])?;
+        put_pixels(frames, &mut bytes, piece)?;
         rest = later;
     }
     Ok(())

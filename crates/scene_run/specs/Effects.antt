@@ -59,7 +59,7 @@ pub record Breaks (old new : Output) (e : Entry) : Type 0 where
   pub faults : old.panel.flush_faults + fault_count (told (e ∷ []) last) ≤ new.panel.flush_faults
   pub cause : WriteFailed old new
 
--- These lines were answered, from this machine on.
+-- These lines were answered from this machine on, each with its reply, and each frame line with its outcome.
 pub record Answers (first : Machine) (old new : Output) (lines : List Said) : Type 0 where
   -- each frame line has an outcome
   pub outcomes : List Outcome

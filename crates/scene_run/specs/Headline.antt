@@ -5,7 +5,7 @@ use Rattle.std.specs.declared.option.Option.{Option}
 use Rattle.std.specs.Io.KnownBytes.{Consumes, IsAtEnd}
 use Rattle.gui_base.specs.Limits.{Bounds}
 use Rattle.run_defs.specs.Machine.{Machine, first_machine}
-use Rattle.run_defs.specs.Script.{Said, End, Whole, Cut, TooLong as ScriptTooLong, says, max_script}
+use Rattle.run_defs.specs.Script.{End, Whole, Cut, TooLong as ScriptTooLong, says, max_script}
 use Rattle.run_defs.specs.Run.{first_moment, entries, told, noted}
 use Rattle.gui_edge.specs.Source.{SourceState}
 use Rattle.gui_edge.specs.Sink.{SinkState}
@@ -23,15 +23,11 @@ pub record Outside : Type 0 where
 abbrev pub outside : SourceState → SinkState → PanelState → Outside
 outside source log panel = record { source = source; output = output log panel }
 
--- These lines were answered from the start on, each with its reply, and each frame line with its outcome.
-abbrev pub AnswersAll : Machine → Outside → Outside → List Said → Type 0
-AnswersAll first old new lines = Answers first old.output new.output lines
-
 -- The whole script was read and answered. `notes` tells whether a line was refused or a frame faulted.
 pub record AnswersScript (first : Machine) (old new : Outside) (taken : List ℕ) (notes : Bool) : Type 0 where
   pub end : IsAtEnd new.source.left
   pub small : length taken ≤ max_script
-  pub answers : AnswersAll first old new (says Whole taken)
+  pub answers : Answers first old.output new.output (says Whole taken)
   pub notes_is : noted (told (entries (first_moment first) (says Whole taken)) answers.outcomes) ≡ notes
 
 -- where the reading is by what is left: at the end of the script, or before it. Where the source does not
@@ -49,9 +45,10 @@ end_reached left taken = if nat_lt max_script (length taken) then ScriptTooLong 
 abbrev pub Ended : Machine → Outside → Outside → List ℕ → Status → Type 0
 Ended first old new taken Done = AnswersScript first old new taken false
 Ended first old new taken Noted = AnswersScript first old new taken true
-Ended first old new taken ReadFault = (length taken ≤ max_script) × AnswersAll first old new (says Cut taken)
+Ended first old new taken ReadFault =
+    (length taken ≤ max_script) × Answers first old.output new.output (says Cut taken)
 Ended first old new taken TooLong =
-    (max_script < length taken) × AnswersAll first old new (says ScriptTooLong taken)
+    (max_script < length taken) × Answers first old.output new.output (says ScriptTooLong taken)
 Ended first old new taken WriteFault =
     Halted first old.output new.output (says (end_reached new.source.left taken) taken)
 Ended first old new taken status = ⊥

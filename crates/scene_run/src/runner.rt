@@ -80,7 +80,7 @@ impl Runner {
     }
 
     /// Answers the line that the cutter's last answer made whole, if it made one.
-    #[tactic(auto, using(run_defs::proofs::Ranges::says_in_range))]
+    #[tactic(auto, using(run_defs::proofs::Ranges::says_in_range, crate::proofs::Going::goes_on_none))]
     fn take_cut<L: Sink, P: Panel>(
         &mut self,
         cut: Cut,

@@ -10,4 +10,6 @@ pub mod Limits
 pub mod Names
 pub mod Pools
 pub mod Ppm
+pub mod Props
 pub mod Refusing
+pub mod Words

@@ -61,6 +61,9 @@ pub const TEXT_FONT: Interval = Interval { low: 0, high: 99 };
 /// An alignment of a text as a number: 0 is left, 1 center and 2 right.
 pub const TEXT_ALIGN: Interval = Interval { low: 0, high: 2 };
 
+/// The number of a shared style.
+pub const STYLE: Interval = Interval { low: 1, high: 999 };
+
 /// How deep an object may lie, a root having depth 1.
 pub const MAX_DEPTH: u8 = 16;
 

@@ -8,6 +8,7 @@ pub mod intervals;
 pub mod limits;
 pub mod names;
 pub mod pools;
+pub mod props;
 pub mod refusal;
 pub mod steps;
 pub mod words;
@@ -18,9 +19,10 @@ pub use color::Rgb565;
 pub use limits::{Limits, Pool};
 pub use names::named;
 pub use pools::POOLS;
+pub use props::Prop;
 pub use refusal::Refusal;
 pub use steps::Steps;
-pub use words::{Flag, Kind, Length, Part, Prop};
+pub use words::{Flag, Kind, Length, Part, Selector, State};
 
 /// The name of an object. 1 is the top layer, 2 the system layer and 3 the first screen; callers choose from
 /// 10 to 9999.

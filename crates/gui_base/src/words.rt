@@ -1,5 +1,5 @@
 //! The words of the script language that several crates share. Each kind of word has one table of its names.
-ghost use Rattle.std.specs.Prelude.{◌≡◌};
+ghost use Rattle.std.specs.Prelude.{◌≡◌, ◌<◌};
 
 /// What an object is. Screens and layers are roots and cannot be made by `new`.
 #[derive(Clone, Copy, Debug, PartialEq, Eq)]
@@ -54,20 +54,73 @@ impl Flag {
 pub enum Part {
     /// The object itself.
     Main,
+    /// The scrollbar.
+    Scrollbar,
+    /// The filled share of a bar or a slider, and the box of a checkbox.
+    Indicator,
+    /// The handle of a slider.
+    Knob,
 }
 
-pub const PARTS: [(&'static str, Part); 1] = [("main", Part::Main)];
+pub const PARTS: [(&'static str, Part); 4] = [
+    ("main", Part::Main),
+    ("scrollbar", Part::Scrollbar),
+    ("indicator", Part::Indicator),
+    ("knob", Part::Knob),
+];
 
-/// A property of a part.
+/// A state that an object may be in. The numbers are those of its bit in a set of states.
 #[derive(Clone, Copy, Debug, PartialEq, Eq)]
-pub enum Prop {
-    /// The colour of the fill, red, green and blue in eight bits each: 65536 * red + 256 * green + blue.
-    BgColor,
-    /// The opacity of the fill, from 0 to 255.
-    BgOpa,
+pub enum State {
+    Checked = 0,
+    Focused = 1,
+    /// Focused by a key or the encoder.
+    FocusKey = 2,
+    Edited = 3,
+    Hovered = 4,
+    Pressed = 5,
+    Scrolled = 6,
+    Disabled = 7,
+    User1 = 12,
+    User2 = 13,
+    User3 = 14,
+    User4 = 15,
 }
 
-pub const PROPS: [(&'static str, Prop); 2] = [("bg_color", Prop::BgColor), ("bg_opa", Prop::BgOpa)];
+pub const STATES: [(&'static str, State); 12] = [
+    ("checked", State::Checked),
+    ("focused", State::Focused),
+    ("focus_key", State::FocusKey),
+    ("edited", State::Edited),
+    ("hovered", State::Hovered),
+    ("pressed", State::Pressed),
+    ("scrolled", State::Scrolled),
+    ("disabled", State::Disabled),
+    ("user1", State::User1),
+    ("user2", State::User2),
+    ("user3", State::User3),
+    ("user4", State::User4),
+];
+
+impl State {
+    ghost use Rattle.gui_base.specs.Bits.{state_bit};
+
+    /// Its bit in a set of states, from 0.
+    pub fn bit(self) -> u8
+        ensures value { result ≡ state_bit self }
+        ensures within { result < 16 }
+    {
+        self as u8
+    }
+}
+
+/// What a property is set for: a part, while the object is in all of the given states.
+#[derive(Clone, Copy, Debug, PartialEq, Eq)]
+pub struct Selector {
+    pub part: Part,
+    /// A bit for each state, as [`State::bit`] says.
+    pub states: u16,
+}
 
 /// A wanted width or height.
 #[derive(Clone, Copy, Debug, PartialEq, Eq)]

@@ -4,8 +4,8 @@ use Rattle.std.specs.List.{remove}
 use Rattle.std.proofs.lemmas.Bool.{cases_Bool}
 use Rattle.gui_base.specs.declared.limits.Pool.TheVariants.{Entries, Uses}
 use Rattle.gui_base.specs.declared.refusal.Refusal.TheVariants.{Unknown, Taken}
-use Rattle.style_defs.specs.declared.words.Prop.{Prop}
-use Rattle.style_defs.specs.declared.words.Selector.{Selector}
+use Rattle.gui_base.specs.declared.props.Prop.{Prop}
+use Rattle.gui_base.specs.declared.words.Selector.{Selector}
 use Rattle.style_defs.specs.declared.Entry.{Entry}
 use Rattle.style_defs.specs.declared.Setting.{Setting}
 use Rattle.style_defs.specs.declared.Use.{Use}

@@ -7,9 +7,9 @@ use Rattle.gui_base.specs.declared.limits.Pool.{Pool}
 use Rattle.gui_base.specs.declared.limits.Pool.TheVariants.{Styles as StyleSlots, Entries, Uses}
 use Rattle.gui_base.specs.declared.refusal.Refusal.{Refusal}
 use Rattle.gui_base.specs.declared.refusal.Refusal.TheVariants.{Unknown, Taken, Full}
-use Rattle.style_defs.specs.declared.words.Part.{Part}
-use Rattle.style_defs.specs.declared.words.Prop.{Prop}
-use Rattle.style_defs.specs.declared.words.Selector.{Selector}
+use Rattle.gui_base.specs.declared.words.Part.{Part}
+use Rattle.gui_base.specs.declared.props.Prop.{Prop}
+use Rattle.gui_base.specs.declared.words.Selector.{Selector}
 use Rattle.style_defs.specs.declared.Candidate.{Candidate}
 use Rattle.style_defs.specs.declared.Entry.{Entry}
 use Rattle.style_defs.specs.declared.Setting.{Setting}

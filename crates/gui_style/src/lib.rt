@@ -5,5 +5,5 @@
 
 mod styles;
 
-pub use style_defs::{Part, Prop, Selector};
+pub use gui_base::{Part, Prop, Selector};
 pub use styles::Styles;

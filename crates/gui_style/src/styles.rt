@@ -11,12 +11,12 @@ ghost use Rattle.gui_style.specs.Styles.{unset_prop_answer, without_prop, add_st
 ghost use Rattle.gui_style.specs.Styles.{remove_style_answer, without_use, set_local_answer, with_local};
 ghost use Rattle.gui_style.specs.Styles.{unset_local_answer, without_local, forgotten, all_forgotten};
 
-use gui_base::{Handle, NoMemory, Pool, Refusal};
+use gui_base::{Handle, NoMemory, Part, Pool, Prop, Refusal, Selector};
 use gui_pool::{Lists, Table};
 use std::alloc::Global;
 use std::marker::Model;
 use style_defs::cascade::{applies, given_by, stronger};
-use style_defs::{Candidate, Entry, Part, Prop, Selector, Use};
+use style_defs::{Candidate, Entry, Use};
 
 /// How many numbers there are for handles, and as many for styles.
 const NUMBERS: u32 = 65_536;

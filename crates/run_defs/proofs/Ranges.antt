@@ -14,8 +14,8 @@ use Rattle.gui_base.specs.declared.intervals.Count.{Count}
 use Rattle.gui_base.specs.declared.intervals.Interval.{Interval}
 use Rattle.gui_base.specs.declared.intervals.TheConstants.{HANDLE, NEW_HANDLE, INDEX, EXTENT, COORDINATE, OPACITY, COLOR}
 use Rattle.gui_base.specs.declared.words.Kind.TheVariants.{Obj}
-use Rattle.gui_base.specs.declared.words.Prop.{Prop}
-use Rattle.gui_base.specs.declared.words.Prop.TheVariants.{BgColor, BgOpa}
+use Rattle.gui_base.specs.declared.props.Prop.{Prop}
+use Rattle.gui_base.specs.declared.props.Prop.TheVariants.{BgColor, BgOpa}
 use Rattle.scene_defs.specs.Ranges.{is_in_range}
 use Rattle.scene_defs.specs.Row.{is_size, is_value}
 use Rattle.scene_defs.specs.Valid.{IsChange}

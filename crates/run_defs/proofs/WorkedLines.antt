@@ -6,7 +6,7 @@ use Rattle.gui_base.specs.Names.{named}
 use Rattle.gui_base.specs.declared.words.Flag.TheVariants.{Bubble}
 use Rattle.gui_base.specs.declared.words.Length.TheVariants.{Pixels}
 use Rattle.gui_base.specs.declared.words.Part.TheVariants.{Main}
-use Rattle.gui_base.specs.declared.words.Prop.TheVariants.{BgColor}
+use Rattle.gui_base.specs.declared.props.Prop.TheVariants.{BgColor}
 use Rattle.scene_defs.specs.declared.Change.{Change}
 use Rattle.scene_defs.specs.declared.Change.TheVariants as change
 use Rattle.run_defs.specs.declared.Command.TheVariants.{Change as CommandOf}

@@ -11,7 +11,7 @@ use Rattle.gui_base.specs.declared.limits.Pool.TheVariants.{Objects, Entries}
 use Rattle.gui_base.specs.declared.refusal.Refusal.{Refusal}
 use Rattle.gui_base.specs.declared.words.Kind.{Kind}
 use Rattle.gui_base.specs.declared.words.Kind.TheVariants.{Screen, Obj}
-use Rattle.gui_base.specs.declared.words.Prop.TheVariants.{BgColor, BgOpa}
+use Rattle.gui_base.specs.declared.props.Prop.TheVariants.{BgColor, BgOpa}
 use Rattle.gui_base.specs.Forest.{Forest, Empty, Tree, and_then, leaf, size, count, StandsOnce, depth_by, height, with_children_by, has, parent_of}
 use Rattle.gui_base.specs.Intervals.{is_counted}
 use Rattle.gui_base.specs.Limits.{Bounds}

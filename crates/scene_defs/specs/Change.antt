@@ -10,7 +10,7 @@ use Rattle.gui_base.specs.declared.refusal.Refusal.{Refusal}
 use Rattle.gui_base.specs.declared.refusal.Refusal.TheVariants.{Range, Full}
 use Rattle.gui_base.specs.declared.words.Kind.{Kind}
 use Rattle.gui_base.specs.declared.words.Kind.TheVariants.{Screen, Layer, Obj}
-use Rattle.gui_base.specs.declared.words.Prop.{Prop}
+use Rattle.gui_base.specs.declared.props.Prop.{Prop}
 use Rattle.gui_base.specs.Forest.{Forest, and_then, leaf, added_by, cut_by, moved_by, moved_last_by, size}
 use Rattle.gui_base.specs.Forest.{tree_by, parent_by, with_row_by}
 use Rattle.gui_base.specs.Refusing.{Test, first_of, absent, parentless, root_tests, child_tests}

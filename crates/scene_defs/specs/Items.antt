@@ -3,7 +3,7 @@ use Rattle.std.specs.Prelude.{ℕ, ◌/◌, ◌%◌, Some, None, List, [], ◌�
 use Rattle.std.specs.declared.option.Option.{Option}
 use Rattle.std.specs.Int.RustNames.{unsigned_abs}
 use Rattle.gui_base.specs.declared.color.Rgb565.{Rgb565}
-use Rattle.gui_base.specs.declared.words.Prop.TheVariants.{BgColor, BgOpa}
+use Rattle.gui_base.specs.declared.props.Prop.TheVariants.{BgColor, BgOpa}
 use Rattle.gui_base.specs.Area.{Rect}
 use Rattle.gui_base.specs.Coats.{Coat, laid, fill_coat}
 use Rattle.gui_base.specs.Color.{color}

@@ -13,8 +13,8 @@ use Rattle.gui_base.specs.declared.words.Kind.{Kind}
 use Rattle.gui_base.specs.declared.words.Kind.TheVariants.{Screen, Layer, Obj}
 use Rattle.gui_base.specs.declared.words.Length.{Length}
 use Rattle.gui_base.specs.declared.words.Length.TheVariants.{Pixels}
-use Rattle.gui_base.specs.declared.words.Prop.{Prop}
-use Rattle.gui_base.specs.declared.words.Prop.TheVariants.{BgColor, BgOpa}
+use Rattle.gui_base.specs.declared.props.Prop.{Prop}
+use Rattle.gui_base.specs.declared.props.Prop.TheVariants.{BgColor, BgOpa}
 use Rattle.scene_defs.specs.declared.Change.{Change}
 use Rattle.scene_defs.specs.declared.Change.TheVariants as change
 use Rattle.scene_defs.specs.declared.Row.{Row}

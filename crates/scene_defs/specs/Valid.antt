@@ -7,7 +7,7 @@ use Rattle.gui_base.specs.declared.intervals.TheConstants.{HANDLE, COORDINATE, M
 use Rattle.gui_base.specs.declared.words.Kind.{Kind}
 use Rattle.gui_base.specs.declared.words.Kind.TheVariants.{Screen, Layer, Obj}
 use Rattle.gui_base.specs.declared.words.Length.{Length}
-use Rattle.gui_base.specs.declared.words.Prop.{Prop}
+use Rattle.gui_base.specs.declared.props.Prop.{Prop}
 use Rattle.gui_base.specs.Forest.{Forest, Empty, Tree, all_by, roots, size, height, StandsOnce}
 use Rattle.gui_base.specs.Intervals.{is_counted, is_within}
 use Rattle.gui_base.specs.Limits.{Bounds}

@@ -11,7 +11,7 @@ use Rattle.style_defs.specs.declared.Use.{Use}
 use Rattle.style_defs.specs.Book.{Book, inserted, with_settings, settings_count}
 use Rattle.style_defs.specs.Cascade.{Style, is_numbered, has_style, settings_of}
 use Rattle.style_defs.specs.Firsts.{first_by, put_by, drop_by}
-use Rattle.style_defs.specs.Orders.{comes_before, are_ordered}
+use Rattle.style_defs.specs.InOrder.{comes_before, are_ordered}
 
 module _ {A : Type 0} (test : A → Bool) where
   pub length-put_by : (x : A) (xs : List A) → length (put_by test x xs) ≡ length xs + (if is_some (first_by test xs) then 0 else 1)

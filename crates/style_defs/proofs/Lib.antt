@@ -1,4 +1,5 @@
 pub mod Counting
+pub mod Keeping
 pub mod Places
 pub mod Ranges
 pub mod Winners

@@ -6,24 +6,22 @@ use Rattle.std.proofs.lemmas.Bool.{cases_Bool}
 use Rattle.std.proofs.lemmas.List.Elements.{All-nil, All-cons, All-head, All-tail, All-append, All-map, All-weaker}
 use denote.Enum.Bare.{same_true}
 use Rattle.gui_base.specs.declared.words.Kind.{Kind}
-use Rattle.style_defs.specs.contracts.words.Prop.{the_type}
-use Rattle.style_defs.specs.declared.words.Part.{Part}
-use Rattle.style_defs.specs.declared.words.Part.TheVariants.{Main}
-use Rattle.style_defs.specs.declared.words.Prop.{Prop}
-use Rattle.style_defs.specs.declared.words.Selector.{Selector}
+use Rattle.gui_base.specs.contracts.props.Prop.{the_type}
+use Rattle.gui_base.specs.declared.words.Part.{Part}
+use Rattle.gui_base.specs.declared.words.Part.TheVariants.{Main}
+use Rattle.gui_base.specs.declared.props.Prop.{Prop}
+use Rattle.gui_base.specs.declared.words.Selector.{Selector}
 use Rattle.style_defs.specs.declared.Candidate.{Candidate}
 use Rattle.style_defs.specs.declared.Entry.{Entry}
 use Rattle.style_defs.specs.declared.Setting.{Setting}
 use Rattle.style_defs.specs.declared.Use.{Use}
-use Rattle.style_defs.specs.Words.{same_prop}
+use Rattle.gui_base.specs.Words.{same_prop}
 use Rattle.style_defs.specs.Cascade.{Style, is_numbered, settings_of, setting_of, selector_of, applies, candidate, of_entry, of_use, stronger, candidates, winner, winning}
 use Rattle.style_defs.specs.Kinds.{entry_in, kind_rows, kind_value, default_in}
-use Rattle.style_defs.specs.Props.{default_of, is_value, inherits}
+use Rattle.gui_base.specs.Props.{default_of, is_value, inherits}
 use Rattle.style_defs.specs.Value.{Styled, won, inherited, given, value_on}
-use Rattle.style_defs.specs.Laws.{IsSetting, IsEntry, ValuesInRange}
-
-abbrev IsStyle : Style → Type 0
-IsStyle style = All IsSetting style.settings
+use Rattle.style_defs.specs.InOrder.{IsSetting, IsEntry, IsStyle}
+use Rattle.style_defs.specs.Laws.{ValuesInRange}
 
 abbrev IsStyled : Styled → Type 0
 IsStyled object = All IsEntry object.locals

@@ -6,8 +6,8 @@ use Rattle.std.proofs.lemmas.List.{map-append}
 use Rattle.std.proofs.lemmas.List.Elements.{All-nil, All-cons, All-head, All-tail, All-append, All-weaker}
 use Rattle.std.proofs.lemmas.List.Sums.{fold-append}
 use Rattle.std.proofs.lemmas.Option.{same_Some, none-some}
-use Rattle.style_defs.specs.declared.words.Part.{Part}
-use Rattle.style_defs.specs.declared.words.Prop.{Prop}
+use Rattle.gui_base.specs.declared.words.Part.{Part}
+use Rattle.gui_base.specs.declared.props.Prop.{Prop}
 use Rattle.style_defs.specs.declared.Candidate.{Candidate}
 use Rattle.style_defs.specs.declared.Entry.{Entry}
 use Rattle.style_defs.specs.declared.Use.{Use}

@@ -2,15 +2,15 @@
 use Rattle.std.specs.Prelude.{ℕ, ◌+◌, ℤ, Bool, ◌&&◌, ◌==◌, nat_lt, if◌then◌else◌}
 use Rattle.std.specs.Prelude.{List, [], ◌∷◌, ◌++◌, map, fold, is_some, length, sum_by, slice_index_or, slice_set}
 use Rattle.std.specs.declared.option.Option.{Option}
-use Rattle.style_defs.specs.declared.words.Part.{Part}
-use Rattle.style_defs.specs.declared.words.Prop.{Prop}
-use Rattle.style_defs.specs.declared.words.Selector.{Selector}
+use Rattle.gui_base.specs.declared.words.Part.{Part}
+use Rattle.gui_base.specs.declared.props.Prop.{Prop}
+use Rattle.gui_base.specs.declared.words.Selector.{Selector}
 use Rattle.style_defs.specs.declared.Entry.{Entry}
 use Rattle.style_defs.specs.declared.Setting.{Setting}
 use Rattle.style_defs.specs.declared.Use.{Use}
 use Rattle.style_defs.specs.Cascade.{Style, is_numbered, has_style, sets, settings_of, selector_of}
 use Rattle.style_defs.specs.Firsts.{first_by, put_by, drop_by}
-use Rattle.style_defs.specs.Words.{same_prop, same_selector}
+use Rattle.gui_base.specs.Words.{same_prop, same_selector}
 
 pub record Book : Type 0 where
   -- the shared styles, by their numbers from the least on

@@ -3,10 +3,10 @@ use Rattle.std.specs.Prelude.{ℕ, Bool, ◌&&◌, ◌==◌, nat_lt, if◌then�
 use Rattle.std.specs.Prelude.{List, [], ◌++◌, map, fold, Some, None, option_map, is_some}
 use Rattle.std.specs.declared.option.Option.{Option}
 use Rattle.style_defs.specs.Firsts.{first_by}
-use Rattle.style_defs.specs.Words.{same_part, same_prop}
-use Rattle.style_defs.specs.declared.words.Part.{Part}
-use Rattle.style_defs.specs.declared.words.Prop.{Prop}
-use Rattle.style_defs.specs.declared.words.Selector.{Selector}
+use Rattle.gui_base.specs.Words.{same_part, same_prop}
+use Rattle.gui_base.specs.declared.words.Part.{Part}
+use Rattle.gui_base.specs.declared.props.Prop.{Prop}
+use Rattle.gui_base.specs.declared.words.Selector.{Selector}
 use Rattle.style_defs.specs.declared.Candidate.{Candidate}
 use Rattle.style_defs.specs.declared.Entry.{Entry}
 use Rattle.style_defs.specs.declared.Setting.{Setting}

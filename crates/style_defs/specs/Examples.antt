@@ -5,11 +5,11 @@ use Rattle.style_defs.specs.Cascade.{Style, winning}
 use Rattle.style_defs.specs.Value.{Styled, value_on}
 use Rattle.gui_base.specs.declared.words.Kind.{Kind}
 use Rattle.gui_base.specs.declared.words.Kind.TheVariants.{Screen, Obj}
-use Rattle.style_defs.specs.declared.words.Part.{Part}
-use Rattle.style_defs.specs.declared.words.Part.TheVariants.{Main, Knob}
-use Rattle.style_defs.specs.declared.words.Prop.{Prop}
-use Rattle.style_defs.specs.declared.words.Prop.TheVariants.{BgColor, BgOpa, TextColor}
-use Rattle.style_defs.specs.declared.words.Selector.{Selector}
+use Rattle.gui_base.specs.declared.words.Part.{Part}
+use Rattle.gui_base.specs.declared.words.Part.TheVariants.{Main, Knob}
+use Rattle.gui_base.specs.declared.props.Prop.{Prop}
+use Rattle.gui_base.specs.declared.props.Prop.TheVariants.{BgColor, BgOpa, TextColor}
+use Rattle.gui_base.specs.declared.words.Selector.{Selector}
 use Rattle.style_defs.specs.declared.Entry.{Entry}
 use Rattle.style_defs.specs.declared.Use.{Use}
 

@@ -4,11 +4,11 @@ use Rattle.std.specs.declared.option.Option.{Option}
 use Rattle.gui_base.specs.declared.words.Kind.{Kind}
 use Rattle.gui_base.specs.declared.words.Kind.TheVariants.{Screen, Layer, Obj}
 use Rattle.style_defs.specs.declared.kinds.TheConstants.{SCREEN}
-use Rattle.style_defs.specs.declared.words.Part.{Part}
-use Rattle.style_defs.specs.declared.words.Prop.{Prop}
+use Rattle.gui_base.specs.declared.words.Part.{Part}
+use Rattle.gui_base.specs.declared.props.Prop.{Prop}
 use Rattle.style_defs.specs.declared.Entry.{Entry}
 use Rattle.style_defs.specs.Cascade.{winning}
-use Rattle.style_defs.specs.Props.{default_of}
+use Rattle.gui_base.specs.Props.{default_of}
 
 -- a part, the states that it is for, a property and its value
 abbrev pub KindRow : Type 0

@@ -4,14 +4,14 @@ use Rattle.std.specs.declared.option.Option.{Option}
 use Rattle.std.specs.List.{All}
 use Rattle.std.specs.Option.{ForSome}
 use Rattle.style_defs.specs.Cascade.{Style, of_entry, of_use, winner}
-use Rattle.style_defs.specs.Props.{is_value, inherits}
+use Rattle.gui_base.specs.Props.{is_value, inherits}
+use Rattle.style_defs.specs.InOrder.{IsEntry, IsStyle}
 use Rattle.style_defs.specs.Value.{Styled, won, inherited, value_on}
-use Rattle.style_defs.specs.declared.words.Part.{Part}
-use Rattle.style_defs.specs.declared.words.Prop.{Prop}
+use Rattle.gui_base.specs.declared.words.Part.{Part}
+use Rattle.gui_base.specs.declared.props.Prop.{Prop}
 use Rattle.style_defs.specs.declared.Candidate.{Candidate}
-use Rattle.style_defs.specs.declared.words.Part.TheVariants.{Main}
+use Rattle.gui_base.specs.declared.words.Part.TheVariants.{Main}
 use Rattle.style_defs.specs.declared.Entry.{Entry}
-use Rattle.style_defs.specs.declared.Setting.{Setting}
 use Rattle.style_defs.specs.declared.Use.{Use}
 
 -- nothing is given, or for states that are not greater
@@ -91,15 +91,9 @@ FromAbove =
     inherits prop ≡ true → won styles object part prop ≡ None → won styles object Main prop ≡ None →
     inherited styles above prop ≡ Some value → value_on styles (object ∷ above) part prop ≡ value
 
-abbrev pub IsSetting : Setting → Type 0
-IsSetting setting = is_value setting.prop setting.value ≡ true
-
-abbrev pub IsEntry : Entry → Type 0
-IsEntry entry = is_value entry.prop entry.value ≡ true
-
 -- each value that is set is one of its property's
 pub record AreInRange (styles : List Style) (objects : List Styled) : Type 0 where
-  pub settings : All (λ style. All IsSetting style.settings) styles
+  pub settings : All IsStyle styles
   pub locals : All (λ object. All IsEntry object.locals) objects
 
 abbrev pub ValuesInRange : Type 0

@@ -2,9 +2,7 @@ pub mod Book
 pub mod Cascade
 pub mod Examples
 pub mod Firsts
+pub mod InOrder
 pub mod Kinds
 pub mod Laws
-pub mod Orders
-pub mod Props
 pub mod Value
-pub mod Words

@@ -3,14 +3,14 @@ use Rattle.std.specs.Prelude.{ℕ, ℤ, if◌then◌else◌, List, [], ◌∷◌
 use Rattle.std.specs.declared.option.Option.{Option}
 use Rattle.std.specs.Option.{option_or}
 use Rattle.gui_base.specs.declared.words.Kind.{Kind}
-use Rattle.style_defs.specs.declared.words.Part.{Part}
-use Rattle.style_defs.specs.declared.words.Part.TheVariants.{Main}
-use Rattle.style_defs.specs.declared.words.Prop.{Prop}
+use Rattle.gui_base.specs.declared.words.Part.{Part}
+use Rattle.gui_base.specs.declared.words.Part.TheVariants.{Main}
+use Rattle.gui_base.specs.declared.props.Prop.{Prop}
 use Rattle.style_defs.specs.declared.Entry.{Entry}
 use Rattle.style_defs.specs.declared.Use.{Use}
 use Rattle.style_defs.specs.Cascade.{Style, winning}
 use Rattle.style_defs.specs.Kinds.{default_in}
-use Rattle.style_defs.specs.Props.{default_of, inherits}
+use Rattle.gui_base.specs.Props.{default_of, inherits}
 
 -- what styles see of an object
 pub record Styled : Type 0 where

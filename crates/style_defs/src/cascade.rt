@@ -2,8 +2,8 @@
 ghost use Rattle.std.specs.Prelude.{◌≡◌, Some};
 ghost use Rattle.style_defs.specs.Cascade.{applies, of_entry, stronger};
 
-use crate::words::{Part, Prop, Selector};
 use crate::{Candidate, Entry};
+use gui_base::{Part, Prop, Selector};
 
 /// Whether what is set for a selector applies to a part of an object in these states.
 pub fn applies(selector: Selector, part: Part, states: u16) -> bool

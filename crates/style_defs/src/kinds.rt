@@ -4,8 +4,7 @@ ghost use Rattle.style_defs.specs.Kinds.{kind_rows, entry_in, kind_value, defaul
 
 use crate::Entry;
 use crate::cascade::{given_by, stronger};
-use crate::words::{Part, Prop};
-use gui_base::Kind;
+use gui_base::{Kind, Part, Prop};
 
 /// A part, the states that it is for with a bit for each, a property, and its value.
 pub type KindRow = (Part, u16, Prop, i32);

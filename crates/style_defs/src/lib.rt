@@ -1,4 +1,4 @@
-//! The words of styles, and the definition of the cascade: which of the values that are set applies to a part
+//! The definition of the cascade: which of the values that are set applies to a part
 //! of an object, and which of those wins.
 #![tactic(auto)]
 
@@ -7,9 +7,8 @@ ghost use Rattle.std.specs.Prelude.{◌≡◌};
 pub mod cascade;
 pub mod kinds;
 pub mod laws;
-pub mod words;
 
-pub use words::{PARTS, PROPS, Part, Prop, STATES, Selector};
+use gui_base::{Part, Prop, Selector};
 
 /// A property that a shared style sets.
 #[derive(Clone, Copy, Debug, Drop)]
@@ -24,7 +23,7 @@ pub struct Setting {
 pub struct Entry {
     pub part: Part,
     pub prop: Prop,
-    /// A bit for each state, as [`STATES`] says.
+    /// A bit for each state, as [`gui_base::State::bit`] says.
     pub states: u16,
     /// In the range of the property.
     pub value: i32,
@@ -55,7 +54,7 @@ pub struct Use {
 /// A value that applies to a part of an object, and the states that it is set for.
 #[derive(Clone, Copy, Debug, Drop)]
 pub struct Candidate {
-    /// A bit for each state, as [`STATES`] says.
+    /// A bit for each state, as [`gui_base::State::bit`] says.
     pub states: u16,
     pub value: i32,
 }

@@ -3,8 +3,8 @@ use Rattle.std.proofs.lemmas.Int.{to_z-of_z}
 use Rattle.std.proofs.lemmas.Result.{on_ok_weaker}
 use Rattle.gui_base.specs.declared.limits.Pool.TheVariants.{Entries}
 use Rattle.gui_pool.specs.Lists.{list_of, pushed, replaced}
-use Rattle.style_defs.specs.declared.words.Part.TheVariants.{Main}
-use Rattle.style_defs.specs.declared.words.Selector.{Selector}
+use Rattle.gui_base.specs.declared.words.Part.TheVariants.{Main}
+use Rattle.gui_base.specs.declared.words.Selector.{Selector}
 use Rattle.style_defs.specs.Cascade.{has_style}
 use Rattle.gui_style.specs.Styles.{full_answer}
 use Rattle.gui_style.specs.Kept.{first_style, styles_of, AreStyles}

@@ -1,29 +1,7 @@
-//! The words of styles. Each kind of word has one table of its names.
+//! The properties of the parts of objects.
 ghost use Rattle.std.specs.Prelude.{◌≡◌};
 
-use gui_base::intervals::{
-    BORDER, COLOR, Interval, OPACITY, PAD, TEXT_ALIGN, TEXT_FONT, TEXT_SPACE,
-};
-
-/// The part of an object that a property is for.
-#[derive(Clone, Copy, Debug, PartialEq, Eq)]
-pub enum Part {
-    /// The object itself.
-    Main,
-    /// The scrollbar.
-    Scrollbar,
-    /// The filled share of a bar or a slider, and the box of a checkbox.
-    Indicator,
-    /// The handle of a slider.
-    Knob,
-}
-
-pub const PARTS: [(&'static str, Part); 4] = [
-    ("main", Part::Main),
-    ("scrollbar", Part::Scrollbar),
-    ("indicator", Part::Indicator),
-    ("knob", Part::Knob),
-];
+use crate::intervals::{BORDER, COLOR, Interval, OPACITY, PAD, TEXT_ALIGN, TEXT_FONT, TEXT_SPACE};
 
 /// A property of a part. Its value is a number.
 ///
@@ -96,32 +74,8 @@ pub const PROPS: [(&'static str, Prop); 19] = [
     ("text_line_space", Prop::TextLineSpace),
 ];
 
-/// The states that an object may be in, each with its bit.
-pub const STATES: [(&'static str, u16); 12] = [
-    ("checked", 0x0001),
-    ("focused", 0x0002),
-    ("focus_key", 0x0004),
-    ("edited", 0x0008),
-    ("hovered", 0x0010),
-    ("pressed", 0x0020),
-    ("scrolled", 0x0040),
-    ("disabled", 0x0080),
-    ("user1", 0x1000),
-    ("user2", 0x2000),
-    ("user3", 0x4000),
-    ("user4", 0x8000),
-];
-
-/// What a property is set for: a part, while the object is in all of the given states.
-#[derive(Clone, Copy, Debug, PartialEq, Eq)]
-pub struct Selector {
-    pub part: Part,
-    /// A bit for each state, as [`STATES`] says.
-    pub states: u16,
-}
-
 impl Prop {
-    ghost use Rattle.style_defs.specs.Props.{values_of, default_of, inherits};
+    ghost use Rattle.gui_base.specs.Props.{values_of, default_of, inherits};
 
     /// The values that it may have.
     pub fn values(self) -> Interval

@@ -5,12 +5,12 @@ use Rattle.gui_base.specs.declared.intervals.Interval.{Interval}
 use Rattle.gui_base.specs.declared.intervals.TheConstants.{COLOR, OPACITY, BORDER, PAD, TEXT_SPACE}
 use Rattle.gui_base.specs.declared.intervals.TheConstants.{TEXT_FONT, TEXT_ALIGN as ALIGNMENT}
 use Rattle.gui_base.specs.Intervals.{is_within}
-use Rattle.style_defs.specs.declared.words.Prop.{Prop}
-use Rattle.style_defs.specs.declared.words.Prop.TheVariants.{BgColor, BgOpa, BorderColor, BorderOpa}
-use Rattle.style_defs.specs.declared.words.Prop.TheVariants.{BorderWidth, PadTop, PadBottom, PadLeft}
-use Rattle.style_defs.specs.declared.words.Prop.TheVariants.{PadRight, PadRow, PadColumn, ImgRecolor}
-use Rattle.style_defs.specs.declared.words.Prop.TheVariants.{ImgOpa, TextColor, TextOpa, TextFont}
-use Rattle.style_defs.specs.declared.words.Prop.TheVariants.{TextAlign, TextLetterSpace, TextLineSpace}
+use Rattle.gui_base.specs.declared.props.Prop.{Prop}
+use Rattle.gui_base.specs.declared.props.Prop.TheVariants.{BgColor, BgOpa, BorderColor, BorderOpa}
+use Rattle.gui_base.specs.declared.props.Prop.TheVariants.{BorderWidth, PadTop, PadBottom, PadLeft}
+use Rattle.gui_base.specs.declared.props.Prop.TheVariants.{PadRight, PadRow, PadColumn, ImgRecolor}
+use Rattle.gui_base.specs.declared.props.Prop.TheVariants.{ImgOpa, TextColor, TextOpa, TextFont}
+use Rattle.gui_base.specs.declared.props.Prop.TheVariants.{TextAlign, TextLetterSpace, TextLineSpace}
 
 abbrev pub values_of : Prop → Interval
 values_of BgColor = COLOR

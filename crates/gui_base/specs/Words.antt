@@ -1,11 +1,11 @@
 -- Whether two words are the same, and two selectors.
 use Rattle.std.specs.Prelude.{Bool, ◌==◌, ◌&&◌}
 use denote.Enum.Bare.{sameb}
-use Rattle.style_defs.specs.contracts.words.Part as part
-use Rattle.style_defs.specs.contracts.words.Prop as prop
-use Rattle.style_defs.specs.declared.words.Part.{Part}
-use Rattle.style_defs.specs.declared.words.Prop.{Prop}
-use Rattle.style_defs.specs.declared.words.Selector.{Selector}
+use Rattle.gui_base.specs.contracts.words.Part as part
+use Rattle.gui_base.specs.contracts.props.Prop as prop
+use Rattle.gui_base.specs.declared.words.Part.{Part}
+use Rattle.gui_base.specs.declared.props.Prop.{Prop}
+use Rattle.gui_base.specs.declared.words.Selector.{Selector}
 
 abbrev pub same_part : Part → Part → Bool
 same_part p q = sameb part.the_type p q

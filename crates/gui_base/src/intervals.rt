@@ -62,7 +62,7 @@ pub const TEXT_FONT: Interval = Interval { low: 0, high: 99 };
 pub const TEXT_ALIGN: Interval = Interval { low: 0, high: 2 };
 
 /// The number of a shared style.
-pub const STYLE: Interval = Interval { low: 1, high: 999 };
+pub const STYLE: Count = Count { low: 1, high: 999 };
 
 /// How deep an object may lie, a root having depth 1.
 pub const MAX_DEPTH: u8 = 16;

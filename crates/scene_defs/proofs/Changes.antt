@@ -138,5 +138,3 @@ sets_row_alone scene (change.Screen n) h e = cc
 sets_row_alone scene change h e = cc
 
 pub ruleset refusals = (refused_changes_nothing, range_comes_first)
-
-pub ruleset fullness = (full_without_room, done_with_room, refused_whatever_limits)

@@ -1,10 +1,9 @@
 -- The numbers of rows.
 use Rattle.std.proofs.Common.{◌≡◌, true, arith}
 use Rattle.std.proofs.lemmas.Bool.{and_parts}
-use Rattle.gui_base.specs.declared.props.Prop.TheVariants.{BgColor, BgOpa}
 use Rattle.scene_defs.specs.declared.Change.{Change}
 use Rattle.scene_defs.specs.declared.Change.TheVariants as change
-use Rattle.scene_defs.specs.Row.{row_after, is_local}
+use Rattle.scene_defs.specs.Row.{row_after}
 use Rattle.scene_defs.specs.Ranges.{is_in_range}
 use Rattle.scene_defs.specs.declared.Row.{Row}
 use Rattle.scene_defs.specs.Valid.{IsOffset, IsSize, IsRow}
@@ -15,19 +14,15 @@ pub record Numbers (row : Row) : Type 0 where
   pub y : IsOffset row.y
   pub width : IsSize row.width
   pub height : IsSize row.height
-  pub bg_color : is_local BgColor row.bg_color ≡ true
-  pub bg_opa : is_local BgOpa row.bg_opa ≡ true
 
 pub numbers_of : (row : Row) → IsRow row → Numbers row
 numbers_of row r =
     let b = and_parts _ _ r in
     let c = and_parts _ _ b.1 in
     let d = and_parts _ _ c.1 in
-    let e = and_parts _ _ d.1 in
-    let f = and_parts _ _ e.1 in
-    record { x = b.0; y = c.0; width = d.0; height = e.0; bg_color = f.0; bg_opa = f.1 }
+    record { x = b.0; y = c.0; width = d.0; height = d.1 }
 
 -- a change in range leaves a row in range
 pub row_in_range : (change : Change) (row : Row) → is_in_range change ≡ true → IsRow row → IsRow (row_after change row)
-row_in_range (change.Local h part BgColor value) row e r = grind (arith, e, r)
-row_in_range change row e r = let n = numbers_of row r in simp (n.x, n.y, n.width, n.height, n.bg_color, n.bg_opa) (grind (arith, e))
+row_in_range (change.Flag h flag on) row e r = r
+row_in_range change row e r = let n = numbers_of row r in simp (n.x, n.y, n.width, n.height) (grind (arith, e))

@@ -7,4 +7,5 @@ pub mod Places
 pub mod RowKinds
 pub mod Totals
 pub mod Validity
+pub mod Values
 pub mod Walks

@@ -2,8 +2,7 @@
 use Rattle.std.proofs.Common.{◌≡◌, ◌≤◌, ℕ, zero, suc, ◌+◌, Bool, true, false, cond, eqb, Some, refl, arith}
 use Rattle.std.proofs.lemmas.Bool.Decides.{nat_tests}
 use Rattle.gui_base.specs.Forest.{Forest, Empty, Tree, and_then, put_at, cut_by, tree_by, depth_by, with_children_by, with_row_by, size, count}
-use Rattle.scene_defs.specs.Row.{entry_count}
-use Rattle.scene_defs.specs.Scene.{Object, is_at, handles_of, object_by, entries_of}
+use Rattle.scene_defs.specs.Scene.{Object, is_at, handles_of, object_by}
 use Rattle.scene_defs.proofs.Distinct.{there, IsDistinct}
 
 -- Trees without h stay.
@@ -50,14 +49,6 @@ one_at k object = cond (eqb object.handle k) 1 0
 pub size-total : (f : Forest Object) → size f ≡ total one f
 size-total Empty = refl
 size-total (Tree object cs rest) = omega (arith, size-total cs, size-total rest)
-
--- how many properties are set
-abbrev pub entries_at : Object → ℕ
-entries_at object = entry_count object.row
-
-pub entries-total : (f : Forest Object) → entries_of f ≡ total entries_at f
-entries-total Empty = refl
-entries-total (Tree object cs rest) = rw (entries-total cs, entries-total rest) refl
 
 pub count-total : (f : Forest Object) (k : ℕ) → count (handles_of f) k ≡ total (one_at k) f
 count-total Empty k = refl

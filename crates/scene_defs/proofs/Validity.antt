@@ -1,35 +1,43 @@
 -- A change keeps a scene in order, and its slots add up.
-use Rattle.std.proofs.Common.{◌≡◌, ◌<◌, ◌≤◌, ◌⊎◌, ◌∙◌, sym, ap, ℕ, ◌+◌, ◌-◌, zero, suc, Bool, true, false, cond, eqb, Option, Some, None, is_some, refl, arith, rules, inl, inr}
+use Rattle.std.proofs.Common.{◌≡◌, ◌<◌, ◌≤◌, ◌≢◌, ◌∙◌, sym, ap, subst, ℕ, List, length, ◌+◌, ◌-◌, zero, suc, Bool, true, false, cond, eqb, Option, Some, None, is_some, refl, arith, rules, inl, inr}
+use Rattle.std.specs.List.{list_any}
 use Rattle.std.specs.Prelude.{if◌then◌else◌, not, ◌&&◌, ◌||◌, ◌==◌, nat_le}
-use Rattle.std.proofs.lemmas.Bool.{not-false, ltb-false, and_parts}
+use Rattle.std.proofs.lemmas.Bool.{cases_Bool, eqb-true, not-false, ltb-false, and_parts, false≢true}
+use Rattle.std.proofs.lemmas.List.Folds.{list_any-append}
 use Rattle.std.proofs.lemmas.Bool.Decides.{nat_tests}
 use Rattle.gui_base.specs.declared.pools.TheConstants.{POOLS}
 use Rattle.gui_base.specs.declared.Handle.{Handle}
-use Rattle.gui_base.specs.declared.intervals.TheConstants.{NEW_HANDLE, MAX_DEPTH}
+use Rattle.gui_base.specs.declared.intervals.TheConstants.{HANDLE, NEW_HANDLE, MAX_DEPTH}
 use Rattle.gui_base.specs.declared.limits.Pool.{Pool}
-use Rattle.gui_base.specs.declared.limits.Pool.TheVariants.{Objects, Entries}
+use Rattle.gui_base.specs.declared.limits.Pool.TheVariants.{Objects, Styles, Entries, Uses}
 use Rattle.gui_base.specs.declared.refusal.Refusal.{Refusal}
 use Rattle.gui_base.specs.declared.words.Kind.{Kind}
 use Rattle.gui_base.specs.declared.words.Kind.TheVariants.{Screen, Obj}
-use Rattle.gui_base.specs.declared.props.Prop.TheVariants.{BgColor, BgOpa}
-use Rattle.gui_base.specs.Forest.{Forest, Empty, Tree, and_then, leaf, size, count, StandsOnce, depth_by, height, with_children_by, has, parent_of}
+use Rattle.gui_base.specs.Forest.{Forest, Empty, Tree, and_then, leaf, size, count, StandsOnce, depth_by, height, with_children_by, has, parent_of, preorder}
+use Rattle.gui_base.proofs.Visits.{count-has, count-off as absent_count}
 use Rattle.gui_base.specs.Intervals.{is_counted}
 use Rattle.gui_base.specs.Limits.{Bounds}
 use Rattle.scene_defs.specs.declared.Change.{Change}
 use Rattle.scene_defs.specs.declared.Change.TheVariants as change
 use Rattle.scene_defs.specs.declared.Row.{Row}
-use Rattle.scene_defs.specs.Row.{entry_count, is_row, row_after, row_set}
-use Rattle.scene_defs.specs.Scene.{Object, Scene, is_at, handles_of, object_at, object_by, entries_of, spare, new_object}
-use Rattle.scene_defs.specs.Change.{first_short, tests, answer_of, answer_in_range, need_of, freed_by, scene_after, tree_below, parent_object, is_screen, over_row, with_screen, with_object, without, last_below, at_index_below, with_row}
+use Rattle.scene_defs.specs.Row.{is_row, row_after, row_set}
+use Rattle.scene_defs.specs.Scene.{Object, Scene, is_at, handles_of, first_scene, is_there, object_at, object_by, spare, new_object}
+use Rattle.scene_defs.specs.Change.{first_short, tests, answer_of, answer_in_range, need_of, freed_by, scene_after, tree_below, below, parent_object, is_screen, over_row, with_screen, with_object, without, last_below, at_index_below, with_row}
 use Rattle.scene_defs.specs.Laws.{SlotsAddUp}
 use Rattle.scene_defs.specs.Ranges.{is_in_range}
+use Rattle.scene_defs.specs.Styling.{styling_of}
+use Rattle.style_defs.specs.Book.{Book, entries_in, uses_in, a_setting, a_use, an_entry}
+use Rattle.style_defs.specs.Cascade.{Style}
+use Rattle.style_defs.specs.InOrder.{IsBook, IsBare}
+use Rattle.style_defs.proofs.Empty.{empty_in_order, empty_bare, no_entries, no_uses}
+use Rattle.style_defs.proofs.Changing.{Becomes, nobody, style_becomes, prop_becomes, unset_becomes, use_becomes, unuse_becomes, local_becomes, unlocal_becomes, all_forgets}
 use Rattle.scene_defs.specs.Valid.{is_root_object, is_plain, is_root_at, AreTrees, AreRows, FitPools, IsValid, IsChange, FirstIsValid, ChangeKeepsValid, ValidIsShowable}
 use Rattle.scene_defs.proofs.Changes.{Fail, tests-fail, range_done, room_in_range, after_keeps}
 use Rattle.scene_defs.proofs.Distinct.{there, IsDistinct, distinct_once, count-off}
 use Rattle.scene_defs.proofs.Handles.{has-handles, depth-handles, parent-handles, below-handles, height-handles}
 use Rattle.scene_defs.proofs.InRange.{row_in_range}
 use Rattle.scene_defs.proofs.RowKinds.{is_top, fault, faults, root_at, roots-weight, roots-tree, too_low, low-height, screen_root, depth-height, depth-there, depth-below, depth-cut, parent-depth, there-cut, parent-left}
-use Rattle.scene_defs.proofs.Totals.{total, total-cut, one, one_at, entries_at, size-total, entries-total, count-total, Weighing, weight, Joins, weight-total, weight-below, weight-and_then, weight-put_at, weight-cut, weight-with_children, weight-with_row}
+use Rattle.scene_defs.proofs.Totals.{total, total-cut, one, one_at, size-total, count-total, Weighing, weight, Joins, weight-total, weight-below, weight-and_then, weight-put_at, weight-cut, weight-with_children, weight-with_row}
 
 -- a new screen, or an object below another
 new_object-in : (n d : ℕ) (kind : Kind) → is_counted NEW_HANDLE n ≡ true → kind ≡ cond (is_top d) Screen Obj → fault d (new_object n kind) ≡ 0
@@ -59,14 +67,12 @@ record Edit (scene : Scene) (change : Change) (g : Forest Object) (gone come : W
   low : come (too_low MAX_DEPTH) ≤ gone (too_low MAX_DEPTH)
   handles : (k : ℕ) → gone (λ d. one_at k) + added_sum scene change (one_at k) ≡ come (λ d. one_at k) + removed_sum scene change (one_at k)
   objects : gone (λ d. one) + need_of scene change Objects ≡ come (λ d. one) + freed_by scene change Objects
-  entries : gone (λ d. entries_at) + need_of scene change Entries ≡ come (λ d. entries_at) + freed_by scene change Entries
 
 -- what a change that is done leaves, and how many slots it takes and frees
 pub record Leaves (scene : Scene) (change : Change) (after : Scene) : Type 0 where
   pub trees : AreTrees after.trees after.active
   pub rows : AreRows after.trees
   pub objects : size after.trees + freed_by scene change Objects ≡ need_of scene change Objects + size scene.trees
-  pub entries : entries_of after.trees + freed_by scene change Entries ≡ need_of scene change Entries + entries_of scene.trees
   -- how often a handle stands
   pub handles : (k : ℕ) →
       count (handles_of after.trees) k + removed_sum scene change (one_at k) ≡ added_sum scene change (one_at k) + count (handles_of scene.trees) k
@@ -102,7 +108,6 @@ module _ (scene : Scene) (change : Change) (v : IsValid scene) where
           trees = search (rules, root_after, v.trees);
           rows = record { kinds = sound.0; numbers = sound.1 };
           objects = omega (arith, sum_after one, e.objects, size-total f, size-total g);
-          entries = omega (arith, sum_after entries_at, e.entries, entries-total f, entries-total g);
           handles = λ k. omega (arith, sum_after (one_at k), e.handles k, count-total g k, count-total f k);
         }
 
@@ -110,9 +115,9 @@ module _ (scene : Scene) (change : Change) (v : IsValid scene) where
   added : (g : Forest Object) (n d : ℕ) (kind : Kind) → ((w : Weighing) → weight w 0 g ≡ weight w d (leaf (new_object n kind)) + weight w 0 scene.trees) →
       is_counted NEW_HANDLE n ≡ true → kind ≡ cond (is_top d) Screen Obj → has (handles_of scene.trees) n ≡ false → d < MAX_DEPTH →
       ((w : Object → ℕ) → added_sum scene change w ≡ w (new_object n kind) + removed_sum scene change w) →
-      need_of scene change Objects ≡ freed_by scene change Objects + 1 → need_of scene change Entries ≡ freed_by scene change Entries →
+      need_of scene change Objects ≡ freed_by scene change Objects + 1 →
       Leaves scene change (record scene { trees = g })
-  added g n d kind sums fits new off low rows objects entries =
+  added g n d kind sums fits new off low rows objects =
       let absent = count-off scene.trees n (sym (has-handles scene.trees n) ∙ off) in
       let once : (k : ℕ) → one_at k (new_object n kind) + total (one_at k) scene.trees ≤ 0 + 1 =
       λ k. grind (arith, nat_tests, absent, count-total scene.trees k, once_at k) in
@@ -124,9 +129,9 @@ module _ (scene : Scene) (change : Change) (v : IsValid scene) where
   moved : (h p : ℕ) (g : Forest Object → Forest Object) → Joins (tree_below scene h) g → is_some (parent_object scene h) ≡ true →
       there (without scene.trees h) p ≡ true → depth_by (is_at p) scene.trees + height (tree_below scene h) ≤ MAX_DEPTH →
       ((w : Object → ℕ) → added_sum scene change w ≡ removed_sum scene change w) →
-      need_of scene change Objects ≡ freed_by scene change Objects → need_of scene change Entries ≡ freed_by scene change Entries →
+      need_of scene change Objects ≡ freed_by scene change Objects →
       Leaves scene change (record scene { trees = with_children_by (is_at p) g (without scene.trees h) })
-  moved h p g joins up on deep rows objects entries =
+  moved h p g joins up on deep rows objects =
       let f = scene.trees in
       let t = tree_below scene h in
       let left = without f h in
@@ -145,20 +150,20 @@ module _ (scene : Scene) (change : Change) (v : IsValid scene) where
       let above = depth-cut (is_at h) f p distinct in
       let low : weight (too_low MAX_DEPTH) (suc new) t ≡ 0 = grind (arith, nat_tests, low-height MAX_DEPTH (suc new) t, above, new-is, deep) in
       edited (with_children_by (is_at p) g left) (λ w. weight w (suc old) t) (λ w. weight w (suc new) t)
-      (search (rules, once_at, level one, level entries_at, rows))
+      (search (rules, once_at, level one, rows))
 
   -- the tree at h elsewhere below its own parent, where it has room
   moved_beside : (h : ℕ) (g : Forest Object → Forest Object) (after : Option Object → Forest Object) → Joins (tree_below scene h) g →
       ((p : Object) → after (Some p) ≡ with_children_by (is_at p.handle) g (without scene.trees h)) →
       not (is_some (parent_of (handles_of scene.trees) h)) ≡ false →
       ((w : Object → ℕ) → added_sum scene change w ≡ removed_sum scene change w) →
-      need_of scene change Objects ≡ freed_by scene change Objects → need_of scene change Entries ≡ freed_by scene change Entries →
+      need_of scene change Objects ≡ freed_by scene change Objects →
       Leaves scene change (record scene { trees = after (parent_object scene h) })
-  moved_beside h g after joins each below_row rows objects entries =
+  moved_beside h g after joins each below_row rows objects =
       let up = sym (parent-handles scene.trees h) ∙ not-false _ below_row in
       let p = found (parent_object scene h) up in
       let below = parent-depth h p.0 scene.trees distinct p.1 in
-      rw (p.1, each p.0) (moved h p.0.handle g joins up (parent-left scene.trees h p.0 p.1) (omega (arith, v.trees.low, below)) rows objects entries)
+      rw (p.1, each p.0) (moved h p.0.handle g joins up (parent-left scene.trees h p.0 p.1) (omega (arith, v.trees.low, below)) rows objects)
 
 cut_out : (scene : Scene) (h : Handle) → IsValid scene → there scene.trees h.0 ≡ true → stays scene h.0 ≡ false →
     Leaves scene (change.Delete h) (record scene { trees = without scene.trees h.0 })
@@ -171,21 +176,14 @@ cut_out scene h v on out =
     let once = once_at scene (change.Delete h) v in
     let roots = λ (k : ℕ) (stay : stays scene k ≡ true). roots-tree h.0 k e f (grind (arith, nat_tests, out, stay)) in
     let sums = λ (w : Object → ℕ). weight-total w e t in
-    edited scene (change.Delete h) v (without f h.0) (λ w. weight w e t) (λ w. 0) (search (rules, sums, size-total t, entries-total t))
+    edited scene (change.Delete h) v (without f h.0) (λ w. weight w e t) (λ w. 0) (search (rules, sums, size-total t))
 
 -- One row.
--- one entry more where the property is not set yet
-pub needs : (scene : Scene) (change : Change) (h : Handle) (object : Object) → row_set change ≡ Some h → object_at scene h.0 ≡ Some object →
-    entry_count (row_after change object.row) ≡ need_of scene change Entries + entry_count object.row
-needs scene (change.Local a part BgColor value) h object set at = let is : object_at scene a.0 ≡ Some object = cc in rw is (grind arith)
-needs scene (change.Local a part BgOpa value) h object set at = let is : object_at scene a.0 ≡ Some object = cc in rw is (grind arith)
-needs scene change h object set at = omega arith
-
--- it takes and frees nothing else
-pub set_slots : (scene : Scene) (change : Change) (h : Handle) → row_set change ≡ Some h →
-    (need_of scene change Objects ≡ 0) × (freed_by scene change Objects ≡ 0) × (freed_by scene change Entries ≡ 0)
-set_slots scene (change.Screen n) h set = (cc, cc, cc)
-set_slots scene change h set = (cc, cc, cc)
+-- it takes and frees no objects
+set_slots : (scene : Scene) (change : Change) (h : Handle) → row_set change ≡ Some h →
+    (need_of scene change Objects ≡ 0) × (freed_by scene change Objects ≡ 0)
+set_slots scene (change.Screen n) h set = (cc, cc)
+set_slots scene change h set = (cc, cc)
 
 -- it adds no object and removes none
 pub set_sums : (scene : Scene) (change : Change) (h : Handle) (w : Object → ℕ) → row_set change ≡ Some h →
@@ -193,18 +191,12 @@ pub set_sums : (scene : Scene) (change : Change) (h : Handle) (w : Object → �
 set_sums scene (change.Screen n) h w set = (cc, cc)
 set_sums scene change h w set = (cc, cc)
 
-pub set_only : (scene : Scene) (change : Change) (h : Handle) → row_set change ≡ Some h → (pool : Pool) →
-    (pool ≡ Entries) ⊎ (need_of scene change pool ≡ 0)
-set_only scene change h set Entries = inl refl
-set_only scene (change.Screen n) h set pool = cc
-set_only scene change h set pool = inr (cc)
-
 object_there : (f : Forest Object) (h : ℕ) → there f h ≡ true → is_some (object_by (is_at h) f) ≡ true
 object_there Empty h i = cc
 object_there (Tree object cs rest) h i = grind (arith, nat_tests, object_there cs h, object_there rest h)
 
 kind_kept : (change : Change) (row : Row) → (row_after change row).kind ≡ row.kind
-kind_kept (change.Local h part BgColor value) row = refl
+kind_kept (change.Flag h flag on) row = refl
 kind_kept change row = refl
 
 no_worse : (kind named old new : Bool) → (old ≡ true → new ≡ true) → cond (kind && (named && new)) 0 1 ≤ cond (kind && (named && old)) 0 1
@@ -233,18 +225,27 @@ row_left scene change h v set on fits =
     let once = once_at scene change v in
     let rows = λ (k : ℕ). set_sums scene change h (one_at k) set in
     let kept = row_kept change r.0 e fits in
-    let need = needs scene change h r.0 set r.1 in
     edited scene change v _ (λ w. w e r.0) (λ w. w e (new r.0)) (search (rules, kept, rows))
 
 loaded : (scene : Scene) (h : Handle) → IsValid scene → is_screen scene h.0 ≡ true → Leaves scene (change.Load h) (record scene { active = h.0 })
 loaded scene h v screen =
     let root = screen_root h.0 scene.trees v.rows.kinds screen in search (rules, v, root)
 
+-- a change of the book leaves the trees
+book_alone : (scene : Scene) (change : Change) → IsValid scene → (book : Book) → need_of scene change Objects ≡ 0 → freed_by scene change Objects ≡ 0 →
+    ((w : Object → ℕ) → added_sum scene change w ≡ removed_sum scene change w) → Leaves scene change (record scene { book = book })
+book_alone scene change v book need freed rows = record {
+  trees = v.trees;
+  rows = v.rows;
+  objects = omega (arith, need, freed);
+  handles = λ k. omega (arith, rows (one_at k));
+}
+
 leaves : (scene : Scene) (change : Change) → IsValid scene → is_in_range change ≡ true → IsChange change → Fail (tests scene change) →
     Leaves scene change (scene_after scene change)
 leaves scene (change.Screen n) v fits c t =
     let sums = λ (w : Weighing). weight-and_then w (leaf (new_object n.0 Screen)) 0 scene.trees in
-    added scene (change.Screen n) v (with_screen scene.trees n.0) n.0 0 Screen sums fits refl t.0 (omega arith) (λ w. omega arith) refl refl
+    added scene (change.Screen n) v (with_screen scene.trees n.0) n.0 0 Screen sums fits refl t.0 (omega arith) (λ w. omega arith) refl
 leaves scene (change.New n p kind) v fits c t =
     let f = scene.trees in
     let new = leaf (new_object n.0 kind) in
@@ -254,9 +255,10 @@ leaves scene (change.New n p kind) v fits c t =
     let low : suc d < MAX_DEPTH = grind (arith, nat_tests, t.1.1.0, at, depth-handles f p.0, depth-height (is_at p.0) f, v.trees.low) in
     added scene (change.New n p kind) v (with_object f n.0 p.0 kind) n.0 (suc d) kind
     (λ w. weight-with_children w new _ (λ w. weight-and_then w new) 0 (suc d) p.0 f (distinct_once f v.trees.once) on (omega arith))
-    (and_parts _ _ fits).0 c t.1.0 low (λ w. omega arith) refl refl
+    (and_parts _ _ fits).0 c t.1.0 low (λ w. omega arith) refl
 leaves scene (change.Delete h) v fits c t =
-    cut_out scene h v (sym (has-handles scene.trees h.0) ∙ not-false _ t.0) (grind (arith, nat_tests, t.1.0, t.1.1.0))
+    let l = cut_out scene h v (sym (has-handles scene.trees h.0) ∙ not-false _ t.0) (grind (arith, nat_tests, t.1.0, t.1.1.0)) in
+    record { trees = l.trees; rows = l.rows; objects = l.objects; handles = l.handles }
 leaves scene (change.Parent h p) v fits c t =
     let f = scene.trees in
     let tree = tree_below scene h.0 in
@@ -265,17 +267,24 @@ leaves scene (change.Parent h p) v fits c t =
     let up = sym (parent-handles f h.0) ∙ not-false _ t.1.1.0 in
     let out = sym (below-handles f h.0 p.0) ∙ t.1.1.1.0 in
     moved scene (change.Parent h p) v h.0 p.0 (λ cs. and_then cs tree) (λ w. weight-and_then w tree) up (there-cut f h.0 p.0 d on out)
-    (omega (arith, ltb-false _ _ t.1.1.1.1.0, depth-handles f p.0, height-handles f h.0)) (λ w. refl) refl refl
+    (omega (arith, ltb-false _ _ t.1.1.1.1.0, depth-handles f p.0, height-handles f h.0)) (λ w. refl) refl
 leaves scene (change.Index h n) v fits c t =
     let joins = λ (w : Weighing). weight-put_at w n (tree_below scene h.0) in
-    moved_beside scene (change.Index h n) v h.0 _ (λ p. at_index_below p scene.trees h.0 n) joins (λ p. refl) t.1.0 (λ w. refl) refl refl
+    moved_beside scene (change.Index h n) v h.0 _ (λ p. at_index_below p scene.trees h.0 n) joins (λ p. refl) t.1.0 (λ w. refl) refl
 leaves scene (change.Front h) v fits c t =
     let joins = λ (w : Weighing). weight-and_then w (tree_below scene h.0) in
-    moved_beside scene (change.Front h) v h.0 _ (λ p. last_below p scene.trees h.0) joins (λ p. refl) t.1.0 (λ w. refl) refl refl
+    moved_beside scene (change.Front h) v h.0 _ (λ p. last_below p scene.trees h.0) joins (λ p. refl) t.1.0 (λ w. refl) refl
 leaves scene (change.Back h) v fits c t =
     let joins = λ (w : Weighing). weight-put_at w 0 (tree_below scene h.0) in
-    moved_beside scene (change.Back h) v h.0 _ (λ p. at_index_below p scene.trees h.0 0) joins (λ p. refl) t.1.0 (λ w. refl) refl refl
+    moved_beside scene (change.Back h) v h.0 _ (λ p. at_index_below p scene.trees h.0 0) joins (λ p. refl) t.1.0 (λ w. refl) refl
 leaves scene (change.Load h) v fits c t = loaded scene h v (not-false _ t.1.0)
+leaves scene (change.Style s) v fits c t = book_alone scene (change.Style s) v _ refl refl (λ w. refl)
+leaves scene (change.Set s prop value) v fits c t = book_alone scene (change.Set s prop value) v _ refl refl (λ w. refl)
+leaves scene (change.Unset s prop) v fits c t = book_alone scene (change.Unset s prop) v _ refl refl (λ w. refl)
+leaves scene (change.Use h s selector) v fits c t = book_alone scene (change.Use h s selector) v _ refl refl (λ w. refl)
+leaves scene (change.Unuse h s selector) v fits c t = book_alone scene (change.Unuse h s selector) v _ refl refl (λ w. refl)
+leaves scene (change.Local h selector prop value) v fits c t = book_alone scene (change.Local h selector prop value) v _ refl refl (λ w. refl)
+leaves scene (change.Unlocal h selector prop) v fits c t = book_alone scene (change.Unlocal h selector prop) v _ refl refl (λ w. refl)
 leaves scene change v fits c t =
     row_left scene change (handle_in (row_set change)) v refl (sym (has-handles scene.trees (handle_in (row_set change)).0) ∙ not-false _ t.0) fits
 
@@ -283,15 +292,125 @@ pub after_leaves : (scene : Scene) (change : Change) → is_in_range change ≡ 
     IsValid scene → Leaves scene change (scene_after scene change)
 after_leaves scene change fits c e v = leaves scene change v fits c (tests-fail (tests scene change) (first_short scene change POOLS) e)
 
+-- The styles of a scene that a change leaves, and the slots that it takes and frees of their pools.
+pub record LeavesBook (scene : Scene) (change : Change) (after : Scene) : Type 0 where
+  pub book : IsBook after.book
+  pub bare : (k : ℕ) → is_there after k ≡ false → IsBare after.book k
+  pub styles : length after.book.styles + freed_by scene change Styles ≡ need_of scene change Styles + length scene.book.styles
+  pub entries : entries_in after.book + freed_by scene change Entries ≡ need_of scene change Entries + entries_in scene.book
+  pub uses : uses_in after.book + freed_by scene change Uses ≡ need_of scene change Uses + uses_in scene.book
+
+-- who is there stays, where none is removed
+there_stays : (scene after : Scene) (change : Change) (k : ℕ) → Leaves scene change after → removed_sum scene change (one_at k) ≡ 0 →
+    is_there after k ≡ false → is_there scene k ≡ false
+there_stays scene after change k l none off = elim (cases_Bool (is_there scene k)) [
+  | inl on ↦ absurd (omega (arith, l.handles k, none, count-has (handles_of scene.trees) k on, absent_count (handles_of after.trees) k off))
+  | inr out ↦ out
+]
+
+-- a change that leaves the book
+book_stays : (scene after : Scene) (change : Change) → IsValid scene → Leaves scene change after → after.book ≡ scene.book → ((w : Object → ℕ) → removed_sum scene change w ≡ 0) →
+    (need_of scene change Styles ≡ 0) × (need_of scene change Entries ≡ 0) × (need_of scene change Uses ≡ 0) → (freed_by scene change Styles ≡ 0) × (freed_by scene change Entries ≡ 0) × (freed_by scene change Uses ≡ 0) →
+    LeavesBook scene change after
+book_stays scene after change v l same none needs freed = record {
+  book = subst IsBook (sym same) v.book;
+  bare = λ k off. subst (λ b. IsBare b k) (sym same) (v.bare k (there_stays scene after change k l (none (one_at k)) off));
+  styles = omega (arith, needs.0, freed.0, ap (λ (b : Book). length b.styles) same);
+  entries = omega (arith, needs.1, freed.1, ap entries_in same);
+  uses = omega (arith, needs.2, freed.2, ap uses_in same);
+}
+
+-- a handle is listed where it is
+listed : (f : Forest Object) (k : ℕ) → list_any (λ h. eqb h k) (preorder (handles_of f)) ≡ there f k
+listed Empty k = refl
+listed (Tree object cs rest) k =
+    ap (λ b. eqb object.handle k || b) (list_any-append (λ h. eqb h k) (preorder (handles_of cs)) (preorder (handles_of rest)) ∙ rw (listed cs k, listed rest k) refl)
+
+-- the objects that are removed take what they had with them
+book_cut : (scene : Scene) (h : Handle) → IsValid scene → Leaves scene (change.Delete h) (scene_after scene (change.Delete h)) → LeavesBook scene (change.Delete h) (scene_after scene (change.Delete h))
+book_cut scene h v l =
+    let handles = below scene h.0 in
+    let f = all_forgets handles scene.book in
+    let t = tree_below scene h.0 in record {
+      book = f.in_order v.book;
+      bare = λ k off. elim (cases_Bool (is_there scene k)) [
+        | inl on ↦ f.gone k (listed t k ∙ elim (cases_Bool (there t k)) [
+          | inl in_t ↦ in_t
+          | inr out ↦ absurd (omega (arith, l.handles k, count-has (handles_of scene.trees) k on, absent_count (handles_of (without scene.trees h.0)) k off, count-total t k, count-off t k out))
+        ])
+        | inr out ↦ f.stays k (v.bare k out)
+      ];
+      styles = ap (λ (ss : List Style). length ss + 0) f.styles_left ∙ omega arith;
+      entries = omega (arith, f.entries_left);
+      uses = omega (arith, f.uses_left);
+    }
+
+-- a change of the book
+book_becomes : (scene : Scene) (change : Change) (book : Book) (named : ℕ → Bool) (styles entries uses entries_freed uses_freed : ℕ) → IsValid scene → Becomes scene.book book named styles entries uses entries_freed uses_freed →
+    ((k : ℕ) → is_there scene k ≡ false → named k ≡ false) →
+    need_of scene change Styles ≡ styles → freed_by scene change Styles ≡ 0 → need_of scene change Entries ≡ entries → freed_by scene change Entries ≡ entries_freed → need_of scene change Uses ≡ uses → freed_by scene change Uses ≡ uses_freed →
+    LeavesBook scene change (record scene { book = book })
+book_becomes scene change book named styles entries uses entries_freed uses_freed v b off s0 s1 e0 e1 u0 u1 = record {
+  book = b.in_order;
+  bare = λ k out. b.bare k (off k out) (v.bare k out);
+  styles = omega (arith, b.styles_left, s0, s1);
+  entries = omega (arith, b.entries_left, e0, e1);
+  uses = omega (arith, b.uses_left, u0, u1);
+}
+
+-- who is not there is not the object that is
+another : (scene : Scene) (h : Handle) (k : ℕ) → not (is_there scene h.0) ≡ false → is_there scene k ≡ false → eqb k h.0 ≡ false
+another scene h k on off = elim (cases_Bool (eqb k h.0)) [
+  | inl same ↦ let both : is_there scene h.0 ≡ false = subst (λ n. is_there scene n ≡ false) (eqb-true k h.0 same) off in absurd (false≢true (sym both ∙ not-false _ on))
+  | inr other ↦ other
+]
+
+handle_fits : (h : Handle) → is_counted HANDLE h.0 ≡ true → h.0 < 65536
+handle_fits h fits = grind (arith, nat_tests, fits)
+
+leaves_book : (scene : Scene) (change : Change) → IsValid scene → is_in_range change ≡ true → Fail (tests scene change) → Leaves scene change (scene_after scene change) →
+    LeavesBook scene change (scene_after scene change)
+leaves_book scene (change.Delete h) v fits t l = book_cut scene h v l
+leaves_book scene (change.Style s) v fits t l = book_becomes scene (change.Style s) _ nobody 1 0 0 0 0 v (style_becomes scene.book v.book s t.0) (λ k off. refl) refl refl refl refl refl refl
+leaves_book scene (change.Set s prop value) v fits t l =
+    book_becomes scene (change.Set s prop value) _ nobody 0 _ 0 0 0 v (prop_becomes scene.book v.book s (a_setting prop value) (not-false _ t.0) (and_parts _ _ fits).1) (λ k off. refl) refl refl refl refl refl refl
+leaves_book scene (change.Unset s prop) v fits t l =
+    book_becomes scene (change.Unset s prop) _ nobody 0 0 0 1 0 v (unset_becomes scene.book v.book s prop (not-false _ t.0)) (λ k off. refl) refl refl refl refl refl refl
+leaves_book scene (change.Use h s selector) v fits t l =
+    book_becomes scene (change.Use h s selector) _ (λ k. eqb k h.0) 0 0 1 0 0 v (use_becomes scene.book v.book h.0 (a_use s selector) (handle_fits h (and_parts _ _ fits).0)) (λ k off. another scene h k t.0 off) refl refl refl refl refl refl
+leaves_book scene (change.Unuse h s selector) v fits t l =
+    book_becomes scene (change.Unuse h s selector) _ (λ k. eqb k h.0) 0 0 0 0 1 v (unuse_becomes scene.book v.book h.0 (a_use s selector) (handle_fits h (and_parts _ _ fits).0) (not-false _ t.1.0)) (λ k off. another scene h k t.0 off) refl refl refl refl refl refl
+leaves_book scene (change.Local h selector prop value) v fits t l =
+    book_becomes scene (change.Local h selector prop value) _ (λ k. eqb k h.0) 0 _ 0 0 0 v (local_becomes scene.book v.book h.0 (an_entry selector prop value) (handle_fits h (and_parts _ _ fits).0) (and_parts _ _ fits).1) (λ k off. another scene h k t.0 off) refl refl refl refl refl refl
+leaves_book scene (change.Unlocal h selector prop) v fits t l =
+    book_becomes scene (change.Unlocal h selector prop) _ (λ k. eqb k h.0) 0 0 0 1 0 v (unlocal_becomes scene.book v.book h.0 selector prop (handle_fits h fits) (not-false _ t.1.0)) (λ k off. another scene h k t.0 off) refl refl refl refl refl refl
+leaves_book scene (change.Screen n) v fits t l = book_stays scene _ (change.Screen n) v l refl (λ w. refl) (refl, refl, refl) (refl, refl, refl)
+leaves_book scene change v fits t l = book_stays scene _ change v l refl (λ w. refl) (refl, refl, refl) (refl, refl, refl)
+
+pub after_book : (scene : Scene) (change : Change) → is_in_range change ≡ true → IsChange change → answer_in_range scene change ≡ None →
+    IsValid scene → LeavesBook scene change (scene_after scene change)
+after_book scene change fits c e v =
+    leaves_book scene change v fits (tests-fail (tests scene change) (first_short scene change POOLS) e) (after_leaves scene change fits c e v)
+
 -- Pools that are not over their counts before are not over them after.
 pub after_valid : (scene : Scene) (change : Change) → is_in_range change ≡ true → IsChange change → answer_in_range scene change ≡ None →
     IsValid scene → IsValid (scene_after scene change)
 after_valid scene change fits c e v =
     let l = after_leaves scene change fits c e v in
+    let b = after_book scene change fits c e v in
     let same = after_keeps scene change in
-    let objects = room_in_range scene change Objects e in
-    let entries = room_in_range scene change Entries e in
-    search (rules, l, ap (λ (b : Bounds). b.objects) same, ap (λ (b : Bounds). b.entries) same)
+    let fit = v.pools in record {
+      trees = l.trees;
+      rows = l.rows;
+      book = b.book;
+      bare = b.bare;
+      pools = record {
+        objects = omega (arith, l.objects, fit.objects, room_in_range scene change Objects e, ap (λ (b : Bounds). b.objects) same);
+        styles = omega (arith, b.styles, fit.styles, room_in_range scene change Styles e, ap (λ (b : Bounds). b.styles) same);
+        entries = omega (arith, b.entries, fit.entries, room_in_range scene change Entries e, ap (λ (b : Bounds). b.entries) same);
+        uses = omega (arith, b.uses, fit.uses, room_in_range scene change Uses e, ap (λ (b : Bounds). b.uses) same);
+      };
+    }
 
 pub change_keeps_valid : ChangeKeepsValid
 change_keeps_valid scene change v c = by (answer_of scene change) refl where
@@ -299,24 +418,35 @@ change_keeps_valid scene change v c = by (answer_of scene change) refl where
   by None e = let a = range_done (is_in_range change) (answer_in_range scene change) e in after_valid scene change a.0 c a.1 v
   by (Some refusal) e = v
 
-adds_up : (scene : Scene) (change : Change) (pool : Pool) → Leaves scene change (scene_after scene change) →
+adds_up : (scene : Scene) (change : Change) (pool : Pool) → Leaves scene change (scene_after scene change) → LeavesBook scene change (scene_after scene change) →
     need_of scene change pool ≤ spare scene pool → FitPools scene →
     spare (scene_after scene change) pool + need_of scene change pool ≡ spare scene pool + freed_by scene change pool
-adds_up scene change Objects l room fit = omega (arith, l.objects, fit.objects, room, ap (λ (b : Bounds). b.objects) (after_keeps scene change))
-adds_up scene change Entries l room fit = omega (arith, l.entries, fit.entries, room, ap (λ (b : Bounds). b.entries) (after_keeps scene change))
-adds_up scene (change.Screen n) pool l room fit = refl
-adds_up scene change pool l room fit = refl
+adds_up scene change Objects l b room fit = omega (arith, l.objects, fit.objects, room, ap (λ (b : Bounds). b.objects) (after_keeps scene change))
+adds_up scene change Styles l b room fit = omega (arith, b.styles, fit.styles, room, ap (λ (b : Bounds). b.styles) (after_keeps scene change))
+adds_up scene change Entries l b room fit = omega (arith, b.entries, fit.entries, room, ap (λ (b : Bounds). b.entries) (after_keeps scene change))
+adds_up scene change Uses l b room fit = omega (arith, b.uses, fit.uses, room, ap (λ (b : Bounds). b.uses) (after_keeps scene change))
+adds_up scene (change.Screen n) pool l b room fit = refl
+adds_up scene change pool l b room fit = refl
 
 pub slots_add_up : SlotsAddUp
 slots_add_up scene change pool v c e =
     let a = range_done (is_in_range change) (answer_in_range scene change) e in
-    rw e (adds_up scene change pool (after_leaves scene change a.0 c a.1 v) (room_in_range scene change pool a.1) v.pools)
+    rw e (adds_up scene change pool (after_leaves scene change a.0 c a.1 v) (after_book scene change a.0 c a.1 v) (room_in_range scene change pool a.1) v.pools)
 
 first_once : (h : ℕ) → cond (eqb 1 h) 1 0 + (0 + (cond (eqb 2 h) 1 0 + (0 + (cond (eqb 3 h) 1 0 + (0 + 0))))) ≤ 1
 first_once h = grind (arith, nat_tests)
 
+first_trees_valid : (limits : Bounds) → AreTrees (first_scene limits).trees 3
+first_trees_valid limits = search (rules, first_once)
+
 pub first_is_valid : FirstIsValid
-first_is_valid limits room = search (rules, first_once)
+first_is_valid limits room = record {
+  trees = first_trees_valid limits;
+  rows = search rules;
+  book = empty_in_order;
+  bare = λ h off. empty_bare h;
+  pools = record { objects = room; styles = omega arith; entries = omega (arith, no_entries); uses = omega (arith, no_uses) };
+}
 
 pub valid_is_showable : ValidIsShowable
 valid_is_showable scene v = assumption v.trees

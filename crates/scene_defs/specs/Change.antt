@@ -1,26 +1,28 @@
 -- A change of a scene: whether it is done or why it is refused, and the scene after it.
 use Rattle.std.specs.Prelude.{ℕ, Bool, true, false, not, ◌==◌, nat_lt, if◌then◌else◌, Some, None, is_some}
-use Rattle.std.specs.Prelude.{option_map, List, [], ◌∷◌, ◌++◌, ℤ}
+use Rattle.std.specs.Prelude.{option_map, List, [], ◌∷◌, ◌++◌, ◌-◌}
 use Rattle.std.specs.declared.option.Option.{Option}
 use Rattle.gui_base.specs.declared.pools.TheConstants.{POOLS}
 use Rattle.gui_base.specs.declared.Handle.{Handle}
 use Rattle.gui_base.specs.declared.limits.Pool.{Pool}
-use Rattle.gui_base.specs.declared.limits.Pool.TheVariants.{Objects, Entries}
+use Rattle.gui_base.specs.declared.limits.Pool.TheVariants.{Objects, Entries, Uses}
 use Rattle.gui_base.specs.declared.refusal.Refusal.{Refusal}
 use Rattle.gui_base.specs.declared.refusal.Refusal.TheVariants.{Range, Full}
 use Rattle.gui_base.specs.declared.words.Kind.{Kind}
 use Rattle.gui_base.specs.declared.words.Kind.TheVariants.{Screen, Layer, Obj}
-use Rattle.gui_base.specs.declared.props.Prop.{Prop}
+use Rattle.style_defs.specs.Book.{Book, all_forgotten, entries_in, uses_in}
 use Rattle.gui_base.specs.Forest.{Forest, and_then, leaf, added_by, cut_by, moved_by, moved_last_by, size}
+use Rattle.gui_base.specs.Forest.{preorder}
 use Rattle.gui_base.specs.Forest.{tree_by, parent_by, with_row_by}
-use Rattle.gui_base.specs.Refusing.{Test, first_of, absent, parentless, root_tests, child_tests}
-use Rattle.gui_base.specs.Refusing.{removal_tests, move_tests, parent_tests, Kind as WrongKind, Place}
+use Rattle.gui_base.specs.Refusing.{Test, first_of, absent, parentless, root_tests, child_tests, removal_tests}
+use Rattle.gui_base.specs.Refusing.{move_tests, parent_tests, Kind as WrongKind, Place}
 use Rattle.scene_defs.specs.declared.Change.{Change}
 use Rattle.scene_defs.specs.declared.Change.TheVariants as change
 use Rattle.scene_defs.specs.Ranges.{is_in_range}
 use Rattle.scene_defs.specs.declared.Row.{Row}
-use Rattle.scene_defs.specs.Row.{Setter, setter_of, local_of}
-use Rattle.scene_defs.specs.Scene.{Object, Scene, is_at, handles_of, object_at, entries_of, spare, new_object}
+use Rattle.scene_defs.specs.Row.{Setter, setter_of}
+use Rattle.scene_defs.specs.Scene.{Object, Scene, is_at, handles_of, object_at, spare, new_object}
+use Rattle.scene_defs.specs.Styling.{Styling, styling_of}
 
 -- the tree at h alone
 abbrev pub tree_below : Scene → ℕ → Forest Object
@@ -33,14 +35,6 @@ parent_object scene h = parent_by (is_at h) None scene.trees
 -- whether a pool has fewer free slots than are needed
 abbrev pub lacks : Scene → Pool → ℕ → Bool
 lacks scene pool need = nat_lt (spare scene pool) need
-
--- whether there is an object that has the property set
-abbrev pub sets : Option Object → Prop → Bool
-sets None prop = false
-sets (Some object) prop = is_some (local_of object.row prop)
-
-abbrev pub is_set : Scene → ℕ → Prop → Bool
-is_set scene h prop = sets (object_at scene h) prop
 
 abbrev pub is_screen_kind : Kind → Bool
 is_screen_kind Screen = true
@@ -56,17 +50,34 @@ abbrev pub is_screen : Scene → ℕ → Bool
 is_screen scene h = has_screen (object_at scene h)
 
 -- how many slots of a pool a change takes
+abbrev pub need_by : Option Styling → Change → Pool → ℕ
+need_by (Some styling) change pool = styling.need pool
+need_by None (change.Screen n) Objects = 1
+need_by None (change.New n p kind) Objects = 1
+need_by None change pool = 0
+
 abbrev pub need_of : Scene → Change → Pool → ℕ
-need_of scene (change.Screen n) Objects = 1
-need_of scene (change.New n p kind) Objects = 1
-need_of scene (change.Local h part prop value) Entries = if is_set scene h.0 prop then 0 else 1
-need_of scene change pool = 0
+need_of scene change pool = need_by (styling_of scene.book change) change pool
+
+-- the handles of h and of all below it
+abbrev pub below : Scene → ℕ → List ℕ
+below scene h = preorder (handles_of (tree_below scene h))
+
+-- the book without what h and all below it have
+abbrev pub book_without : Scene → ℕ → Book
+book_without scene h = all_forgotten scene.book (below scene h)
 
 -- how many slots of a pool it frees
+abbrev pub freed_by_styling : Option Styling → Scene → Change → Pool → ℕ
+freed_by_styling (Some styling) scene change pool = styling.freed pool
+freed_by_styling None scene (change.Delete h) Objects = size (tree_below scene h.0)
+freed_by_styling None scene (change.Delete h) Entries =
+    entries_in scene.book - entries_in (book_without scene h.0)
+freed_by_styling None scene (change.Delete h) Uses = uses_in scene.book - uses_in (book_without scene h.0)
+freed_by_styling None scene change pool = 0
+
 abbrev pub freed_by : Scene → Change → Pool → ℕ
-freed_by scene (change.Delete h) Objects = size (tree_below scene h.0)
-freed_by scene (change.Delete h) Entries = entries_of (tree_below scene h.0)
-freed_by scene change pool = 0
+freed_by scene change pool = freed_by_styling (styling_of scene.book change) scene change pool
 
 -- the first of these pools that has fewer free slots than a change takes
 abbrev pub first_short : Scene → Change → List Pool → Option Pool
@@ -78,23 +89,31 @@ abbrev pub setter_tests : Forest ℕ → Setter → List Test
 setter_tests f setter =
     absent f setter.handle.0 ∷ (if setter.needs_parent then parentless f setter.handle.0 ∷ [] else [])
 
+abbrev pub object_tests : Forest ℕ → Option Handle → List Test
+object_tests f None = []
+object_tests f (Some h) = absent f h.0 ∷ []
+
+abbrev pub styling_tests : Forest ℕ → Styling → List Test
+styling_tests f styling = object_tests f styling.object ++ styling.tests
+
 -- The tests of a change, in order: what is asked whatever room there is.
-abbrev pub tests_by : Option Setter → Scene → Change → List Test
-tests_by (Some setter) scene change = setter_tests (handles_of scene.trees) setter
-tests_by None scene (change.Screen n) = root_tests (handles_of scene.trees) n.0
-tests_by None scene (change.New n p kind) = child_tests (handles_of scene.trees) n.0 p.0
-tests_by None scene (change.Delete h) =
+abbrev pub tests_by : Option Setter → Option Styling → Scene → Change → List Test
+tests_by (Some setter) styling scene change = setter_tests (handles_of scene.trees) setter
+tests_by None (Some styling) scene change = styling_tests (handles_of scene.trees) styling
+tests_by None None scene (change.Screen n) = root_tests (handles_of scene.trees) n.0
+tests_by None None scene (change.New n p kind) = child_tests (handles_of scene.trees) n.0 p.0
+tests_by None None scene (change.Delete h) =
     removal_tests (handles_of scene.trees) h.0 ++ (h.0 == scene.active, Place) ∷ []
-tests_by None scene (change.Parent h p) = parent_tests (handles_of scene.trees) h.0 p.0
-tests_by None scene (change.Index h n) = move_tests (handles_of scene.trees) h.0
-tests_by None scene (change.Front h) = move_tests (handles_of scene.trees) h.0
-tests_by None scene (change.Back h) = move_tests (handles_of scene.trees) h.0
-tests_by None scene (change.Load h) =
+tests_by None None scene (change.Parent h p) = parent_tests (handles_of scene.trees) h.0 p.0
+tests_by None None scene (change.Index h n) = move_tests (handles_of scene.trees) h.0
+tests_by None None scene (change.Front h) = move_tests (handles_of scene.trees) h.0
+tests_by None None scene (change.Back h) = move_tests (handles_of scene.trees) h.0
+tests_by None None scene (change.Load h) =
     absent (handles_of scene.trees) h.0 ∷ (not (is_screen scene h.0), WrongKind) ∷ []
-tests_by None scene change = []
+tests_by None None scene change = []
 
 abbrev pub tests : Scene → Change → List Test
-tests scene change = tests_by (setter_of change) scene change
+tests scene change = tests_by (setter_of change) (styling_of scene.book change) scene change
 
 -- the first refusal of a change whose numbers lie in their intervals: the first test that holds, or the first
 -- pool without room; none where it is done
@@ -146,24 +165,26 @@ abbrev pub with_row : Scene → ℕ → (Row → Row) → Scene
 with_row scene h f = record scene { trees = with_row_by (is_at h) (over_row f) scene.trees }
 
 -- the scene after a change that is done
-abbrev pub after_by : Option Setter → Scene → Change → Scene
-after_by (Some setter) scene change = with_row scene setter.handle.0 setter.after
-after_by None scene (change.Screen n) = record scene { trees = with_screen scene.trees n.0 }
-after_by None scene (change.New n p kind) =
+abbrev pub after_by : Option Setter → Option Styling → Scene → Change → Scene
+after_by (Some setter) styling scene change = with_row scene setter.handle.0 setter.after
+after_by None (Some styling) scene change = record scene { book = styling.after }
+after_by None None scene (change.Screen n) = record scene { trees = with_screen scene.trees n.0 }
+after_by None None scene (change.New n p kind) =
     record scene { trees = with_object scene.trees n.0 p.0 kind }
-after_by None scene (change.Delete h) = record scene { trees = without scene.trees h.0 }
-after_by None scene (change.Parent h p) = record scene { trees = moved_last scene.trees h.0 p.0 }
-after_by None scene (change.Index h n) =
+after_by None None scene (change.Delete h) =
+    record scene { trees = without scene.trees h.0; book = book_without scene h.0 }
+after_by None None scene (change.Parent h p) = record scene { trees = moved_last scene.trees h.0 p.0 }
+after_by None None scene (change.Index h n) =
     record scene { trees = at_index_below (parent_object scene h.0) scene.trees h.0 n }
-after_by None scene (change.Front h) =
+after_by None None scene (change.Front h) =
     record scene { trees = last_below (parent_object scene h.0) scene.trees h.0 }
-after_by None scene (change.Back h) =
+after_by None None scene (change.Back h) =
     record scene { trees = at_index_below (parent_object scene h.0) scene.trees h.0 0 }
-after_by None scene (change.Load h) = record scene { active = h.0 }
-after_by None scene change = scene
+after_by None None scene (change.Load h) = record scene { active = h.0 }
+after_by None None scene change = scene
 
 abbrev pub scene_after : Scene → Change → Scene
-scene_after scene change = after_by (setter_of change) scene change
+scene_after scene change = after_by (setter_of change) (styling_of scene.book change) scene change
 
 -- the scene after a change with this answer: a refusal leaves it as it is
 abbrev pub scene_by : Option Refusal → Scene → Change → Scene

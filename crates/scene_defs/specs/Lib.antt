@@ -8,6 +8,8 @@ pub mod Ranges
 pub mod Row
 pub mod Scene
 pub mod Shown
+pub mod Styling
 pub mod Valid
+pub mod Values
 pub mod Visible
 pub mod Walk

@@ -1,8 +1,9 @@
 -- Whether the numbers of a change lie in their intervals.
 use Rattle.std.specs.Prelude.{Bool, false, ◌&&◌, Some, None}
 use Rattle.std.specs.declared.option.Option.{Option}
-use Rattle.gui_base.specs.declared.intervals.TheConstants.{HANDLE, NEW_HANDLE, INDEX}
+use Rattle.gui_base.specs.declared.intervals.TheConstants.{HANDLE, NEW_HANDLE, INDEX, STYLE}
 use Rattle.gui_base.specs.Intervals.{is_counted}
+use Rattle.gui_base.specs.Props.{is_value}
 use Rattle.scene_defs.specs.declared.Change.{Change}
 use Rattle.scene_defs.specs.declared.Change.TheVariants as change
 use Rattle.scene_defs.specs.Row.{Setter, setter_of}
@@ -18,6 +19,13 @@ is_in_range_by None (change.Index h n) = is_counted HANDLE h.0 && is_counted IND
 is_in_range_by None (change.Front h) = is_counted HANDLE h.0
 is_in_range_by None (change.Back h) = is_counted HANDLE h.0
 is_in_range_by None (change.Load h) = is_counted HANDLE h.0
+is_in_range_by None (change.Style s) = is_counted STYLE s
+is_in_range_by None (change.Set s prop value) = is_counted STYLE s && is_value prop value
+is_in_range_by None (change.Unset s prop) = is_counted STYLE s
+is_in_range_by None (change.Use h s selector) = is_counted HANDLE h.0 && is_counted STYLE s
+is_in_range_by None (change.Unuse h s selector) = is_counted HANDLE h.0 && is_counted STYLE s
+is_in_range_by None (change.Local h selector prop value) = is_counted HANDLE h.0 && is_value prop value
+is_in_range_by None (change.Unlocal h selector prop) = is_counted HANDLE h.0
 is_in_range_by None change = false
 
 -- whether each number of a change lies in its interval

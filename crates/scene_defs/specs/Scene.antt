@@ -1,14 +1,19 @@
--- A scene is trees of objects, the screen that is active, and the limits.
+-- A scene is trees of objects, the screen that is active, styles, and the limits.
 use Rattle.std.specs.Prelude.{ℕ, ◌+◌, ◌-◌, Bool, ◌==◌, if◌then◌else◌, Some, None, option_map}
+use Rattle.std.specs.Prelude.{ℤ, List, [], map, length}
 use Rattle.std.specs.declared.option.Option.{Option}
-use Rattle.gui_base.specs.Forest.{Forest, Empty, Tree, map_forest, size, has, has_by}
+use Rattle.gui_base.specs.Forest.{Forest, Empty, Tree, map_forest, size, has, has_by, path_by}
 use Rattle.gui_base.specs.Limits.{Bounds, slots}
+use Rattle.gui_base.specs.declared.props.Prop.{Prop}
+use Rattle.gui_base.specs.declared.words.Part.{Part}
 use Rattle.gui_base.specs.declared.words.Kind.{Kind}
 use Rattle.gui_base.specs.declared.words.Kind.TheVariants.{Screen, Layer}
 use Rattle.gui_base.specs.declared.limits.Pool.{Pool}
-use Rattle.gui_base.specs.declared.limits.Pool.TheVariants.{Objects, Entries}
+use Rattle.gui_base.specs.declared.limits.Pool.TheVariants.{Objects, Styles, Entries, Uses}
+use Rattle.style_defs.specs.Book.{Book, empty_book, entries_in, uses_in, locals_of, uses_of}
+use Rattle.style_defs.specs.Value.{Styled, value_on}
 use Rattle.scene_defs.specs.declared.Row.{Row}
-use Rattle.scene_defs.specs.Row.{new_row, entry_count}
+use Rattle.scene_defs.specs.Row.{new_row}
 
 -- an object: its handle, and what it is and what is wanted of it
 pub record Object : Type 0 where
@@ -18,6 +23,8 @@ pub record Object : Type 0 where
 pub record Scene : Type 0 where
   pub trees : Forest Object
   pub active : ℕ
+  -- the shared styles, what each object sets locally, and the styles that it uses
+  pub book : Book
   pub limits : Bounds
 
 abbrev pub handle_of : Object → ℕ
@@ -50,20 +57,34 @@ object_at scene h = object_by (is_at h) scene.trees
 abbrev pub row_at : Scene → ℕ → Option Row
 row_at scene h = option_map row_of (object_at scene h)
 
--- how many properties are set
-abbrev pub entries_of : Forest Object → ℕ
-entries_of Empty = 0
-entries_of (Tree object cs rest) = entry_count object.row + (entries_of cs + entries_of rest)
-
 -- how many slots of a pool are in use
 abbrev pub used : Scene → Pool → ℕ
 used scene Objects = size scene.trees
-used scene Entries = entries_of scene.trees
+used scene Styles = length scene.book.styles
+used scene Entries = entries_in scene.book
+used scene Uses = uses_in scene.book
 used scene pool = 0
 
 -- how many are free
 abbrev pub spare : Scene → Pool → ℕ
 spare scene pool = slots scene.limits pool - used scene pool
+
+-- what styles see of an object
+abbrev pub styled_of : Book → Object → Styled
+styled_of book object = record {
+  kind = object.row.kind;
+  states = object.row.states;
+  uses = uses_of book object.handle;
+  locals = locals_of book object.handle;
+}
+
+-- h and the objects above it, the nearest first
+abbrev pub path_at : Scene → ℕ → List Object
+path_at scene h = path_by (is_at h) [] scene.trees
+
+-- the value of a property of a part of h
+abbrev pub value : Scene → ℕ → Part → Prop → ℤ
+value scene h part prop = value_on scene.book.styles (map (styled_of scene.book) (path_at scene h)) part prop
 
 abbrev pub new_object : ℕ → Kind → Object
 new_object handle kind = record { handle = handle; row = new_row kind }
@@ -75,4 +96,4 @@ first_trees =
     (Tree (new_object 2 Layer) Empty (Tree (new_object 3 Screen) Empty Empty))
 
 abbrev pub first_scene : Bounds → Scene
-first_scene limits = record { trees = first_trees; active = 3; limits = limits }
+first_scene limits = record { trees = first_trees; active = 3; book = empty_book; limits = limits }

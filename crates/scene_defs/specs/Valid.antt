@@ -1,13 +1,14 @@
 -- Scenes and changes that are in order. Each fact about numbers and kinds is that a test is true.
 use Rattle.std.specs.Prelude.{◌≡◌, ◌≢◌, ◌≤◌, ℕ, Bool, true, false, not, ◌&&◌, ◌||◌, ◌==◌, if◌then◌else◌}
-use Rattle.std.specs.Prelude.{Some, None, ℤ}
+use Rattle.std.specs.Prelude.{Some, None, ℤ, [], length}
 use Rattle.std.specs.declared.option.Option.{Option}
 use Rattle.std.specs.List.{list_any}
 use Rattle.gui_base.specs.declared.intervals.TheConstants.{HANDLE, COORDINATE, MAX_DEPTH}
 use Rattle.gui_base.specs.declared.words.Kind.{Kind}
 use Rattle.gui_base.specs.declared.words.Kind.TheVariants.{Screen, Layer, Obj}
 use Rattle.gui_base.specs.declared.words.Length.{Length}
-use Rattle.gui_base.specs.declared.props.Prop.{Prop}
+use Rattle.style_defs.specs.Book.{entries_in, uses_in}
+use Rattle.style_defs.specs.InOrder.{IsBook, IsBare}
 use Rattle.gui_base.specs.Forest.{Forest, Empty, Tree, all_by, roots, size, height, StandsOnce}
 use Rattle.gui_base.specs.Intervals.{is_counted, is_within}
 use Rattle.gui_base.specs.Limits.{Bounds}
@@ -15,8 +16,8 @@ use Rattle.scene_defs.specs.declared.Change.{Change}
 use Rattle.scene_defs.specs.declared.Change.TheVariants as change
 use Rattle.scene_defs.specs.Change.{changed, is_screen_kind}
 use Rattle.scene_defs.specs.declared.Row.{Row}
-use Rattle.scene_defs.specs.Row.{is_root, is_row, is_size, is_value}
-use Rattle.scene_defs.specs.Scene.{Object, Scene, is_at, handles_of, entries_of, first_scene}
+use Rattle.scene_defs.specs.Row.{is_root, is_row, is_size}
+use Rattle.scene_defs.specs.Scene.{Object, Scene, is_at, handles_of, is_there, first_scene}
 use Rattle.scene_defs.specs.Walk.{IsShowable}
 
 -- a wanted coordinate in pixels
@@ -26,9 +27,6 @@ IsOffset n = is_within COORDINATE n ≡ true
 -- a wanted width or height
 abbrev pub IsSize : Length → Type 0
 IsSize length = is_size length ≡ true
-
-abbrev pub IsValue : Prop → ℤ → Type 0
-IsValue prop value = is_value prop value ≡ true
 
 abbrev pub IsRow : Row → Type 0
 IsRow row = is_row row ≡ true
@@ -79,12 +77,17 @@ pub record AreRows (trees : Forest Object) : Type 0 where
 -- no pool is over its count
 pub record FitPools (scene : Scene) : Type 0 where
   pub objects : size scene.trees ≤ scene.limits.objects
-  pub entries : entries_of scene.trees ≤ scene.limits.entries
+  pub styles : length scene.book.styles ≤ scene.limits.styles
+  pub entries : entries_in scene.book ≤ scene.limits.entries
+  pub uses : uses_in scene.book ≤ scene.limits.uses
 
 -- a scene that is in order
 pub record IsValid (scene : Scene) : Type 0 where
   pub trees : AreTrees scene.trees scene.active
   pub rows : AreRows scene.trees
+  pub book : IsBook scene.book
+  -- who is not there has nothing
+  pub bare : (h : ℕ) → is_there scene h ≡ false → IsBare scene.book h
   pub pools : FitPools scene
 
 -- a change that may be asked for: below a parent stand plain objects, and no screens or layers

@@ -4,6 +4,7 @@ ghost use Rattle.scene_defs.specs.Laws.{FullWithoutRoom, DoneWithRoom, RefusedWh
 ghost use Rattle.scene_defs.specs.Laws.{SetsRowAlone, SlotsAddUp};
 ghost use Rattle.scene_defs.specs.Placing.{RootsFillPanel, ChildrenInParents, PlacesNear};
 ghost use Rattle.scene_defs.specs.Valid.{FirstIsValid, ChangeKeepsValid, ValidIsShowable};
+ghost use Rattle.scene_defs.specs.Values.{ValuesInRange};
 ghost use Rattle.scene_defs.specs.Walk.{ShownByWalk, NothingBelowNothing, WalkedInside, ShownInside};
 
 /// A change leaves the limits.
@@ -21,7 +22,6 @@ pub fn refusals_change_nothing()
 
 /// A change is refused for a full pool where it needs more slots than are free. All other refusals come
 /// before, and do not look at the limits.
-#[tactic(auto, using(crate::proofs::Changes::fullness))]
 pub fn full_by_count()
     ensures without_room { FullWithoutRoom }
     ensures with_room { DoneWithRoom }
@@ -40,13 +40,18 @@ pub fn setters_set_one_row()
     ensures { SetsRowAlone }
 {}
 
-/// A root fills the panel, and any other object has the place that it wants in its parent's. No object stands
-/// far from the panel.
+/// A root fills the panel, and any other object has the place that it wants in its parent's
+/// content area. No object stands far from the panel.
 #[tactic(auto, using(crate::proofs::Places::laws))]
 pub fn places_follow_parents()
     ensures roots { RootsFillPanel }
     ensures children { ChildrenInParents }
     ensures near { PlacesNear }
+{}
+
+/// The value of a property lies in its interval.
+pub fn values_are_in_range()
+    ensures { ValuesInRange }
 {}
 
 /// One walk down the trees meets what is shown, in its order, and goes no further where nothing is seen.

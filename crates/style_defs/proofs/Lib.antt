@@ -1,4 +1,6 @@
+pub mod Changing
 pub mod Counting
+pub mod Empty
 pub mod Keeping
 pub mod Places
 pub mod Ranges

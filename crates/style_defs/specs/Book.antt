@@ -1,6 +1,7 @@
 -- The styles of a scene: the shared ones, what each object sets locally, and the styles that it uses.
 use Rattle.std.specs.Prelude.{ℕ, ◌+◌, ℤ, Bool, ◌&&◌, ◌==◌, nat_lt, if◌then◌else◌}
-use Rattle.std.specs.Prelude.{List, [], ◌∷◌, ◌++◌, map, fold, is_some, length, sum_by, slice_index_or, slice_set}
+use Rattle.std.specs.Prelude.{List, [], ◌∷◌, ◌++◌, map, fold, is_some, length, replicate, sum_by}
+use Rattle.std.specs.Prelude.{slice_index_or, slice_set}
 use Rattle.std.specs.declared.option.Option.{Option}
 use Rattle.gui_base.specs.declared.words.Part.{Part}
 use Rattle.gui_base.specs.declared.props.Prop.{Prop}
@@ -18,6 +19,14 @@ pub record Book : Type 0 where
   -- what is set locally, and the styles that are used, by handle
   pub locals : List (List Entry)
   pub uses : List (List Use)
+
+-- an empty list for each number of sixteen bits
+unfoldable pub no_lists : {A : Type 0} → List (List A)
+no_lists = replicate 65536 []
+
+-- no styles
+abbrev pub empty_book : Book
+empty_book = record { styles = []; locals = no_lists; uses = no_lists }
 
 -- what is set locally at an object
 abbrev pub locals_of : Book → ℕ → List Entry

@@ -4,7 +4,7 @@ use Rattle.std.specs.List.{All, list_all}
 use Rattle.gui_base.specs.Props.{is_value}
 use Rattle.style_defs.specs.declared.Entry.{Entry}
 use Rattle.style_defs.specs.declared.Setting.{Setting}
-use Rattle.style_defs.specs.Book.{Book}
+use Rattle.style_defs.specs.Book.{Book, locals_of, uses_of}
 use Rattle.style_defs.specs.Cascade.{Style}
 
 -- whether a style has a smaller number
@@ -33,3 +33,8 @@ pub record IsBook (book : Book) : Type 0 where
   pub locals : All (All IsEntry) book.locals
   pub local_places : length book.locals ≡ 65536
   pub use_places : length book.uses ≡ 65536
+
+-- an object sets nothing locally, and uses no style
+pub record IsBare (book : Book) (h : ℕ) : Type 0 where
+  pub locals : locals_of book h ≡ []
+  pub uses : uses_of book h ≡ []

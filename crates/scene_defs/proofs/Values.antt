@@ -1,0 +1,62 @@
+-- The values of the properties of a scene's objects lie in their intervals.
+use Rattle.std.proofs.Common.{◌≡◌, ◌≤◌, ◌+◌, ℕ, true, List, [], ◌∷◌, map, length, inl, inr, arith, ℤ}
+use Rattle.std.specs.List.{All}
+use Rattle.std.proofs.lemmas.Bool.{cases_lt}
+use Rattle.std.proofs.lemmas.Bool.Decides.{nat_tests}
+use Rattle.std.proofs.lemmas.Int.{ints}
+use Rattle.std.proofs.lemmas.List.{get_or_past}
+use Rattle.std.proofs.lemmas.List.Elements.{All-nil, All-cons, All-map, All-get_or}
+use Rattle.gui_base.specs.Area.{nat_of}
+use Rattle.gui_base.specs.Props.{is_value}
+use Rattle.gui_base.specs.declared.props.Prop.TheVariants.{BorderWidth, PadLeft, PadRight, PadTop, PadBottom}
+use Rattle.gui_base.specs.declared.words.Part.TheVariants.{Main}
+use Rattle.style_defs.specs.Book.{Book, locals_of}
+use Rattle.style_defs.specs.InOrder.{IsBook, IsEntry}
+use Rattle.style_defs.proofs.Ranges.{values_in_range as all_in_range}
+use Rattle.style_defs.specs.Value.{Styled}
+use Rattle.scene_defs.specs.Place.{Insets, insets}
+use Rattle.scene_defs.specs.Scene.{Object, Scene, styled_of, path_at, value}
+use Rattle.scene_defs.specs.Values.{ValuesInRange}
+use Rattle.scene_defs.specs.Valid.{IsValid}
+
+entries_fit : (book : Book) (h : ℕ) → IsBook book → All IsEntry (locals_of book h)
+entries_fit book h in_order = elim (cases_lt h (length book.locals)) [
+  | inl within ↦ All-get_or (All IsEntry) book.locals h [] within in_order.locals
+  | inr past ↦ rw (get_or_past book.locals h [] past) (All-nil IsEntry)
+]
+
+abbrev Fits : Styled → Type 0
+Fits styled = All IsEntry styled.locals
+
+objects_fit : (book : Book) (objects : List Object) → IsBook book → All Fits (map (styled_of book) objects)
+objects_fit book objects in_order = All-map Fits (styled_of book) objects (all_of objects) where
+  all_of : (objects : List Object) → All (λ (object : Object). Fits (styled_of book object)) objects
+  all_of [] = All-nil (λ (object : Object). Fits (styled_of book object))
+  all_of (object ∷ objects) = All-cons (λ (object : Object). Fits (styled_of book object)) object objects (entries_fit book object.handle in_order) (all_of objects)
+
+pub values_in_range : ValuesInRange
+values_in_range scene h part prop valid =
+    all_in_range scene.book.styles (map (styled_of scene.book) (path_at scene h)) part prop (record { settings = valid.book.settings; locals = objects_fit scene.book (path_at scene h) valid.book })
+
+-- a border and a pad are at most 1100 pixels together
+pub record AreSmall (i : Insets) : Type 0 where
+  pub left : i.left ≤ 1100
+  pub right : i.right ≤ 1100
+  pub top : i.top ≤ 1100
+  pub bottom : i.bottom ≤ 1100
+
+width_small : (n : ℤ) → is_value BorderWidth n ≡ true → nat_of n ≤ 100
+width_small n e = grind (arith, ints, nat_tests, e)
+
+pad_small : (n : ℤ) → is_value PadLeft n ≡ true → nat_of n ≤ 1000
+pad_small n e = grind (arith, ints, nat_tests, e)
+
+pub insets_small : (scene : Scene) (h : ℕ) → IsValid scene → AreSmall (insets scene h)
+insets_small scene h valid =
+    let width = width_small (value scene h Main BorderWidth) (values_in_range scene h Main BorderWidth valid) in
+    record {
+      left = omega (arith, width, pad_small (value scene h Main PadLeft) (values_in_range scene h Main PadLeft valid));
+      right = omega (arith, width, pad_small (value scene h Main PadRight) (values_in_range scene h Main PadRight valid));
+      top = omega (arith, width, pad_small (value scene h Main PadTop) (values_in_range scene h Main PadTop valid));
+      bottom = omega (arith, width, pad_small (value scene h Main PadBottom) (values_in_range scene h Main PadBottom valid));
+    }

@@ -1,11 +1,8 @@
 -- The names that several proofs of the crate use.
-pub use Rattle.std.proofs.Common.{rules, Ok, ◌≡◌, ◌<◌, ◌≤◌, ◌∙◌, sym, ap, subst, ℕ, zero, suc, ◌+◌, ◌-◌, Bool, true, false, length, slice_set, List, Option, Some, None, option_map, refl, arith, length-set, nat_lt, nat_eq, eqb-true, ◌++◌, [], ◌∷◌, cond, eqb, inl, inr, ◌⊎◌, unwrap_or, is_some, Err, slice_index_or, IsSome, SFits, w32, not, IfSome, Bor, true≢false}
+pub use Rattle.std.proofs.Common.{rules, Ok, ◌≡◌, ◌<◌, ◌≤◌, ◌∙◌, sym, ap, subst, ℕ, zero, suc, ◌+◌, ◌-◌, Bool, true, false, length, slice_set, List, Option, Some, None, option_map, refl, arith, length-set, nat_lt, nat_eq, eqb-true, ◌++◌, [], ◌∷◌, cond, eqb, inl, inr, ◌⊎◌, unwrap_or, is_some, Err, slice_index_or, IsSome, SFits, w32, not}
 pub use Rattle.std.proofs.lemmas.Bool.Decides.{nat_tests}
-pub use Rattle.std.proofs.lemmas.Int.{to_z-of_z}
 pub use Rattle.std.proofs.lemmas.List.{get_or-set_same, get_or-set_other, get_or_past, length-append}
-pub use Rattle.std.proofs.lemmas.List.Sums.{sum_by-cons, sum_by-append, sum_by-take-le}
 pub use Rattle.std.proofs.lemmas.Result.{err_from_is_err_and}
-pub use Rattle.std.specs.List.{sum_by}
 pub use Rattle.std.specs.Option.{option_copied}
 pub use Rattle.std.specs.Prelude.{if◌then◌else◌, OnOk, OnErr, IsErrAnd}
 pub use Rattle.gui_base.proofs.Forests.{map-and_then, map-size, map-cut_by, map-tree_by, map-parent_by, map-added_by, map-moved_by, map-moved_last_by, map-has_by, map-agree, map-set}
@@ -15,24 +12,28 @@ pub use Rattle.gui_base.specs.Limits.{Bounds}
 pub use Rattle.gui_base.specs.Refusing.{Test, first_of, result_of, root_tests, child_tests, removal_tests, move_tests, parent_tests}
 pub use Rattle.gui_base.specs.declared.Handle.{Handle}
 pub use Rattle.gui_base.specs.declared.intervals.TheConstants.{HANDLE, NEW_HANDLE}
-pub use Rattle.gui_base.specs.declared.limits.Pool.TheVariants.{Objects, Entries}
+pub use Rattle.gui_base.specs.declared.limits.Pool.TheVariants.{Objects, Styles as StyleSlots, Entries, Uses}
 pub use Rattle.gui_base.specs.declared.pools.TheConstants.{POOLS}
 pub use Rattle.gui_base.specs.declared.refusal.Refusal.{Refusal}
 pub use Rattle.gui_base.specs.declared.refusal.Refusal.TheVariants.{Full, Unknown, Kind as WrongKind}
 pub use Rattle.gui_pool.specs.Table.{Table, value_at, value_inserted, value_replaced, value_removed}
-pub use Rattle.gui_tree.specs.Handles.{numbers, as_handle}
+pub use Rattle.gui_tree.specs.Handles.{numbers}
 pub use Rattle.gui_tree.specs.Trees.{Answer, full_answer, Trees, opened, add_root_answer, add_answer, remove_answer, move_answer, set_parent_answer, with_root, with_child, at_index, below, moved_below, without as without_tree, without}
-pub use Rattle.scene_defs.proofs.Changes.{tests-fail, room_in_range, none_short, one_short, first-then, first-some, sets_row_alone, after_keeps}
-pub use Rattle.scene_defs.proofs.Totals.{total, total-cut, total-parts, total-object, one, one_at, entries_at, size-total, entries-total, count-total}
-pub use Rattle.scene_defs.proofs.Validity.{added_sum, removed_sum, first_is_valid, needs, set_slots, set_sums, set_only, after_leaves, after_valid}
-pub use Rattle.scene_defs.specs.Change.{is_screen_kind, answer_in_range, tests, first_short, scene_after, tree_below, parent_object, over_row, at_index_below, last_below, need_of, freed_by}
+pub use Rattle.scene_defs.proofs.Changes.{tests-fail, room_in_range, none_short, one_short, first-then, first-some, sets_row_alone}
+pub use Rattle.scene_defs.proofs.Totals.{total, total-cut, total-parts, one, one_at, size-total, count-total}
+pub use Rattle.scene_defs.proofs.Validity.{added_sum, removed_sum, first_is_valid, set_sums, after_leaves, after_valid, slots_add_up}
+pub use Rattle.scene_defs.specs.Change.{is_screen_kind, answer_in_range, answer_of, tests, first_short, below as all_below, scene_after, scene_by, tree_below, parent_object, over_row, at_index_below, last_below, need_of, freed_by}
 pub use Rattle.scene_defs.specs.Ranges.{is_in_range}
-pub use Rattle.scene_defs.specs.Row.{entry_count, new_row, value_of, row_after, row_set, Setter, setter_of}
-pub use Rattle.scene_defs.specs.Scene.{is_there, Object, Scene, is_at, handles_of, entries_of, new_object, first_scene, object_at, object_by, row_at}
+pub use Rattle.scene_defs.specs.Row.{new_row, row_after, row_set, setter_of}
+pub use Rattle.scene_defs.specs.Scene.{is_there, Object, Scene, is_at, handles_of, spare, new_object, first_scene, object_at, object_by, row_at}
 pub use Rattle.scene_defs.specs.Valid.{IsValid, IsChange, is_root_at, IsRow, in_intervals}
 pub use Rattle.scene_defs.specs.declared.Change.{Change}
 pub use Rattle.gui_store.specs.Parts.{Parts, scene_in, AreKept}
+pub use Rattle.gui_store.specs.Styling.{AreSlots, IsStyled, IsAnswered, full_for}
+pub use Rattle.gui_style.specs.Styles.{Styles}
+pub use Rattle.scene_defs.specs.Styling.{Styling, styling_of}
+pub use Rattle.style_defs.specs.Book.{Book, entries_in, uses_in}
 pub use Rattle.gui_store.specs.Removed.{removed_after}
-pub use Rattle.gui_store.specs.Rows.{row_in, object_in, entries_in, HaveRows, rows_without}
+pub use Rattle.gui_store.specs.Rows.{row_in, object_in, HaveRows, rows_without}
 pub use Rattle.gui_store.specs.Views.{parts_of, scene_of}
 pub use Rattle.scene_defs.specs.declared.Row.{Row}

@@ -1,5 +1,16 @@
 -- The parts of a store after each change that is done.
-use Rattle.gui_store.proofs.Common.{rules, Ok, ◌≡◌, ◌<◌, ◌≤◌, ◌∙◌, sym, ap, subst, ℕ, zero, suc, ◌+◌, ◌-◌, Bool, true, false, length, slice_set, List, Option, Some, None, option_map, refl, arith, length-set, nat_lt, nat_eq, eqb-true, ◌++◌, [], ◌∷◌, cond, eqb, sum_by, if◌then◌else◌, OnOk, OnErr, nat_tests, get_or-set_same, sum_by-cons, POOLS, Handle, Objects, Entries, Full, Forest, Empty, Tree, and_then, leaf, put_at, has, size, count, preorder, cut, cut_by, tree_at, parent_of, with_children_by, Bounds, Test, first_of, result_of, root_tests, child_tests, removal_tests, move_tests, parent_tests, map-and_then, map-size, map-cut_by, map-tree_by, map-parent_by, map-added_by, map-moved_by, map-moved_last_by, count-has, Table, value_at, value_inserted, value_replaced, numbers, Answer, full_answer, Trees, opened, add_root_answer, add_answer, remove_answer, move_answer, set_parent_answer, with_root, with_child, at_index, below, moved_below, without_tree, Change, is_in_range, is_there, Object, Scene, is_at, handles_of, entry_count, entries_of, new_row, new_object, first_scene, is_screen_kind, answer_in_range, tests, first_short, scene_after, tree_below, parent_object, at_index_below, last_below, row_after, over_row, row_set, need_of, freed_by, IsValid, IsChange, is_root_at, tests-fail, room_in_range, none_short, one_short, first-then, sets_row_alone, total, total-cut, total-parts, total-object, one, one_at, entries_at, size-total, entries-total, added_sum, removed_sum, first_is_valid, needs, set_slots, set_sums, set_only, Row, row_in, object_in, entries_in, HaveRows, rows_without, removed_after, Parts, scene_in, AreKept}
+use Rattle.gui_store.proofs.Common.{Ok, ◌≡◌, ◌<◌, ◌≤◌, ◌∙◌, sym, ap, subst, ℕ, zero, suc, ◌+◌, ◌-◌, Bool, true, false, length, slice_set, slice_index_or, List, Option, Some, None, is_some, option_map, refl, arith, length-set, nat_eq, eqb-true, ◌++◌, [], ◌∷◌, cond, eqb, if◌then◌else◌, OnOk, OnErr, nat_tests, get_or-set_same, POOLS, Handle, Objects, StyleSlots, Entries, Uses, Full, Refusal, Forest, Empty, Tree, and_then, leaf, put_at, has, size, count, preorder, cut, cut_by, tree_at, parent_of, with_children_by, Bounds, Test, first_of, result_of, root_tests, child_tests, removal_tests, move_tests, parent_tests, map-and_then, map-size, map-cut_by, map-tree_by, map-parent_by, map-added_by, map-moved_by, map-moved_last_by, count-has, Table, value_at, value_inserted, value_replaced, numbers, Answer, full_answer, Trees, opened, add_root_answer, add_answer, remove_answer, move_answer, set_parent_answer, with_root, with_child, at_index, below, moved_below, without_tree, Change, is_in_range, is_there, Object, Scene, is_at, handles_of, spare, new_row, new_object, first_scene, is_screen_kind, answer_in_range, tests, first_short, scene_after, tree_below, all_below, parent_object, at_index_below, last_below, row_after, over_row, row_set, setter_of, need_of, freed_by, IsValid, IsChange, is_root_at, tests-fail, room_in_range, none_short, first-then, sets_row_alone, total, total-cut, total-parts, one, one_at, size-total, added_sum, removed_sum, first_is_valid, set_sums, Row, row_in, object_in, HaveRows, rows_without, removed_after, Styles, Styling, styling_of, AreSlots, IsStyled, IsAnswered, full_for, Book, entries_in, uses_in, Parts, scene_in, AreKept}
+use Rattle.std.specs.Prelude.{replicate}
+use Rattle.std.proofs.lemmas.Result.{on_ok_weaker, on_err_weaker}
+use Rattle.gui_base.specs.declared.limits.Pool.{Pool}
+use Rattle.style_defs.specs.Book as book
+use Rattle.style_defs.specs.Book.{locals_of, uses_of, no_lists, empty_book}
+use Rattle.style_defs.proofs.Empty.{no_entries, no_uses}
+use Rattle.style_defs.proofs.Changing.{all_forgets}
+use Rattle.gui_style.specs.Styles.{all_forgotten}
+use Rattle.scene_defs.specs.Change.{book_without, object_tests, need_by, freed_by_styling}
+use Rattle.gui_store.specs.Styling.{named_by, IsRestyled}
+use Rattle.gui_store.proofs.Calls.{forgets}
 use Rattle.gui_base.specs.declared.refusal.Refusal.TheVariants as refusal
 use Rattle.gui_base.specs.declared.words.Kind.{Kind}
 use Rattle.gui_base.specs.declared.words.Kind.TheVariants.{Screen, Layer}
@@ -9,8 +20,21 @@ use Rattle.scene_defs.proofs.Handles.{has-handles}
 use Rattle.scene_defs.proofs.RowKinds.{root_there}
 use Rattle.scene_defs.proofs.Distinct.{distinct_once}
 use Rattle.gui_store.proofs.Rows.{row_count, times, times-preorder, length-preorder, value-set, inserted-count, replaced-count, have-rows, without-count, without-spare, without-handles}
-use Rattle.gui_store.proofs.Shown.{shown, shown-handles, shown-count, shown-aside, shown-set, shown-without, sum-preorder}
-use Rattle.gui_store.proofs.Kept.{read-on, read-off, Left, answered, done, there-is, size-is, object-is, read-at, within, vacant, counted, tree-answer, Fine}
+use Rattle.gui_store.proofs.Shown.{shown, shown-handles, shown-count, shown-aside, shown-set, shown-without}
+use Rattle.gui_store.proofs.Kept.{read-on, read-off, Left, answered, done, there-is, object-is, read-at, within, vacant, counted, tree-answer, Fine}
+
+-- where no slots are taken and none are freed
+stay : (s : Styles) (need freed : Pool → ℕ) → ((q : Pool) → (need q ≡ 0) × (freed q ≡ 0)) → AreSlots s s need freed
+stay s need freed none = record { styles = omega (arith, none StyleSlots); entries = omega (arith, none Entries); uses = omega (arith, none Uses) }
+
+-- The first test that holds of some and then others.
+first-before : (ts us : List Test) (later : Option Refusal) (why : Refusal) → first_of ts None ≡ Some why → first_of (ts ++ us) later ≡ Some why
+first-before [] us later why e = cc
+first-before (t ∷ ts) us later why e = grind (arith, e, first-before ts us later why)
+
+first-after : (ts us : List Test) (later : Option Refusal) → first_of ts None ≡ None → first_of (ts ++ us) later ≡ first_of us later
+first-after [] us later e = refl
+first-after (t ∷ ts) us later e = grind (arith, e, first-after ts us later)
 
 -- With an index past the last tree, it is put last.
 put_at-last : {A : Type 0} (n : ℕ) (t f : Forest A) → size f ≤ n → put_at n t f ≡ and_then f t
@@ -27,10 +51,6 @@ last-alike test n t Empty few = refl
 last-alike test n t (Tree row cs rest) few =
     let a = last-alike test n t cs (omega arith) in
     let b = last-alike test n t rest (omega arith) in rw (a, b, put_at-last n t cs (omega arith)) refl
-
-sum-numbers : (f : ℕ → ℕ) (hs : List Handle) → sum_by (λ (x : Handle). f x.0) hs ≡ sum_by f (numbers hs)
-sum-numbers f [] = refl
-sum-numbers f (h ∷ hs) = let a = sum_by-cons (λ (x : Handle). f x.0) h hs in let b = sum_by-cons f h.0 (numbers hs) in omega (arith, a, b, sum-numbers f hs)
 
 module _ (p : Parts) (k : AreKept p) where
   -- what each edit of the tree answers
@@ -73,10 +93,10 @@ module _ (p : Parts) (k : AreKept p) where
       record (scene_in p) { trees = shown rows g } ≡ scene_after (scene_in p) change) →
       ((w : Object → ℕ) → added_sum (scene_in p) change w ≡ w (new_object n kind) + removed_sum (scene_in p) change w) →
       need_of (scene_in p) change Objects ≡ freed_by (scene_in p) change Objects + 1 →
-      need_of (scene_in p) change Entries ≡ freed_by (scene_in p) change Entries →
+      AreSlots p.styles p.styles (need_of (scene_in p) change) (freed_by (scene_in p) change) →
       p.tree.removed ≡ removed_after p.tree.removed (scene_in p) change →
       Fine p change (record p { tree = record p.tree { forest = g; spare = p.tree.spare - 1 }; rows = value_inserted p.rows n row })
-  grown_by change n row kind g e fits is absent shows sums objects entries removed =
+  grown_by change n row kind g e fits is absent shows sums objects styles removed =
       let off = sym (there-is p n) ∙ absent in
       let within : n < length p.rows.values = omega (arith, fits, k.handles) in
       let new : object_in (value_inserted p.rows n row) n ≡ new_object n kind = grind (arith, is, get_or-set_same p.rows.values n (Some row) None within) in
@@ -85,8 +105,8 @@ module _ (p : Parts) (k : AreKept p) where
         handles = length-set p.rows.values n (Some row) ∙ k.handles;
         rows = λ h. omega (arith, sums (one_at h), inserted-count p.rows n h row within (vacant p k n off));
         room = omega (arith, k.room);
-        slots = omega (arith, objects, room_in_range (scene_in p) change Objects e, size-is p, k.objects);
-        entries = omega (arith, entries);
+        objects = omega (arith, objects, room_in_range (scene_in p) change Objects e, k.objects);
+        styles = styles;
         removed = removed;
       }
 
@@ -97,7 +117,7 @@ module _ (p : Parts) (k : AreKept p) where
       let t = tests-fail (tests (scene_in p) (change.Screen n)) (first_short (scene_in p) (change.Screen n) POOLS) e in
       let shows = λ (rows : Table Row). map-and_then (object_in rows) p.tree.forest (leaf n.0) in
       grown_by (change.Screen n) n.0 row Screen (with_root p.tree n.0).forest e fits is t.0
-      (λ rows same new. rw (shows rows, same, new) refl) (λ w. omega arith) refl refl refl
+      (λ rows same new. rw (shows rows, same, new) refl) (λ w. omega arith) refl (record { styles = refl; entries = refl; uses = refl }) refl
 
   pub fine-object : (n q : Handle) (kind : Kind) (row : Row) → n.0 < 10000 → row ≡ new_row kind →
       answer_in_range (scene_in p) (change.New n q kind) ≡ None →
@@ -106,22 +126,13 @@ module _ (p : Parts) (k : AreKept p) where
       let t = tests-fail (tests (scene_in p) (change.New n q kind)) (first_short (scene_in p) (change.New n q kind) POOLS) e in
       let shows = λ (rows : Table Row). map-added_by (object_in rows) (is_at q.0) (is_at q.0) n.0 p.tree.forest in
       grown_by (change.New n q kind) n.0 row kind (with_child p.tree q.0 n.0).forest e fits is t.1.0
-      (λ rows same new. rw (shows rows, same, new) refl) (λ w. omega arith) refl refl refl
+      (λ rows same new. rw (shows rows, same, new) refl) (λ w. omega arith) refl (record { styles = refl; entries = refl; uses = refl }) refl
 
   tree-is : (h : ℕ) → shown p.rows (tree_at p.tree.forest h) ≡ tree_below (scene_in p) h
   tree-is h = map-tree_by (object_in p.rows) (is_at h) p.tree.forest
 
-  -- the entries of what is removed
-  pub freed-few : (h : ℕ) → entries_of (tree_below (scene_in p) h) ≤ p.entries
-  freed-few h =
-      let a = total-parts entries_at (scene_in p).trees h (distinct_once (scene_in p).trees k.valid.trees.once) in
-      omega (arith, a, k.entries, entries-total (scene_in p).trees, entries-total (tree_below (scene_in p) h))
-
   -- The handles that a removal lists.
   module _ (hs : List Handle) (h : Handle) (listed : numbers hs ≡ preorder (tree_at p.tree.forest h.0)) where
-    pub listed-sum : sum_by (λ (x : Handle). entries_in p.rows x.0) hs ≡ entries_of (tree_below (scene_in p) h.0)
-    listed-sum = rw (sum-numbers (entries_in p.rows) hs, listed, sum-preorder p.rows (tree_at p.tree.forest h.0), tree-is h.0) refl
-
     listed-times : (j : ℕ) → times (numbers hs) j ≡ total (one_at j) (tree_below (scene_in p) h.0)
     listed-times j = rw (listed, times-preorder (tree_at p.tree.forest h.0) j, ← tree-is h.0) (shown-count p.rows (tree_at p.tree.forest h.0) j)
 
@@ -139,16 +150,28 @@ module _ (p : Parts) (k : AreKept p) where
     aside : (j : ℕ) → has (cut p.tree.forest h.0) j ≡ true → times (numbers hs) j ≡ 0
     aside j on = grind (arith, nat_tests, parts j, count-has (cut p.tree.forest h.0) j on)
 
-    pub fine-delete : (n : ℕ) → n ≡ entries_of (tree_below (scene_in p) h.0) → Fine p (change.Delete h) (record p { tree = without_tree p.tree h.0; rows = rows_without p.rows hs; entries = p.entries - n })
-    fine-delete n is = record {
-      shows = with_trees (shown-without p.rows (cut p.tree.forest h.0) hs aside ∙ map-cut_by (object_in p.rows) (is_at h.0) p.tree.forest);
-      handles = without-handles p.rows hs ∙ k.handles;
-      rows = λ j. omega (arith, without-count p.rows hs j listed-rows, listed-times j);
-      room = let a = ap (λ (xs : List ℕ). length xs) listed in omega (arith, without-spare p.rows hs, a, length-preorder (tree_at p.tree.forest h.0), k.room);
-      slots = let a = map-size (object_in p.rows) (tree_at p.tree.forest h.0) in let b = ap size (tree-is h.0) in omega arith;
-      entries = let a = freed-few h.0 in omega (arith, is);
-      removed = ap preorder (sym (ap handles_of (sym (tree-is h.0)) ∙ shown-handles p.rows (tree_at p.tree.forest h.0)));
-    }
+    -- they are those below h
+    listed-below : numbers hs ≡ all_below (scene_in p) h.0
+    listed-below = listed ∙ ap preorder (sym (ap handles_of (sym (tree-is h.0)) ∙ shown-handles p.rows (tree_at p.tree.forest h.0)))
+
+    pub fine-delete : Fine p (change.Delete h) (record p { tree = without_tree p.tree h.0; rows = rows_without p.rows hs; styles = all_forgotten p.styles hs })
+    fine-delete =
+        let f = forgets hs p.styles in
+        let left : (all_forgotten p.styles hs).book ≡ book_without (scene_in p) h.0 = f.book ∙ ap (book.all_forgotten p.styles.book) listed-below in
+        let fewer = all_forgets (all_below (scene_in p) h.0) p.styles.book in
+        let trees = shown-without p.rows (cut p.tree.forest h.0) hs aside ∙ map-cut_by (object_in p.rows) (is_at h.0) p.tree.forest in record {
+          shows = λ i. record (scene_in p) { trees = trees i; book = left i };
+          handles = without-handles p.rows hs ∙ k.handles;
+          rows = λ j. omega (arith, without-count p.rows hs j listed-rows, listed-times j);
+          room = let a = ap (λ (xs : List ℕ). length xs) listed in omega (arith, without-spare p.rows hs, a, length-preorder (tree_at p.tree.forest h.0), k.room);
+          objects = let a = map-size (object_in p.rows) (tree_at p.tree.forest h.0) in let b = ap size (tree-is h.0) in omega arith;
+          styles = record {
+            styles = omega (arith, f.styles);
+            entries = omega (arith, f.entries, ap entries_in left, fewer.entries_left);
+            uses = omega (arith, f.uses, ap uses_in left, fewer.uses_left);
+          };
+          removed = sym listed ∙ listed-below;
+        }
 
   -- a tree that goes to an index below the same parent
   index-shows : (h n : ℕ) → shown p.rows (moved_below (parent_of p.tree.forest h) p.tree.forest h n) ≡ at_index_below (parent_object (scene_in p) h) (scene_in p).trees h n
@@ -166,18 +189,27 @@ module _ (p : Parts) (k : AreKept p) where
       last-alike (is_at q.handle) n (tree_below (scene_in p) h) bare (omega (arith, few, a, size-total bare, size-total (scene_in p).trees, k.valid.pools.objects))
 
   -- A change that moves a tree, as a call of the tree does.
-  module _ (change : Change) (fits : is_in_range change ≡ true) (plain : IsChange change) (set : row_set change ≡ None)
+  module _ (change : Change) (fits : is_in_range change ≡ true) (plain : IsChange change) (set : styling_of p.styles.book change ≡ None)
       (sums : (w : Object → ℕ) → removed_sum (scene_in p) change w ≡ added_sum (scene_in p) change w)
-      (objects : need_of (scene_in p) change Objects ≡ 0) (freed : freed_by (scene_in p) change Objects ≡ 0)
-      (entries : need_of (scene_in p) change Entries ≡ freed_by (scene_in p) change Entries)
+      (none : (q : Pool) → (need_of (scene_in p) change q ≡ 0) × (freed_by (scene_in p) change q ≡ 0))
       (removed : p.tree.removed ≡ removed_after p.tree.removed (scene_in p) change) (t : Trees) (r : Answer) (err : OnErr r (t ≡ p.tree)) where
     moved : (ts : Forest ℕ → List Test) (g : Forest ℕ) → tests (scene_in p) change ≡ ts (handles_of (scene_in p).trees) →
         record (scene_in p) { trees = shown p.rows g } ≡ scene_after (scene_in p) change → r ≡ result_of (first_of (ts p.tree.forest) None) →
         OnOk r (t ≡ record p.tree { forest = g }) → Left p change (record p { tree = t }) r
     moved ts g e shows a ok =
-        let rows = λ (h : ℕ). sums (one_at h) in
-        let same = tree-answer p k change ts None set e (grind (arith, nat_tests, objects)) ∙ sym a in
-        answered p k change fits plain (answer_in_range (scene_in p) change) refl t (record p.tree { forest = g }) r same ok err (search (rules, k))
+        let same = tree-answer p k change ts None set e (grind (arith, nat_tests, (none Objects).0)) ∙ sym a in
+        let fine : Fine p change (record p { tree = record p.tree { forest = g } }) = record {
+          shows = shows;
+          handles = k.handles;
+          rows = λ h. omega (arith, sums (one_at h));
+          room = k.room;
+          objects = omega (arith, none Objects);
+          styles = stay p.styles _ _ none;
+          removed = removed;
+        } in
+        answered p k change fits plain (record p { tree = t }) r same
+        (on_ok_weaker r (λ is. λ done. subst (λ (u : Trees). Fine p change (record p { tree = u })) (sym is) fine) ok)
+        (on_err_weaker r (λ is. ap (λ (u : Trees). record p { tree = u }) is) err)
 
     pub moved_beside : (h n : ℕ) → tests (scene_in p) change ≡ move_tests (handles_of (scene_in p).trees) h →
         record (scene_in p) { trees = at_index_below (parent_object (scene_in p) h) (scene_in p).trees h n } ≡ scene_after (scene_in p) change →
@@ -188,7 +220,7 @@ module _ (p : Parts) (k : AreKept p) where
       r ≡ set_parent_answer p.tree h.0 q.0 → OnOk r (t ≡ below p.tree h.0 q.0) → Left p (change.Parent h q) (record p { tree = t }) r
   moved_below_other h q fits t r err =
       let shows = map-moved_last_by (object_in p.rows) (is_at h.0) (is_at q.0) p.tree.forest in
-      moved (change.Parent h q) fits tt refl (λ w. refl) refl refl refl refl t r err
+      moved (change.Parent h q) fits tt refl (λ w. refl) (λ q. (refl, refl)) refl t r err
       (λ f. parent_tests f h.0 q.0) (below p.tree h.0 q.0).forest refl (with_trees shows)
 
   pub last-after : (h : Handle) (n : ℕ) → p.limits.objects ≤ n →
@@ -196,7 +228,7 @@ module _ (p : Parts) (k : AreKept p) where
   last-after h n few = with_trees (last-shows h.0 n few (parent_object (scene_in p) h.0))
 
   pub fine-load : (h : Handle) → Fine p (change.Load h) (record p { active = h.0 })
-  fine-load h = record { shows = refl; handles = k.handles; rows = λ j. omega arith; room = k.room; slots = refl; entries = omega arith; removed = refl }
+  fine-load h = record { shows = refl; handles = k.handles; rows = λ j. omega arith; room = k.room; objects = refl; styles = (record { styles = refl; entries = refl; uses = refl }); removed = refl }
 
   -- what is not there is unknown
   pub row-absent : (change : Change) (h : Handle) → row_set change ≡ Some h → is_there (scene_in p) h.0 ≡ false →
@@ -204,57 +236,115 @@ module _ (p : Parts) (k : AreKept p) where
   row-absent (change.Pos a x y) h set off = grind (arith, set, off)
   row-absent change h set off = grind (arith, set, off)
 
-  -- Another row at h, and so many entries. Such a change is refused by its tests, or where the entries are too few.
-  pub record RowSet (change : Change) (h : Handle) (row : Row) (n : ℕ) : Type 0 where
-    set : row_set change ≡ Some h
-    passed : first_of (tests (scene_in p) change) None ≡ None
-    on : has p.tree.forest h.0 ≡ true
-    is : row ≡ row_after change (row_in p.rows h.0)
-    count : n + entries_in p.rows h.0 ≡ p.entries + entry_count row
+  -- a change of one row takes and frees no slots
+  none-set : (change : Change) (h : Handle) → row_set change ≡ Some h → (q : Pool) → (need_of (scene_in p) change q ≡ 0) × (freed_by (scene_in p) change q ≡ 0)
+  none-set (change.Screen n) h set q = (cc, cc)
+  none-set change h set q = (cc, cc)
 
-  -- the entries of a row that is read
-  pub row-entries : (h : Handle) (row : Row) (n : ℕ) → Some row ≡ value_at p.rows h.0 → n ≡ entry_count row → (n ≡ entries_in p.rows h.0) × (n ≤ p.entries)
-  row-entries h row n read count =
-      let is : n ≡ entries_in p.rows h.0 = count ∙ ap entry_count (read-at p k h.0 row read) in
-      let few = total-object entries_at (scene_in p).trees h.0 (object_in p.rows h.0) (object-is p h.0 (read-on p k h.0 row read)) in
-      (is, omega (arith, is, few, entries-total (scene_in p).trees, k.entries))
+  -- Another row at h, which no test refuses.
+  module _ (change : Change) (h : Handle) (row : Row) (fits : is_in_range change ≡ true) (plain : IsChange change) (set : row_set change ≡ Some h)
+      (passed : first_of (tests (scene_in p) change) None ≡ None) (on : has p.tree.forest h.0 ≡ true) (is : row ≡ row_after change (row_in p.rows h.0)) where
+    row-answer : answer_in_range (scene_in p) change ≡ None
+    row-answer =
+        first-then (tests (scene_in p) change) (option_map Full (first_short (scene_in p) change POOLS)) passed
+        ∙ ap (option_map Full) (none_short (scene_in p) change POOLS (λ q. (none-set change h set q).0))
 
-  pub row-set : (change : Change) (h : Handle) (old new : Row) (a b : ℕ) → row_set change ≡ Some h → first_of (tests (scene_in p) change) None ≡ None → Some old ≡ value_at p.rows h.0 → new ≡ row_after change old → a ≡ entry_count old → b ≡ entry_count new → RowSet change h new (p.entries - a + b)
-  row-set change h old new a b set passed read is before after =
-      let on = read-on p k h.0 old read in
-      let was = row-entries h old a read before in
-      record { set = set; passed = passed; on = on; is = is ∙ ap (row_after change) (read-at p k h.0 old read); count = omega (arith, was.0, was.1, after) }
+    pub row-done : (rows : Table Row) → rows ≡ value_replaced p.rows h.0 row → Left p change (record p { rows = rows }) (Ok tt)
+    row-done rows written = rw written (done p k change fits plain (record p { rows = value_replaced p.rows h.0 row }) row-answer (record {
+      shows = with_trees (shown-set p.rows p.tree.forest h.0 row (over_row (row_after change)) (within p k h.0 on) (rw is refl)) ∙ sym (sets_row_alone (scene_in p) change h set);
+      handles = length-set p.rows.values h.0 (Some row) ∙ k.handles;
+      rows = λ j. omega (arith, replaced-count p.rows h.0 j row (k.rows h.0 ∙ on), set_sums (scene_in p) change h (one_at j) set);
+      room = k.room;
+      objects = omega (arith, none-set change h set Objects);
+      styles = stay p.styles _ _ (none-set change h set);
+      removed = grind (arith, set);
+    }))
 
-  module _ (change : Change) (h : Handle) (row : Row) (n : ℕ) (r : RowSet change h row n) where
-    pub fine-row : Fine p change (record p { rows = value_replaced p.rows h.0 row; entries = n })
-    fine-row =
-        let shows = with_trees (shown-set p.rows p.tree.forest h.0 row (over_row (row_after change)) (within p k h.0 r.on) (rw r.is refl)) ∙ sym (sets_row_alone (scene_in p) change h r.set) in
-        let handles = length-set p.rows.values h.0 (Some row) ∙ k.handles in
-        let rows = λ (j : ℕ). replaced-count p.rows h.0 j row (k.rows h.0 ∙ r.on) in
-        let sums = λ (j : ℕ). set_sums (scene_in p) change h (one_at j) r.set in
-        let slots = set_slots (scene_in p) change h r.set in
-        let need = needs (scene_in p) change h (object_in p.rows h.0) r.set (object-is p h.0 r.on) in
-        let removed : p.tree.removed ≡ removed_after p.tree.removed (scene_in p) change = grind (arith, r.set) in
-        search (rules, k, r.count, ap entry_count r.is)
+  -- A change of styles adds and removes no object, and takes slots of styles alone.
+  record IsQuiet (change : Change) (styling : Styling) : Type 0 where
+    setter : setter_of change ≡ None
+    sums : (w : Object → ℕ) → (added_sum (scene_in p) change w ≡ 0) × (removed_sum (scene_in p) change w ≡ 0)
+    objects : (need_of (scene_in p) change Objects ≡ 0) × (freed_by (scene_in p) change Objects ≡ 0)
+    full : option_map Full (first_short (scene_in p) change POOLS) ≡ full_for p.styles styling.need
+    removed : p.tree.removed ≡ removed_after p.tree.removed (scene_in p) change
 
-    pub row-answer : (b : Bool) → nat_lt p.limits.entries n ≡ b → answer_in_range (scene_in p) change ≡ (if b then Some (Full Entries) else None)
-    row-answer b over =
-        let a = needs (scene_in p) change h (object_in p.rows h.0) r.set (object-is p h.0 r.on) in
-        let short = one_short (scene_in p) change Entries (set_only (scene_in p) change h r.set) in
-        first-then (tests (scene_in p) change) (option_map Full (first_short (scene_in p) change POOLS)) r.passed
-        ∙ grind (arith, nat_tests, over, short, a, ap entry_count r.is, r.count, k.entries, k.valid.pools.entries)
+  quiet : (change : Change) (styling : Styling) → styling_of p.styles.book change ≡ Some styling → IsQuiet change styling
+  quiet (change.Screen n) styling e = absurd (cc)
+  quiet change styling e = record {
+    setter = cc;
+    sums = λ w. (cc, cc);
+    objects = (cc, cc);
+    full = grind (arith, nat_tests, e, k.styles, k.entries, k.uses);
+    removed = cc;
+  }
 
-    pub row-done : is_in_range change ≡ true → IsChange change → nat_lt p.limits.entries n ≡ false → (rows : Table Row) →
-        rows ≡ value_replaced p.rows h.0 row → Left p change (record p { rows = rows; entries = n }) (Ok tt)
-    row-done fits plain under rows is = rw is (done p k change fits plain _ (row-answer false under) fine-row)
+  module _ (change : Change) (styling : Styling) (is : styling_of p.styles.book change ≡ Some styling) where
+    -- where the object that it names is not there
+    styled-absent : first_of (object_tests (handles_of (scene_in p).trees) styling.object) None ≡ Some refusal.Unknown → answer_in_range (scene_in p) change ≡ Some refusal.Unknown
+    styled-absent absent = let s = quiet change styling is in rw (s.setter, is) (first-before (object_tests (handles_of (scene_in p).trees) styling.object) styling.tests _ refusal.Unknown absent)
+
+    -- where it is there, if one is named
+    styled : (t : Styles) (r : Answer) → is_in_range change ≡ true → IsChange change → first_of (object_tests (handles_of (scene_in p).trees) styling.object) None ≡ None → IsAnswered p.styles t styling r → Left p change (record p { styles = t }) r
+    styled t r fits plain there a =
+        let s = quiet change styling is in
+        let answer : answer_in_range (scene_in p) change ≡ first_of styling.tests (full_for p.styles styling.need) =
+        rw (s.full, s.setter, is) (first-after (object_tests (handles_of (scene_in p).trees) styling.object) styling.tests _ there) in
+        let fine : IsStyled p.styles t styling → answer_in_range (scene_in p) change ≡ None → Fine p change (record p { styles = t }) = λ done none. record {
+          shows = rw (s.setter, is) (ap (λ (b : Book). record (scene_in p) { book = b }) done.book);
+          handles = k.handles;
+          rows = λ h. omega (arith, s.sums (one_at h));
+          room = k.room;
+          objects = omega (arith, s.objects);
+          styles = subst (λ (o : Option Styling). AreSlots p.styles t (need_by o change) (freed_by_styling o (scene_in p) change)) (sym is) done.slots;
+          removed = s.removed;
+        } in
+        answered p k change fits plain (record p { styles = t }) r (ap result_of answer ∙ sym a.answer_is) (on_ok_weaker r fine a.done) (on_err_weaker r (λ same. ap (λ (x : Styles). record p { styles = x }) same) a.refused)
+
+  -- whether the object that is named is unknown
+  abbrev pub named_test : Option Styling → Option Refusal
+  named_test o = first_of (object_tests (handles_of (scene_in p).trees) (named_by o)) None
+
+  -- A change of styles, as a call of them does it.
+  module _ (change : Change) (some : is_some (styling_of p.styles.book change) ≡ true) where
+    pub unnamed : named_test (styling_of p.styles.book change) ≡ Some refusal.Unknown → answer_in_range (scene_in p) change ≡ Some refusal.Unknown
+    unnamed absent = by (styling_of p.styles.book change) refl some absent where
+      by : (o : Option Styling) → styling_of p.styles.book change ≡ o → is_some o ≡ true → named_test o ≡ Some refusal.Unknown → answer_in_range (scene_in p) change ≡ Some refusal.Unknown
+      by None e some absent = cc
+      by (Some styling) e some absent = styled-absent change styling e absent
+
+    pub restyled : (t : Styles) (r : Answer) → is_in_range change ≡ true → IsChange change → named_test (styling_of p.styles.book change) ≡ None → IsRestyled p.styles t (styling_of p.styles.book change) r → Left p change (record p { styles = t }) r
+    restyled t r fits plain there a = by (styling_of p.styles.book change) refl some there a where
+      by : (o : Option Styling) → styling_of p.styles.book change ≡ o → is_some o ≡ true → named_test o ≡ None → IsRestyled p.styles t o r → Left p change (record p { styles = t }) r
+      by None e some there a = cc
+      by (Some styling) e some there a = styled change styling e t r fits plain there a
+
+-- A book with a place for each number, in which nothing is set, is the empty one.
+no-lists : {A : Type 0} (lists : List (List A)) → length lists ≡ 65536 → ((h : ℕ) → slice_index_or lists h [] ≡ []) → lists ≡ no_lists
+unfolding no_lists
+no-lists {A} lists long empty = by 65536 lists long empty where
+  by : (n : ℕ) (lists : List (List A)) → length lists ≡ n → ((h : ℕ) → slice_index_or lists h [] ≡ []) → lists ≡ replicate n []
+  by zero [] long empty = refl
+  by zero (xs ∷ lists) long empty = absurd (omega (arith, long))
+  by (suc n) [] long empty = absurd (omega (arith, long))
+  by (suc n) (xs ∷ lists) long empty = let none : xs ≡ [] = empty 0 in rw (none, by n lists (omega (arith, long)) (λ h. empty (suc h))) refl
+
+pub record AreNew (s : Styles) (limits : Bounds) : Type 0 where
+  pub no_styles : s.book.styles ≡ []
+  pub no_locals : (h : ℕ) → locals_of s.book h ≡ []
+  pub no_uses : (h : ℕ) → uses_of s.book h ≡ []
+  pub spare_styles : s.spare_styles ≡ limits.styles
+  pub spare_entries : s.spare_entries ≡ limits.entries
+  pub spare_uses : s.spare_uses ≡ limits.uses
+  pub locals : length s.book.locals ≡ 65536
+  pub uses : length s.book.uses ≡ 65536
 
 -- The first rows.
-module _ (tree : Trees) (limits : Bounds) (room : 3 ≤ limits.objects) (new : tree ≡ opened limits.objects) (t : Table Row) (keys : length t.values ≡ 10000) (empty : (h : ℕ) → value_at t h ≡ None) (spare : t.spare ≡ limits.objects) (a b c : Row) (top : a ≡ new_row Layer) (system : b ≡ new_row Layer) (screen : c ≡ new_row Screen) where
+module _ (tree : Trees) (limits : Bounds) (room : 3 ≤ limits.objects) (new : tree ≡ opened limits.objects) (t : Table Row) (keys : length t.values ≡ 10000) (empty : (h : ℕ) → value_at t h ≡ None) (free : t.spare ≡ limits.objects) (a b c : Row) (top : a ≡ new_row Layer) (system : b ≡ new_row Layer) (screen : c ≡ new_row Screen) (styles : Styles) (bare : AreNew styles limits) where
   abbrev first_rows : Table Row
   first_rows = value_inserted (value_inserted (value_inserted t 1 a) 2 b) 3 c
 
   abbrev first_parts : Parts
-  first_parts = record { tree = tree; rows = first_rows; active = 3; limits = limits; entries = 0 }
+  first_parts = record { tree = tree; rows = first_rows; styles = styles; active = 3; limits = limits }
 
   first-value : (h : ℕ) → value_at first_rows h ≡ cond (eqb 3 h) (Some c) (cond (eqb 2 h) (Some b) (cond (eqb 1 h) (Some a) None))
   first-value h =
@@ -264,8 +354,14 @@ module _ (tree : Trees) (limits : Bounds) (room : 3 ≤ limits.objects) (new : t
       let second = value-set (slice_set t.values 1 (Some a)) 2 h (Some b) (omega (arith, keys, one)) in
       let first = value-set t.values 1 h (Some a) (omega (arith, keys)) in rw (third, second, first, empty h) refl
 
+  first-book : styles.book ≡ empty_book
+  first-book = λ i. record { styles = bare.no_styles i; locals = no-lists styles.book.locals bare.locals bare.no_locals i; uses = no-lists styles.book.uses bare.uses bare.no_uses i }
+
   first-shows : scene_in first_parts ≡ first_scene limits
-  first-shows = rw (new, first-value 1, first-value 2, first-value 3, top, system, screen) refl
+  first-shows = rw (new, first-value 1, first-value 2, first-value 3, top, system, screen, first-book) refl
+
+  first-spare : (pool : Pool) → spare (scene_in first_parts) pool ≡ spare (first_scene limits) pool
+  first-spare pool = ap (λ (s : Scene). spare s pool) first-shows
 
   pub first-kept : AreKept first_parts × (scene_in first_parts ≡ first_scene limits)
   first-kept = (
@@ -273,9 +369,11 @@ module _ (tree : Trees) (limits : Bounds) (room : 3 ≤ limits.objects) (new : t
       valid = subst (λ (s : Scene). IsValid s) (sym first-shows) (first_is_valid limits room);
       handles = simp length-set keys;
       rows = λ h. rw (new, first-value h) (grind (arith, nat_tests));
-      room = let e = ap (λ (x : Trees). x.spare) new in omega (arith, e, spare);
-      objects = let e : size tree.forest + tree.spare ≡ 3 + (limits.objects - 3) = ap (λ (t : Trees). size t.forest + t.spare) new in omega arith;
-      entries = sym (ap (λ (s : Scene). entries_of s.trees) first-shows);
+      room = let e = ap (λ (x : Trees). x.spare) new in omega (arith, e, free);
+      objects = ap (λ (t : Trees). t.spare) new ∙ sym (first-spare Objects);
+      styles = omega (arith, first-spare StyleSlots, bare.spare_styles);
+      entries = omega (arith, first-spare Entries, bare.spare_entries, no_entries);
+      uses = omega (arith, first-spare Uses, bare.spare_uses, no_uses);
     },
     first-shows,
   )

@@ -1,5 +1,5 @@
 -- What the parts of a store answer, and that a change keeps them in order.
-use Rattle.gui_store.proofs.Common.{rules, nat_lt, inl, inr, ◌≡◌, ◌<◌, ◌⊎◌, ◌∙◌, sym, ap, subst, ℕ, ◌+◌, true, false, length, Option, unwrap_or, Some, None, is_some, option_map, Ok, Err, List, refl, arith, if◌then◌else◌, OnOk, OnErr, IsErrAnd, err_from_is_err_and, nat_tests, POOLS, HANDLE, Objects, Entries, Refusal, Full, Forest, has, size, count, Bounds, Test, first_of, result_of, map-size, Table, value_at, Trees, Answer, Change, is_in_range, Scene, is_there, handles_of, object_at, row_at, entries_of, row_set, answer_in_range, scene_after, tests, first_short, need_of, freed_by, IsValid, IsChange, IsRow, in_intervals, after_keeps, one_short, one_at, added_sum, removed_sum, after_leaves, after_valid, Row, Parts, scene_in, AreKept, removed_after, new_row, row_in, object_in}
+use Rattle.gui_store.proofs.Common.{nat_lt, inl, inr, ◌≡◌, ◌<◌, ◌⊎◌, ◌∙◌, sym, ap, subst, ℕ, ◌+◌, true, false, length, Option, unwrap_or, Some, None, is_some, option_map, Ok, Err, List, refl, arith, if◌then◌else◌, OnOk, OnErr, IsErrAnd, err_from_is_err_and, nat_tests, POOLS, HANDLE, Objects, StyleSlots, Entries, Uses, Refusal, Full, Forest, has, count, Test, first_of, result_of, Table, value_at, Trees, Answer, Change, is_in_range, Scene, is_there, handles_of, object_at, row_at, spare, answer_in_range, answer_of, scene_after, scene_by, tests, first_short, need_of, freed_by, IsValid, IsChange, IsRow, in_intervals, one_short, one_at, added_sum, removed_sum, after_leaves, after_valid, slots_add_up, Row, Styles, AreSlots, styling_of, Parts, scene_in, AreKept, removed_after, new_row, row_in, object_in}
 use Rattle.std.proofs.lemmas.Bool.{and_parts}
 use Rattle.gui_base.specs.declared.limits.Pool.{Pool}
 use Rattle.gui_base.specs.Intervals.{is_counted}
@@ -16,9 +16,6 @@ module _ (p : Parts) where
 
   pub there-is : (h : ℕ) → is_there (scene_in p) h ≡ has p.tree.forest h
   there-is h = ap (λ (f : Forest ℕ). has f h) forest-is
-
-  pub size-is : size (scene_in p).trees ≡ size p.tree.forest
-  size-is = map-size (object_in p.rows) p.tree.forest
 
   pub object-is : (h : ℕ) → has p.tree.forest h ≡ true → object_at (scene_in p) h ≡ Some (object_in p.rows h)
   object-is h on = shown-object p.rows p.tree.forest h ∙ rw on refl
@@ -54,18 +51,18 @@ module _ (p : Parts) (k : AreKept p) where
   counted h = let once = ap (λ (f : Forest ℕ). count f h) (forest-is p) in told-count p.tree.forest h (value_at p.rows h) (omega (arith, once, k.valid.trees.once h)) (k.rows h)
 
   -- An edit of the tree takes slots of objects alone, and answers what the tree does.
-  only_objects : (change : Change) → row_set change ≡ None → (q : Pool) → (q ≡ Objects) ⊎ (need_of (scene_in p) change q ≡ 0)
+  only_objects : (change : Change) → styling_of p.styles.book change ≡ None → (q : Pool) → (q ≡ Objects) ⊎ (need_of (scene_in p) change q ≡ 0)
   only_objects change none Objects = inl refl
-  only_objects (change.Local h part prop value) none q = cc
-  only_objects change none q = inr refl
+  only_objects (change.Local h selector prop value) none q = cc
+  only_objects change none q = inr (cc)
 
-  pub tree-answer : (change : Change) (ts : Forest ℕ → List Test) (later : Option Refusal) → row_set change ≡ None →
+  pub tree-answer : (change : Change) (ts : Forest ℕ → List Test) (later : Option Refusal) → styling_of p.styles.book change ≡ None →
       tests (scene_in p) change ≡ ts (handles_of (scene_in p).trees) →
       later ≡ (if nat_lt p.tree.spare (need_of (scene_in p) change Objects) then Some (Full Objects) else None) →
       result_of (answer_in_range (scene_in p) change) ≡ result_of (first_of (ts p.tree.forest) later)
   tree-answer change ts later none e is =
       let same : option_map Full (first_short (scene_in p) change POOLS) ≡ later =
-      grind (arith, nat_tests, one_short (scene_in p) change Objects (only_objects change none), is, size-is p, k.objects) in
+      grind (arith, nat_tests, one_short (scene_in p) change Objects (only_objects change none), is, k.objects) in
       rw (e, forest-is p, same) refl
 
 pub err-some : (o : Option Refusal) (x : Refusal) → result_of o ≡ Err x → o ≡ Some x
@@ -81,8 +78,8 @@ pub record Fine (p : Parts) (change : Change) (q : Parts) : Type 0 where
   pub handles : length q.rows.values ≡ HANDLE.high + 1
   pub rows : (h : ℕ) → row_count q.rows h + removed_sum (scene_in p) change (one_at h) ≡ added_sum (scene_in p) change (one_at h) + row_count p.rows h
   pub room : q.rows.spare ≡ q.tree.spare
-  pub slots : q.tree.spare + need_of (scene_in p) change Objects ≡ p.tree.spare + freed_by (scene_in p) change Objects
-  pub entries : q.entries + freed_by (scene_in p) change Entries ≡ need_of (scene_in p) change Entries + p.entries
+  pub objects : q.tree.spare + need_of (scene_in p) change Objects ≡ p.tree.spare + freed_by (scene_in p) change Objects
+  pub styles : AreSlots p.styles q.styles (need_of (scene_in p) change) (freed_by (scene_in p) change)
   pub removed : q.tree.removed ≡ removed_after p.tree.removed (scene_in p) change
 
 -- the parts are in order after a change, or as they were where it is refused
@@ -104,31 +101,42 @@ module _ (p : Parts) (k : AreKept p) (change : Change) where
   module _ (fits : is_in_range change ≡ true) (c : IsChange change) where
     pub done : (q : Parts) → answer_in_range (scene_in p) change ≡ None → Fine p change q → Left p change q (Ok tt)
     done q e fine =
-        let l = after_leaves (scene_in p) change fits c e k.valid in
-        let limits = ap (λ (s : Scene). s.limits.objects) fine.shows ∙ ap (λ (b : Bounds). b.objects) (after_keeps (scene_in p) change) in
-        let sizes = ap (λ (s : Scene). size s.trees) fine.shows in
-        let totals = ap (λ (s : Scene). entries_of s.trees) fine.shows in
-        let valid = subst (λ (s : Scene). IsValid s) (sym fine.shows) (after_valid (scene_in p) change fits c e k.valid) in
+        let s = scene_in p in
+        let l = after_leaves s change fits c e k.valid in
+        let valid = subst (λ (s : Scene). IsValid s) (sym fine.shows) (after_valid s change fits c e k.valid) in
         let rows = λ (h : ℕ).
         let a = ap (λ (f : Forest ℕ). count f h) (forest-is p) in
         let b = ap (λ (f : Forest ℕ). count f h) (forest-is q) in
         let c = ap (λ (s : Scene). count (handles_of s.trees) h) fine.shows in
         count-told q.tree.forest h (value_at q.rows h) (omega (arith, a, b, c, l.handles h, fine.rows h, counted p k h)) in
-        let objects : size q.tree.forest + q.tree.spare ≡ q.limits.objects = omega (arith, limits, sizes, size-is p, size-is q, l.objects, fine.slots, k.objects) in
-        let is : IsChanged p q change (Ok tt) = record { answer_is = rw e refl; scene = rw e fine.shows; removed = rw e fine.removed } in
-        search (rules, fine.handles, fine.room, totals, l.entries, fine.entries, k.entries)
+        let done : answer_of s change ≡ None = rw fits e in
+        let slots = λ (pool : Pool).
+        ap (λ (t : Scene). spare t pool + need_of s change pool) fine.shows ∙ ap (λ (o : Option Refusal). spare (scene_by o s change) pool + need_of s change pool) (sym done)
+        ∙ slots_add_up s change pool k.valid c done in
+        record {
+          kept = record {
+            valid = valid;
+            handles = fine.handles;
+            rows = rows;
+            room = fine.room;
+            objects = omega (arith, slots Objects, fine.objects, k.objects);
+            styles = omega (arith, slots StyleSlots, fine.styles.styles, k.styles);
+            entries = omega (arith, slots Entries, fine.styles.entries, k.entries);
+            uses = omega (arith, slots Uses, fine.styles.uses, k.uses);
+          };
+          is = record { answer_is = rw e refl; scene = rw e fine.shows; removed = rw e fine.removed };
+        }
 
-    -- a call of the tree that answers as the change does
-    pub answered : (o : Option Refusal) → answer_in_range (scene_in p) change ≡ o → (t u : Trees) (r : Answer) → result_of o ≡ r →
-        OnOk r (t ≡ u) → OnErr r (t ≡ p.tree) → Fine p change (record p { tree = u }) → Left p change (record p { tree = t }) r
-    answered None e t u r a ok err fine = let is : t ≡ u = rw (← a) at ok in rw (← a, is) (done (record p { tree = u }) e fine)
-    answered (Some y) e t u r a ok err fine = let is : t ≡ p.tree = rw (← a) at err in rw (← a, is) (record { kept = k; is = refused y e })
+    -- a call that answers as the change does
+    pub answered : (q : Parts) (r : Answer) → result_of (answer_in_range (scene_in p) change) ≡ r → OnOk r (answer_in_range (scene_in p) change ≡ None → Fine p change q) → OnErr r (q ≡ p) → Left p change q r
+    answered q (Ok v) a ok err = let none = ok-none (answer_in_range (scene_in p) change) v a in done q none (ok none)
+    answered q (Err x) a ok err = rw err (record { kept = k; is = refused x (err-some (answer_in_range (scene_in p) change) x a) })
 
     -- a call of the tree that is done, and rows that are written then
-    pub grown : (t u : Trees) (r : Answer) (rows new : Table Row) (n : ℕ) (v : Unit {0}) → result_of (answer_in_range (scene_in p) change) ≡ r →
-        r ≡ Ok v → OnOk r (t ≡ u) → new ≡ rows →
-        (answer_in_range (scene_in p) change ≡ None → Fine p change (record p { tree = u; rows = rows; entries = n })) →
-        Left p change (record p { tree = t; rows = new; entries = n }) (Ok tt)
-    grown t u r rows new n v a e ok written fine =
+    pub grown : (t u : Trees) (r : Answer) (rows new : Table Row) (styles after : Styles) (v : Unit {0}) → result_of (answer_in_range (scene_in p) change) ≡ r →
+        r ≡ Ok v → OnOk r (t ≡ u) → new ≡ rows → after ≡ styles →
+        (answer_in_range (scene_in p) change ≡ None → Fine p change (record p { tree = u; rows = rows; styles = styles })) →
+        Left p change (record p { tree = t; rows = new; styles = after }) (Ok tt)
+    grown t u r rows new styles after v a e ok written styled fine =
         let is : t ≡ u = rw e at ok in
-        let none = ok-none (answer_in_range (scene_in p) change) v (a ∙ e) in rw (is, written) (done _ none (fine none))
+        let none = ok-none (answer_in_range (scene_in p) change) v (a ∙ e) in rw (is, written, styled) (done _ none (fine none))

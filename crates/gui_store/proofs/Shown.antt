@@ -1,5 +1,5 @@
 -- What a forest of handles shows with the rows of a table.
-use Rattle.gui_store.proofs.Common.{ap, ◌≡◌, ◌<◌, ◌∙◌, sym, ℕ, Bool, true, false, cond, if◌then◌else◌, List, ◌++◌, length, Some, None, refl, arith, eqb, sum_by, nat_tests, get_or-set_same, get_or-set_other, sum_by-cons, sum_by-append, Forest, Empty, Tree, all_by, count, map_forest, has, preorder, with_row_by, map-has_by, map-agree, map-set, Handle, Table, value_inserted, value_replaced, numbers, Object, is_at, handles_of, object_by, entries_of, total, one_at, count-total, Row, object_in, entries_in, rows_without}
+use Rattle.gui_store.proofs.Common.{ap, ◌≡◌, ◌<◌, ◌∙◌, sym, ℕ, Bool, true, false, cond, if◌then◌else◌, List, length, Some, None, refl, arith, eqb, nat_tests, get_or-set_same, get_or-set_other, Forest, Empty, Tree, all_by, count, map_forest, has, with_row_by, map-has_by, map-agree, map-set, Handle, Table, value_inserted, value_replaced, numbers, Object, is_at, handles_of, object_by, total, one_at, count-total, Row, object_in, rows_without}
 use Rattle.gui_store.proofs.Rows.{times, without-other}
 
 abbrev pub shown : Table Row → Forest ℕ → Forest Object
@@ -21,14 +21,6 @@ module _ (rows : Table Row) where
   pub shown-all : (P : Object → Bool) (f : Forest ℕ) (h : ℕ) → all_by P (shown rows f) ≡ true → has f h ≡ true → P (object_in rows h) ≡ true
   shown-all P Empty h a i = cc
   shown-all P (Tree k cs rest) h a i = grind (arith, nat_tests, a, i, shown-all P cs h, shown-all P rest h)
-
-  -- the entries of listed handles
-  pub sum-preorder : (f : Forest ℕ) → sum_by (entries_in rows) (preorder f) ≡ entries_of (shown rows f)
-  sum-preorder Empty = refl
-  sum-preorder (Tree h cs rest) =
-      let a = sum_by-cons (entries_in rows) h (preorder cs ++ preorder rest) in
-      let b = sum_by-append (entries_in rows) (preorder cs) (preorder rest) in
-      omega (arith, a, b, sum-preorder cs, sum-preorder rest)
 
   -- a row that is written where no handle of the forest reads it
   pub shown-aside : (f : Forest ℕ) (h : ℕ) (row : Row) → has f h ≡ false → shown (value_inserted rows h row) f ≡ shown rows f

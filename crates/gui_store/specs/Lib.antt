@@ -3,4 +3,5 @@ pub mod Parts
 pub mod Removed
 pub mod Rows
 pub mod Setters
+pub mod Styling
 pub mod Views

@@ -1,11 +1,13 @@
 -- The parts of a store, and the scene that they show.
 use Rattle.std.specs.Prelude.{◌≡◌, ℕ, ◌+◌, length, is_some}
 use Rattle.gui_base.specs.declared.intervals.TheConstants.{HANDLE}
-use Rattle.gui_base.specs.Forest.{map_forest, has, size}
+use Rattle.gui_base.specs.declared.limits.Pool.TheVariants.{Objects, Styles as StyleSlots, Entries, Uses}
+use Rattle.gui_base.specs.Forest.{map_forest, has}
 use Rattle.gui_base.specs.Limits.{Bounds}
 use Rattle.gui_pool.specs.Table.{Table, value_at}
+use Rattle.gui_style.specs.Styles.{Styles}
 use Rattle.gui_tree.specs.Trees.{Trees}
-use Rattle.scene_defs.specs.Scene.{Scene, entries_of}
+use Rattle.scene_defs.specs.Scene.{Scene, spare}
 use Rattle.scene_defs.specs.Valid.{IsValid}
 use Rattle.scene_defs.specs.declared.Row.{Row}
 use Rattle.gui_store.specs.Rows.{object_in}
@@ -14,15 +16,18 @@ pub record Parts : Type 0 where
   pub tree : Trees
   -- by handle
   pub rows : Table Row
+  pub styles : Styles
   pub active : ℕ
   pub limits : Bounds
-  -- how many are set
-  pub entries : ℕ
 
--- the trees with the object of each handle
+-- the trees with the object of each handle, and the book of the styles
 abbrev pub scene_in : Parts → Scene
-scene_in p =
-    record { trees = map_forest (object_in p.rows) p.tree.forest; active = p.active; limits = p.limits }
+scene_in p = record {
+  trees = map_forest (object_in p.rows) p.tree.forest;
+  active = p.active;
+  book = p.styles.book;
+  limits = p.limits;
+}
 
 -- what holds of the parts at all times
 pub record AreKept (p : Parts) : Type 0 where
@@ -31,5 +36,8 @@ pub record AreKept (p : Parts) : Type 0 where
   -- each object has a row, and nothing else has
   pub rows : (h : ℕ) → is_some (value_at p.rows h) ≡ has p.tree.forest h
   pub room : p.rows.spare ≡ p.tree.spare
-  pub objects : size p.tree.forest + p.tree.spare ≡ p.limits.objects
-  pub entries : p.entries ≡ entries_of (scene_in p).trees
+  -- as many slots are spare as in the scene
+  pub objects : p.tree.spare ≡ spare (scene_in p) Objects
+  pub styles : p.styles.spare_styles ≡ spare (scene_in p) StyleSlots
+  pub entries : p.styles.spare_entries ≡ spare (scene_in p) Entries
+  pub uses : p.styles.spare_uses ≡ spare (scene_in p) Uses

@@ -4,7 +4,7 @@ use Rattle.gui_base.specs.declared.Handle.{Handle}
 use Rattle.gui_base.specs.declared.words.Kind.TheVariants.{Obj}
 use Rattle.gui_pool.specs.Table.{Table, value_at, value_removed}
 use Rattle.scene_defs.specs.declared.Row.{Row}
-use Rattle.scene_defs.specs.Row.{new_row, entry_count}
+use Rattle.scene_defs.specs.Row.{new_row}
 use Rattle.scene_defs.specs.Scene.{Object}
 
 -- the row of h in a table; a handle that has none shows a new one
@@ -14,10 +14,6 @@ row_in rows h = unwrap_or (value_at rows h) (new_row Obj)
 -- the object that h is by a table
 abbrev pub object_in : Table Row → ℕ → Object
 object_in rows h = record { handle = h; row = row_in rows h }
-
--- how many entries h has there
-abbrev pub entries_in : Table Row → ℕ → ℕ
-entries_in rows h = entry_count (row_in rows h)
 
 -- each of these handles has a row of its own
 abbrev pub HaveRows : Table Row → List Handle → Type 0

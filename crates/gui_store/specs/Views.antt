@@ -12,9 +12,9 @@ abbrev pub parts_of : Store → Parts
 parts_of store = record {
   tree = store.tree;
   rows = store.rows;
+  styles = store.styles;
   active = store.active.0;
   limits = bounds_of store.limits;
-  entries = store.entries;
 }
 
 abbrev pub scene_of : Store → Scene

@@ -1,4 +1,4 @@
-//! The objects of a scene: their tree, a row for each, and the changes that a script may ask for.
+//! The objects of a scene: their tree, a row for each, their styles, and the changes that a script may ask for.
 //!
 //! All memory is taken at [`Store::open`]. A change is done as a whole or refused; a refusal leaves all as
 //! it was.
@@ -7,6 +7,7 @@
 mod range;
 mod row;
 mod store;
+mod styling;
 
 pub use scene_defs::{Change, Row};
 pub use store::Store;

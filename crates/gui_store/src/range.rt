@@ -3,7 +3,7 @@ ghost use Rattle.std.specs.Prelude.{◌≡◌};
 ghost use Rattle.scene_defs.specs.Ranges.{is_in_range};
 
 use crate::row::setter_of;
-use gui_base::intervals::{HANDLE, INDEX, NEW_HANDLE};
+use gui_base::intervals::{HANDLE, INDEX, NEW_HANDLE, STYLE};
 use scene_defs::Change;
 
 /// Whether each number of a change lies in its interval.
@@ -21,6 +21,11 @@ pub fn is_in_range(change: &Change) -> bool
         Change::Delete(h) | Change::Front(h) | Change::Back(h) | Change::Load(h) => HANDLE.holds(
             h.0,
         ),
+        Change::Style(s) | Change::Unset(s, _) => STYLE.holds(s),
+        Change::Set(s, prop, value) => STYLE.holds(s) && prop.values().holds(value),
+        Change::Use(h, s, _) | Change::Unuse(h, s, _) => HANDLE.holds(h.0) && STYLE.holds(s),
+        Change::Local(h, _, prop, value) => HANDLE.holds(h.0) && prop.values().holds(value),
+        Change::Unlocal(h, _, _) => HANDLE.holds(h.0),
         _ => false,
     }
 }

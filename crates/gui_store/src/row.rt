@@ -1,12 +1,12 @@
 //! The row of an object: its first values, and the changes that set it.
-ghost use Rattle.std.specs.Prelude.{◌≡◌, ◌≤◌, false, true, option_map};
+ghost use Rattle.std.specs.Prelude.{◌≡◌, false, true, option_map};
 ghost use Rattle.gui_base.specs.Bits.{flag_bit, with_bit};
-ghost use Rattle.scene_defs.specs.Row.{new_row, flags_of, entry_count, is_size, is_value};
+ghost use Rattle.scene_defs.specs.Row.{new_row, flags_of, is_size};
 ghost use Rattle.scene_defs.specs.Row.{setter_of, row_after};
 ghost use Rattle.gui_store.specs.Setters.{asked_of};
 
-use gui_base::intervals::{COLOR, COORDINATE, EXTENT, OPACITY};
-use gui_base::{Bits, Flag, Handle, Kind, Length, Part, Prop};
+use gui_base::intervals::{COORDINATE, EXTENT};
+use gui_base::{Bits, Flag, Handle, Kind, Length};
 use scene_defs::{Change, Row};
 
 /// The flags of a new screen or object.
@@ -22,20 +22,19 @@ fn flags_of(kind: Kind) -> u8
     }
 }
 
-/// The row of a new object: 100 by 50 pixels at its parent's corner, clickable unless it is a layer, with no
-/// local property.
+/// The row of a new object: 100 by 50 pixels at its parent's corner, clickable unless it is a layer, in no
+/// state.
 pub(crate) fn new_row(kind: Kind) -> Row
     ensures { result ≡ new_row kind }
 {
     Row {
         kind,
         flags: flags_of(kind),
+        states: 0,
         x: 0,
         y: 0,
         width: Length::Pixels(100),
         height: Length::Pixels(50),
-        bg_color: None,
-        bg_opa: None,
     }
 }
 
@@ -79,7 +78,7 @@ pub(crate) fn setter_of(change: &Change) -> Option<Setter>
     ensures { result ≡ option_map asked_of (setter_of change.now) }
 {
     match *change {
-        Change::Flag(h, _, _) => Some(Setter::of_any(h, true)),
+        Change::Flag(h, _, _) | Change::State(h, _, _) => Some(Setter::of_any(h, true)),
         Change::Pos(h, x, y) => {
             let fits = COORDINATE.holds(x) && COORDINATE.holds(y);
             Some(Setter::of_child(h, fits))
@@ -87,15 +86,7 @@ pub(crate) fn setter_of(change: &Change) -> Option<Setter>
         Change::Size(h, width, height) => {
             Some(Setter::of_child(h, is_size(width) && is_size(height)))
         }
-        Change::Local(h, _, prop, value) => Some(Setter::of_any(h, is_value(prop, value))),
-        Change::Screen(_)
-        | Change::New(_, _, _)
-        | Change::Delete(_)
-        | Change::Parent(_, _)
-        | Change::Index(_, _)
-        | Change::Front(_)
-        | Change::Back(_)
-        | Change::Load(_) => None,
+        _ => None,
     }
 }
 
@@ -113,8 +104,7 @@ pub(crate) fn set_row(row: &mut Row, change: &Change)
             row.width = width;
             row.height = height;
         }
-        Change::Local(_, Part::Main, Prop::BgColor, value) => row.bg_color = Some(value),
-        Change::Local(_, Part::Main, Prop::BgOpa, value) => row.bg_opa = Some(value),
+        Change::State(_, state, on) => row.states = Bits(row.states).with(state.bit(), on).0,
         _ => {}
     }
 }
@@ -125,23 +115,6 @@ fn is_size(length: Length) -> bool
     match length {
         Length::Pixels(n) => EXTENT.holds(n),
     }
-}
-
-fn is_value(prop: Prop, value: i32) -> bool
-    ensures { result ≡ is_value prop value }
-{
-    match prop {
-        Prop::BgColor => COLOR.holds(value),
-        Prop::BgOpa => OPACITY.holds(value),
-    }
-}
-
-/// How many properties are set in a row.
-pub(crate) fn entry_count(row: &Row) -> u32
-    ensures count { result ≡ entry_count row.now }
-    ensures most { result ≤ 2 }
-{
-    u32::from(row.bg_color.is_some()) + u32::from(row.bg_opa.is_some())
 }
 
 /// The flags with one of them switched on or off.

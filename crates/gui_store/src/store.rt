@@ -1,26 +1,29 @@
 //! The store.
-ghost use Rattle.std.specs.Prelude.{◌≡◌, ◌<◌, ◌^◌, IfOk, IfSome, Some, None, true, length};
-ghost use Rattle.std.specs.Prelude.{is_some, option_map, sum_by};
+ghost use Rattle.std.specs.Prelude.{◌≡◌, ◌<◌, IfOk, IfSome, Some, None, true, length};
+ghost use Rattle.std.specs.Prelude.{is_some, option_map};
 ghost use Rattle.std.specs.Option.{option_copied};
 ghost use Rattle.gui_base.specs.Bounded.{bounds_of};
 ghost use Rattle.gui_base.specs.Intervals.{is_counted};
 ghost use Rattle.gui_base.specs.Refusing.{first_of, result_of, move_tests};
-ghost use Rattle.scene_defs.specs.Row.{value_of, setter_of};
+ghost use Rattle.scene_defs.specs.Row.{setter_of};
 ghost use Rattle.scene_defs.specs.Scene.{handles_of, is_there, row_at, first_scene};
+ghost use Rattle.scene_defs.specs.Styling.{styling_of};
 ghost use Rattle.scene_defs.specs.Change.{answer_of, changed, tests};
 ghost use Rattle.scene_defs.specs.Ranges.{is_in_range};
 ghost use Rattle.scene_defs.specs.Valid.{IsValid, IsChange, IsRow};
 ghost use Rattle.gui_pool.specs.Table.{value_at, value_inserted};
 ghost use Rattle.gui_store.specs.Parts.{AreKept};
 ghost use Rattle.gui_store.specs.Removed.{removed_by};
-ghost use Rattle.gui_store.specs.Rows.{entries_in, HaveRows, rows_without};
+ghost use Rattle.gui_store.specs.Rows.{HaveRows, rows_without};
 ghost use Rattle.gui_store.specs.Setters.{asked_of};
 
 use crate::range::is_in_range;
-use crate::row::{Setter, entry_count, new_row, set_row, setter_of};
+use crate::row::{Setter, new_row, set_row, setter_of};
+use crate::styling::{named_by, restyle};
 use gui_base::intervals::HANDLE;
-use gui_base::{Handle, Kind, Limits, NoMemory, Part, Pool, Prop, Refusal};
+use gui_base::{Handle, Kind, Limits, NoMemory, Refusal};
 use gui_pool::Table;
+use gui_style::Styles;
 use gui_tree::Tree;
 use scene_defs::{Change, Row};
 use std::alloc::Global;
@@ -36,22 +39,21 @@ const SYSTEM_LAYER: Handle = Handle(2);
 /// The screen that is shown at first.
 const FIRST_SCREEN: Handle = Handle(3);
 
-/// A scene: the tree of its objects, a row for each, the active screen and the limits.
+/// A scene: the tree of its objects, a row for each, their styles, the active screen and the limits.
 #[derive(Drop)]
 pub struct Store {
     tree: Tree,
     // Those of the objects of the tree, by handle.
     rows: Table<Row>,
+    styles: Styles,
     active: Handle,
     limits: Limits,
-    // How many properties are set.
-    entries: u32,
     ghost kept: { AreKept (record {
       tree = tree;
       rows = rows;
+      styles = styles;
       active = active.0;
       limits = bounds_of limits;
-      entries = entries;
     }) },
 }
 
@@ -77,28 +79,6 @@ fn remove_rows(rows: &mut Table<Row>, handles: &[Handle])
     }
 }
 
-/// How many properties are set in the row of a handle.
-fn entries_at(rows: &Table<Row>, h: Handle) -> u32
-    ensures { result ≡ entries_in rows.now h.0 }
-{
-    match rows.get(h.0 as u32) {
-        Some(row) => entry_count(row),
-        None => 0,
-    }
-}
-
-/// How many are set in the rows of all these handles.
-fn entries_of(rows: &Table<Row>, handles: &[Handle]) -> u32
-    requires { sum_by (λ h. entries_in rows.now h.0) handles.now < 2 ^ 32 }
-    ensures { result ≡ sum_by (λ h. entries_in rows.now h.0) handles.now }
-{
-    let mut count = 0;
-    for h in handles {
-        count += entries_at(rows, *h);
-    }
-    count
-}
-
 impl Store {
     ghost use Rattle.gui_store.specs.Views.{scene_of, removed_of, Changes};
 
@@ -111,15 +91,16 @@ impl Store {
         let Ok(mut rows) = Table::open(alloc, HANDLES, limits.objects) else {
             return Err(NoMemory);
         };
+        let styles = Styles::open(alloc, limits.styles, limits.entries, limits.uses)?;
         insert_row(&mut rows, TOP_LAYER, new_row(Kind::Layer));
         insert_row(&mut rows, SYSTEM_LAYER, new_row(Kind::Layer));
         insert_row(&mut rows, FIRST_SCREEN, new_row(Kind::Screen));
         Ok(Store {
             tree,
             rows,
+            styles,
             active: FIRST_SCREEN,
             limits: *limits,
-            entries: 0,
         })
     }
 
@@ -173,17 +154,6 @@ impl Store {
         self.rows.get(h.0 as u32)
     }
 
-    /// The value of a property of an object that is there: what is set locally, or the default.
-    pub fn value(&self, h: Handle, part: Part, prop: Prop) -> i32
-        requires { is_there (scene_of self.now) h.0 ≡ true }
-        ensures { option_map (λ row. value_of row prop) (row_at (scene_of self.now) h.0) ≡ Some result }
-    {
-        let Some(row) = self.rows.get(h.0 as u32) else {
-            unreachable!()
-        };
-        row.value(part, prop)
-    }
-
     /// Carries out a change whose numbers lie in their intervals, or answers its first refusal.
     fn carry_out(&mut self, change: &Change) -> Result<(), Refusal>
         requires in_range { is_in_range change.now ≡ true }
@@ -200,7 +170,9 @@ impl Store {
             Change::Front(h) => self.tree.move_to_index(h, u16::MAX),
             Change::Back(h) => self.tree.move_to_index(h, 0),
             Change::Load(h) => self.load(h),
-            _ => self.change_row(change),
+            Change::Flag(_, _, _) | Change::State(_, _, _) => self.change_row(change),
+            Change::Pos(_, _, _) | Change::Size(_, _, _) => self.change_row(change),
+            _ => self.change_styles(change),
         }
     }
 
@@ -232,8 +204,8 @@ impl Store {
         }
         self.tree.remove(h)?;
         let removed = self.tree.last_removed();
-        self.entries -= entries_of(&self.rows, removed);
         remove_rows(&mut self.rows, removed);
+        self.styles.forget_all(removed);
         Ok(())
     }
 
@@ -291,14 +263,21 @@ impl Store {
             return Err(Refusal::Unknown);
         };
         self.check_row(setter, change)?;
-        let others = self.entries - entry_count(&row);
         set_row(&mut row, change);
-        let entries = others + entry_count(&row);
-        if entries > self.limits.entries {
-            return Err(Refusal::Full(Pool::Entries));
-        }
         let _ = self.rows.replace(h.0 as u32, row);
-        self.entries = entries;
         Ok(())
+    }
+
+    /// Changes the styles alone.
+    fn change_styles(&mut self, change: &Change) -> Result<(), Refusal>
+        requires styling { is_some (styling_of (scene_of self.old).book change.now) ≡ true }
+        requires in_range { is_in_range change.now ≡ true }
+        requires plain { IsChange change.now }
+        ensures { Changes self.old self.new change.now result }
+    {
+        match named_by(change) {
+            Some(h) if !self.tree.has(h) => Err(Refusal::Unknown),
+            _ => restyle(&mut self.styles, change),
+        }
     }
 }

@@ -1,4 +1,4 @@
-use Rattle.gui_store.proofs.Common.{◌≡◌, ◌∙◌, sym, true, Ok, arith, nat_tests, NEW_HANDLE, with_child, parts_of}
+use Rattle.gui_store.proofs.Common.{◌≡◌, ◌∙◌, sym, refl, true, Ok, arith, nat_tests, NEW_HANDLE, with_child, parts_of}
 use Rattle.std.proofs.lemmas.Bool.{and_parts}
 use Rattle.gui_base.specs.Intervals.{is_counted}
 use Rattle.scene_defs.specs.declared.Change.TheVariants as change
@@ -13,8 +13,8 @@ added c =
     let p = parts_of c.args.self.now in
     let new : is_counted NEW_HANDLE c.args.n.0 ≡ true = (and_parts _ _ c.requires.in_range).0 in
     let answer = object-answer p c.args.self.now.kept c.args.n c.args.parent c.args.kind ∙ sym c.add.ensures.answer in
-    grown p c.args.self.now.kept (change.New c.args.n c.args.parent c.args.kind) c.requires.in_range c.requires.plain c.add.new.self (with_child p.tree c.args.parent.0 c.args.n.0) c.add.result _ _ _ _
-    answer c.in_ok-add.was c.add.ensures.ok c.insert_row.ensures
+    grown p c.args.self.now.kept (change.New c.args.n c.args.parent c.args.kind) c.requires.in_range c.requires.plain c.add.new.self (with_child p.tree c.args.parent.0 c.args.n.0) c.add.result _ _ _ _ _
+    answer c.in_ok-add.was c.add.ensures.ok c.insert_row.ensures refl
     (fine-object p c.args.self.now.kept c.args.n c.args.parent c.args.kind c.new_row.result (grind (arith, nat_tests, new)) c.new_row.ensures)
 
 pub returns-in_err-add : goal.returns-in_err-add

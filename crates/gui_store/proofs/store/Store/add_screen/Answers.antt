@@ -1,4 +1,4 @@
-use Rattle.gui_store.proofs.Common.{◌∙◌, sym, Ok, arith, nat_tests, with_root, parts_of}
+use Rattle.gui_store.proofs.Common.{◌∙◌, sym, refl, Ok, arith, nat_tests, with_root, parts_of}
 use Rattle.scene_defs.specs.declared.Change.TheVariants as change
 use Rattle.gui_store.proofs.Edits.{screen-answer, fine-screen}
 use Rattle.gui_store.proofs.Kept.{Left, failed, grown}
@@ -10,8 +10,8 @@ added : (c : After-insert_row) →
 added c =
     let p = parts_of c.args.self.now in
     let answer = screen-answer p c.args.self.now.kept c.args.n ∙ sym c.add_root.ensures.answer in
-    grown p c.args.self.now.kept (change.Screen c.args.n) c.requires tt c.add_root.new.self (with_root p.tree c.args.n.0) c.add_root.result _ _ _ _
-    answer c.in_ok-add_root.was c.add_root.ensures.ok c.insert_row.ensures
+    grown p c.args.self.now.kept (change.Screen c.args.n) c.requires tt c.add_root.new.self (with_root p.tree c.args.n.0) c.add_root.result _ _ _ _ _
+    answer c.in_ok-add_root.was c.add_root.ensures.ok c.insert_row.ensures refl
     (fine-screen p c.args.self.now.kept c.args.n c.new_row.result (grind (arith, nat_tests, c.requires)) c.new_row.ensures)
 
 pub returns-in_err-add_root : goal.returns-in_err-add_root

@@ -25,7 +25,7 @@ index_done c =
     let e = c.move_to_index.ensures in
     let fits = rw c.in-Index.is at c.requires.in_range in
     rw c.in-Index.is
-    (moved_beside (parts_of c.args.self.now) c.args.self.now.kept (change.Index c.in-Index.h c.in-Index.index) fits tt refl (λ w. refl) refl refl refl refl
+    (moved_beside (parts_of c.args.self.now) c.args.self.now.kept (change.Index c.in-Index.h c.in-Index.index) fits tt refl (λ w. refl) (λ q. (refl, refl)) refl
     c.move_to_index.new.self c.move_to_index.result e.refused c.in-Index.h.0 c.in-Index.index refl refl e.answer e.ok)
 
 pub invariant_of-self-in-Index : goal.invariant_of-self-in-Index
@@ -40,7 +40,7 @@ front_done c =
     let e = c.move_to_index-in-Front.ensures in
     let fits = rw c.in-Front.is at c.requires.in_range in
     rw c.in-Front.is
-    (moved_beside (parts_of c.args.self.now) c.args.self.now.kept (change.Front c.in-Front.h) fits tt refl (λ w. refl) refl refl refl refl
+    (moved_beside (parts_of c.args.self.now) c.args.self.now.kept (change.Front c.in-Front.h) fits tt refl (λ w. refl) (λ q. (refl, refl)) refl
     c.move_to_index-in-Front.new.self c.move_to_index-in-Front.result e.refused c.in-Front.h.0 65535 refl (last-after _ c.args.self.now.kept c.in-Front.h 65535 (omega (arith, c.args.self.now.limits.scene.most_objects))) e.answer e.ok)
 
 pub invariant_of-self-in-Front : goal.invariant_of-self-in-Front
@@ -55,7 +55,7 @@ back_done c =
     let e = c.move_to_index-in-Back.ensures in
     let fits = rw c.in-Back.is at c.requires.in_range in
     rw c.in-Back.is
-    (moved_beside (parts_of c.args.self.now) c.args.self.now.kept (change.Back c.in-Back.h) fits tt refl (λ w. refl) refl refl refl refl
+    (moved_beside (parts_of c.args.self.now) c.args.self.now.kept (change.Back c.in-Back.h) fits tt refl (λ w. refl) (λ q. (refl, refl)) refl
     c.move_to_index-in-Back.new.self c.move_to_index-in-Back.result e.refused c.in-Back.h.0 0 refl refl e.answer e.ok)
 
 pub invariant_of-self-in-Back : goal.invariant_of-self-in-Back

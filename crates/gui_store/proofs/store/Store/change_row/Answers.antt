@@ -1,8 +1,8 @@
-use Rattle.gui_store.proofs.Common.{tests, first-some, ◌≡◌, ◌∙◌, ◌+◌, ◌-◌, sym, Some, Ok, true, arith, nat_tests, err_from_is_err_and, row_set, Entries, Full, Unknown, value_at, parts_of, scene_of}
-use Rattle.gui_store.proofs.Edits.{row-done, RowSet, row-set, row-entries, row-absent, row-answer}
-use Rattle.gui_store.proofs.Kept.{Left, there-is, read-off, refused, err-some, ok-none}
+use Rattle.gui_store.proofs.Common.{tests, first-some, ◌≡◌, ◌∙◌, sym, ap, Some, Ok, arith, err_from_is_err_and, row_set, row_after, Unknown, value_at, parts_of, scene_of}
+use Rattle.gui_store.proofs.Edits.{row-done, row-absent}
+use Rattle.gui_store.proofs.Kept.{Left, there-is, read-on, read-off, read-at, refused, err-some, ok-none}
 use Rattle.gui_store.proofs.store.Store.change_row.Goals as goal
-use Rattle.gui_store.proofs.store.Store.change_row.Goals.{In-Some, In-Some-copied, After-entry_count-2, After-replace}
+use Rattle.gui_store.proofs.store.Store.change_row.Goals.{In-Some, In-Some-copied, After-replace}
 
 sets : (c : In-Some) → row_set c.args.change.now ≡ Some c.in-Some.setter.handle
 sets c = grind (arith, c.in-Some.is, c.setter_of.ensures)
@@ -10,18 +10,15 @@ sets c = grind (arith, c.in-Some.is, c.setter_of.ensures)
 read : (c : In-Some-copied) → Some c.in-Some-copied.row ≡ value_at c.args.self.now.rows c.in-Some.setter.handle.0
 read c = sym c.in-Some-copied.is ∙ c.copied.ensures ∙ c.get.ensures
 
-facts : (c : After-entry_count-2) → row_set c.args.change.now ≡ Some c.in-Some.setter.handle → Some c.in-Some-copied.row ≡ value_at c.args.self.now.rows c.in-Some.setter.handle.0 →
-    RowSet (parts_of c.args.self.now) c.args.self.now.kept c.args.change.now c.in-Some.setter.handle c.set_row.new.row (c.args.self.now.entries - c.entry_count.result + c.entry_count-2.result)
-facts c set is =
-    let pass = ok-none _ _ (sym c.check_row.ensures ∙ c.in_ok-check_row.was) in
-    row-set (parts_of c.args.self.now) c.args.self.now.kept c.args.change.now c.in-Some.setter.handle c.in-Some-copied.row c.set_row.new.row
-    c.entry_count.result c.entry_count-2.result set pass is c.set_row.ensures c.entry_count.ensures.count c.entry_count-2.ensures.count
-
-set_done : (c : After-replace) → RowSet (parts_of c.args.self.now) c.args.self.now.kept c.args.change.now c.in-Some.setter.handle c.set_row.new.row (c.args.self.now.entries - c.entry_count.result + c.entry_count-2.result) →
-    Left (parts_of c.args.self.now) c.args.change.now (record (parts_of c.args.self.now) { rows = c.replace.new.self; entries = c.args.self.now.entries - c.entry_count.result + c.entry_count-2.result }) (Ok tt)
-set_done c r =
-    row-done (parts_of c.args.self.now) c.args.self.now.kept c.args.change.now c.in-Some.setter.handle c.set_row.new.row _ r
-    c.requires.in_range c.requires.plain (grind (arith, nat_tests, c.if-entries-self.false)) _ c.replace.ensures.replaces
+set_done : (c : After-replace) → row_set c.args.change.now ≡ Some c.in-Some.setter.handle → Some c.in-Some-copied.row ≡ value_at c.args.self.now.rows c.in-Some.setter.handle.0 →
+    Left (parts_of c.args.self.now) c.args.change.now (record (parts_of c.args.self.now) { rows = c.replace.new.self }) (Ok tt)
+set_done c set is =
+    let p = parts_of c.args.self.now in
+    let k = c.args.self.now.kept in
+    let h = c.in-Some.setter.handle in
+    let new = c.set_row.ensures ∙ ap (row_after c.args.change.now) (read-at p k h.0 c.in-Some-copied.row is) in
+    row-done p k c.args.change.now h c.set_row.new.row c.requires.in_range c.requires.plain set (ok-none _ _ (sym c.check_row.ensures ∙ c.in_ok-check_row.was))
+    (read-on p k h.0 c.in-Some-copied.row is) new _ c.replace.ensures.replaces
 
 pub returns-in_err-check_row : goal.returns-in_err-check_row
 returns-in_err-check_row c =
@@ -44,23 +41,8 @@ check_row-requires-clause-there c =
     let h = c.in-Some.setter.handle.0 in
     grind (arith, is, there-is (parts_of c.args.self.now) h, c.args.self.now.kept.rows h)
 
-pub overflow_sub-others : goal.overflow_sub-others
-overflow_sub-others c =
-    let p = parts_of c.args.self.now in
-    let is = read (goal.at.overflow_sub-others c).In-Some-copied in
-    (row-entries p c.args.self.now.kept c.in-Some.setter.handle c.in-Some-copied.row c.entry_count.result is c.entry_count.ensures.count).1
-
-pub returns-then-entries-self : goal.returns-then-entries-self
-returns-then-entries-self c =
-    let p = parts_of c.args.self.now in
-    let at = goal.at.returns-then-entries-self c in
-    let r = facts at.After-entry_count-2 (sets at.In-Some) (read at.In-Some-copied) in
-    let why = row-answer p c.args.self.now.kept c.args.change.now c.in-Some.setter.handle c.set_row.new.row _ r true (grind (arith, nat_tests, c.if-entries-self.true)) in
-    refused p c.args.self.now.kept c.args.change.now (Full Entries) why
-
 pub invariant_of-self : goal.invariant_of-self
-invariant_of-self c =
-    let at = goal.at.invariant_of-self c in record { kept = (set_done at.After-replace (facts at.After-entry_count-2 (sets at.In-Some) (read at.In-Some-copied))).kept }
+invariant_of-self c = let at = goal.at.invariant_of-self c in record { kept = (set_done at.After-replace (sets at.In-Some) (read at.In-Some-copied)).kept }
 
 pub returns : goal.returns
-returns c = let at = goal.at.returns c in (set_done at.After-replace (facts at.After-entry_count-2 (sets at.In-Some) (read at.In-Some-copied))).is
+returns c = let at = goal.at.returns c in (set_done at.After-replace (sets at.In-Some) (read at.In-Some-copied)).is

@@ -1,10 +1,10 @@
-use Rattle.gui_store.proofs.Common.{◌≡◌, ◌∙◌, ◌-◌, sym, ap, Ok, arith, preorder, tree_at, numbers, Trees, without, parts_of}
+use Rattle.gui_store.proofs.Common.{◌≡◌, ◌∙◌, sym, ap, Ok, preorder, tree_at, numbers, Trees, without, parts_of}
 use Rattle.gui_base.specs.declared.refusal.Refusal.TheVariants.{Place}
 use Rattle.scene_defs.specs.declared.Change.TheVariants as change
-use Rattle.gui_store.proofs.Edits.{delete-answer, delete-active, listed-sum, listed-rows, freed-few, fine-delete}
+use Rattle.gui_store.proofs.Edits.{delete-answer, delete-active, listed-rows, fine-delete}
 use Rattle.gui_store.proofs.Kept.{Left, refused, failed, grown}
 use Rattle.gui_store.proofs.store.Store.delete.Goals as goal
-use Rattle.gui_store.proofs.store.Store.delete.Goals.{In_ok-remove, After-remove_rows}
+use Rattle.gui_store.proofs.store.Store.delete.Goals.{In_ok-remove, After-forget_all}
 
 -- what is listed
 listed : (c : In_ok-remove) → c.remove.new.self.removed ≡ preorder (tree_at c.args.self.now.tree.forest c.args.h.0)
@@ -12,20 +12,18 @@ listed c =
     let is : c.remove.new.self ≡ without c.args.self.now.tree c.args.h.0 = rw c.in_ok-remove.was at c.remove.ensures.ok in
     ap (λ (t : Trees). t.removed) is
 
-deleted : (c : After-remove_rows) → numbers c.last_removed-removed.result.now ≡ preorder (tree_at c.args.self.now.tree.forest c.args.h.0) →
+deleted : (c : After-forget_all) → numbers c.last_removed-removed.result.now ≡ preorder (tree_at c.args.self.now.tree.forest c.args.h.0) →
     Left (parts_of c.args.self.now) (change.Delete c.args.h) (record (parts_of c.args.self.now) {
       tree = c.remove.new.self;
       rows = c.remove_rows.new.rows;
-      entries = c.args.self.now.entries - c.entries_of.result;
+      styles = c.forget_all.new.self;
     }) (Ok tt)
 deleted c list =
     let p = parts_of c.args.self.now in
     let k = c.args.self.now.kept in
-    let hs = c.last_removed-removed.result.now in
     let answer = delete-answer p k c.args.h (sym c.eq.ensures ∙ c.if-eq.false) ∙ sym c.remove.ensures.answer in
-    let sum = c.entries_of.ensures ∙ listed-sum p k hs c.args.h list in
-    grown p k (change.Delete c.args.h) c.requires tt c.remove.new.self (without p.tree c.args.h.0) c.remove.result _ _ _ _
-    answer c.in_ok-remove.was c.remove.ensures.ok c.remove_rows.ensures (λ e. fine-delete p k hs c.args.h list c.entries_of.result sum)
+    grown p k (change.Delete c.args.h) c.requires tt c.remove.new.self (without p.tree c.args.h.0) c.remove.result _ _ _ _ _
+    answer c.in_ok-remove.was c.remove.ensures.ok c.remove_rows.ensures c.forget_all.ensures (λ e. fine-delete p k c.last_removed-removed.result.now c.args.h list)
 
 pub returns-then-eq : goal.returns-then-eq
 returns-then-eq c =
@@ -38,26 +36,12 @@ returns-in_err-remove c =
     failed p c.args.self.now.kept (change.Delete c.args.h) c.remove.new.self _ c.remove.result c.from_residual.result
     answer c.in_err-remove.was c.remove.ensures.refused c.from_residual.ensures.1
 
-pub entries_of-requires : goal.entries_of-requires
-entries_of-requires c =
-    let k = c.args.self.now.kept in
-    let few = freed-few (parts_of c.args.self.now) k c.args.h.0 in
-    let sum = listed-sum (parts_of c.args.self.now) k c.last_removed-removed.result.now c.args.h (c.last_removed-removed.ensures ∙ listed (goal.at.entries_of-requires c).In_ok-remove) in
-    omega (arith, sum, few, k.entries, k.valid.pools.entries, c.args.self.now.limits.scene.most_entries)
-
-pub overflow_sub-self : goal.overflow_sub-self
-overflow_sub-self c =
-    let k = c.args.self.now.kept in
-    let few = freed-few (parts_of c.args.self.now) k c.args.h.0 in
-    let sum = listed-sum (parts_of c.args.self.now) k c.last_removed-removed.result.now c.args.h (c.last_removed-removed.ensures ∙ listed (goal.at.overflow_sub-self c).In_ok-remove) in
-    omega (arith, c.entries_of.ensures, sum, few)
-
 pub remove_rows-requires : goal.remove_rows-requires
 remove_rows-requires c =
     listed-rows (parts_of c.args.self.now) c.args.self.now.kept c.last_removed-removed.result.now c.args.h (c.last_removed-removed.ensures ∙ listed (goal.at.remove_rows-requires c).In_ok-remove)
 
 pub invariant_of-self-2 : goal.invariant_of-self-2
-invariant_of-self-2 c = let at = goal.at.invariant_of-self-2 c in record { kept = (deleted at.After-remove_rows (c.last_removed-removed.ensures ∙ listed at.In_ok-remove)).kept }
+invariant_of-self-2 c = let at = goal.at.invariant_of-self-2 c in record { kept = (deleted at.After-forget_all (c.last_removed-removed.ensures ∙ listed at.In_ok-remove)).kept }
 
 pub returns : goal.returns
-returns c = let at = goal.at.returns c in (deleted at.After-remove_rows (c.last_removed-removed.ensures ∙ listed at.In_ok-remove)).is
+returns c = let at = goal.at.returns c in (deleted at.After-forget_all (c.last_removed-removed.ensures ∙ listed at.In_ok-remove)).is

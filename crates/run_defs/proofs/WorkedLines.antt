@@ -1,20 +1,23 @@
 -- What lines say, worked out by the definitions.
-use Rattle.std.proofs.Common.{◌≡◌, refl, true, [], ◌∷◌, map}
+use Rattle.std.proofs.Common.{◌≡◌, refl, true, false, [], ◌∷◌, map}
 use Rattle.std.specs.Prelude.{codes, Ok, Err, pos, neg_ℤ}
 use Rattle.hex.specs.Hex.{decode_pairs}
+use Rattle.gui_base.specs.Bits.{with_bit}
 use Rattle.gui_base.specs.Names.{named}
 use Rattle.gui_base.specs.declared.words.Flag.TheVariants.{Bubble}
 use Rattle.gui_base.specs.declared.words.Length.TheVariants.{Pixels}
-use Rattle.gui_base.specs.declared.words.Part.TheVariants.{Main}
-use Rattle.gui_base.specs.declared.props.Prop.TheVariants.{BgColor}
+use Rattle.gui_base.specs.declared.words.Part.TheVariants.{Main, Knob}
+use Rattle.gui_base.specs.declared.words.State.TheVariants.{Pressed}
+use Rattle.gui_base.specs.declared.props.Prop.TheVariants.{BgColor, TextAlign}
 use Rattle.scene_defs.specs.declared.Change.{Change}
 use Rattle.scene_defs.specs.declared.Change.TheVariants as change
 use Rattle.run_defs.specs.declared.Command.TheVariants.{Change as CommandOf}
 use Rattle.run_defs.specs.declared.Line.TheVariants.{Blank, Frame, Make}
 use Rattle.run_defs.specs.declared.LineFault.TheVariants.{Syntax, Range}
-use Rattle.run_defs.specs.Commands.{command_says}
+use Rattle.run_defs.specs.Commands.{command_says, state, property}
 use Rattle.run_defs.specs.Fields.{over, value, past}
 use Rattle.run_defs.specs.Numbers.{number, natural, color}
+use Rattle.run_defs.specs.Selectors.{selector_named, state_named}
 use Rattle.run_defs.specs.Script.{Said, line_says, parse}
 
 abbrev asks : Change → Said
@@ -26,16 +29,26 @@ worked : map (λ line. parse line) (
     ∷ codes "pos 12  -40 7 "
     ∷ codes "size 12 0 4000"
     ∷ codes "flag 1 bubble on"
+    ∷ codes "state 12 pressed off"
+    ∷ codes "style 7"
     ∷ codes "local 12 main bg_color #ff000A"
+    ∷ codes "use 12 7 knob:pressed+checked"
+    ∷ codes "unuse 12 7 main:user4+user4"
+    ∷ codes "set 7 text_align right"
     ∷ []) ≡
     Ok Frame
     ∷ Ok Blank
     ∷ asks (change.Pos (record { 0 = 12 }) (neg_ℤ (pos 40)) (pos 7))
     ∷ asks (change.Size (record { 0 = 12 }) (Pixels 0) (Pixels 4000))
     ∷ asks (change.Flag (record { 0 = 1 }) Bubble true)
-    ∷ asks (change.Local (record { 0 = 12 }) Main BgColor (pos 16711690))
+    ∷ asks (change.State (record { 0 = 12 }) Pressed false)
+    ∷ asks (change.Style 7)
+    ∷ asks (change.Local (record { 0 = 12 }) (record { part = Main; states = 0 }) BgColor (pos 16711690))
+    ∷ asks (change.Use (record { 0 = 12 }) 7 (record { part = Knob; states = 33 }))
+    ∷ asks (change.Unuse (record { 0 = 12 }) 7 (record { part = Main; states = 32768 }))
+    ∷ asks (change.Set 7 TextAlign (pos 2))
     ∷ []
-unfolding line_says command_says named value past over number natural color decode_pairs
+unfolding line_says command_says named value past over number natural color decode_pairs state property selector_named state_named with_bit
 worked = refl
 
 -- the form of the whole line comes before the intervals of its numbers, and what a value may be depends on the property
@@ -46,6 +59,10 @@ faults : map (λ line. parse line) (
     ∷ codes "pos 12 -4001 7 7"
     ∷ codes "local 12 main bg_opa 256"
     ∷ codes "local 12 main bg_opa #ffffff"
-    ∷ []) ≡ Err Range ∷ Err Syntax ∷ Err Syntax ∷ Err Syntax ∷ Err Range ∷ Err Syntax ∷ []
-unfolding line_says command_says named value past over number natural color decode_pairs
+    ∷ codes "set 7 pad_row 1001"
+    ∷ codes "set 7 pad_rows 1001"
+    ∷ codes "use 12 1000 main:"
+    ∷ codes "use 12 1000 main:pressed"
+    ∷ []) ≡ Err Range ∷ Err Syntax ∷ Err Syntax ∷ Err Syntax ∷ Err Range ∷ Err Syntax ∷ Err Range ∷ Err Syntax ∷ Err Syntax ∷ Err Range ∷ []
+unfolding line_says command_says named value past over number natural color decode_pairs state property selector_named state_named with_bit
 faults = refl

@@ -3,19 +3,25 @@ use Rattle.std.specs.Prelude.{ℕ, ℤ, pos, Bool, false, List, Some, None, Err}
 use Rattle.std.specs.declared.option.Option.{Option}
 use Rattle.gui_base.specs.declared.Handle.{Handle}
 use Rattle.gui_base.specs.declared.intervals.TheConstants.{HANDLE, NEW_HANDLE, INDEX, EXTENT, COORDINATE}
-use Rattle.gui_base.specs.declared.intervals.TheConstants.{OPACITY}
-use Rattle.gui_base.specs.declared.words.TheConstants.{KINDS, FLAGS, ON_OFF, PARTS, PROPS}
+use Rattle.gui_base.specs.declared.intervals.TheConstants.{STYLE}
+use Rattle.gui_base.specs.declared.words.TheConstants.{KINDS, FLAGS, ON_OFF, STATES, TEXT_ALIGNS}
 use Rattle.gui_base.specs.declared.words.Flag.{Flag}
 use Rattle.gui_base.specs.declared.words.Flag.TheVariants.{Hidden}
 use Rattle.gui_base.specs.declared.words.Kind.{Kind}
 use Rattle.gui_base.specs.declared.words.Kind.TheVariants.{Obj}
 use Rattle.gui_base.specs.declared.words.Length.{Length}
 use Rattle.gui_base.specs.declared.words.Length.TheVariants.{Pixels}
-use Rattle.gui_base.specs.declared.words.Part.{Part}
 use Rattle.gui_base.specs.declared.words.Part.TheVariants.{Main}
+use Rattle.gui_base.specs.declared.words.Selector.{Selector}
+use Rattle.gui_base.specs.declared.words.State.{State}
+use Rattle.gui_base.specs.declared.words.State.TheVariants.{Checked}
+use Rattle.gui_base.specs.declared.words.TextAlign.{TextAlign}
+use Rattle.gui_base.specs.declared.words.TextAlign.TheVariants.{Left, Center, Right}
 use Rattle.gui_base.specs.declared.props.Prop.{Prop}
-use Rattle.gui_base.specs.declared.props.Prop.TheVariants.{BgColor, BgOpa}
+use Rattle.gui_base.specs.declared.props.Prop.TheVariants as prop
+use Rattle.gui_base.specs.declared.props.TheConstants.{PROPS}
 use Rattle.gui_base.specs.Names.{table, named}
+use Rattle.gui_base.specs.Props.{values_of}
 use Rattle.scene_defs.specs.declared.Change.{Change}
 use Rattle.scene_defs.specs.declared.Change.TheVariants as change
 use Rattle.run_defs.specs.declared.Command.TheVariants.{Change as CommandOf}
@@ -26,13 +32,16 @@ use Rattle.run_defs.specs.declared.names.Name.{Name}
 use Rattle.run_defs.specs.declared.names.Name.TheVariants as name
 use Rattle.run_defs.specs.declared.names.RowName.{RowName}
 use Rattle.run_defs.specs.declared.names.RowName.TheVariants as row
+use Rattle.run_defs.specs.declared.names.StyleName.{StyleName}
+use Rattle.run_defs.specs.declared.names.StyleName.TheVariants as style
 use Rattle.run_defs.specs.declared.names.TreeName.{TreeName}
 use Rattle.run_defs.specs.declared.names.TreeName.TheVariants as tree
 use Rattle.run_defs.specs.declared.names.TheConstants.{COMMANDS}
 use Rattle.run_defs.specs.Fields.{Field, Progress, Made, number_in, count_in, over, name_in, fields, ◌▹◌}
-use Rattle.run_defs.specs.Fields.{with_two, start, ended}
+use Rattle.run_defs.specs.Fields.{or_syntax, with_two, start, ended}
 use Rattle.run_defs.specs.Language.{Word, Reading}
 use Rattle.run_defs.specs.Numbers.{color}
+use Rattle.run_defs.specs.Selectors.{selector_named}
 
 abbrev pub handle : Field Handle
 handle = over (λ n. record { 0 = n }) (count_in HANDLE)
@@ -59,16 +68,42 @@ flag = name_in (table {A = Flag} FLAGS) Hidden
 abbrev pub switch : Field Bool
 switch = name_in (table {A = Bool} ON_OFF) false
 
-abbrev pub part : Field Part
-part = name_in (table {A = Part} PARTS) Main
+unfoldable pub state : Field State
+state = name_in (table {A = State} STATES) Checked
 
-abbrev pub property : Field Prop
-property = name_in (table {A = Prop} PROPS) BgColor
+-- the number of a style
+abbrev pub style_number : Field ℕ
+style_number = count_in STYLE
+
+abbrev pub selector : Field Selector
+selector = record {
+  says = λ word. or_syntax (selector_named word);
+  stand_in = record { part = Main; states = 0 };
+}
+
+unfoldable pub property : Field Prop
+property = name_in (table {A = Prop} PROPS) prop.BgColor
+
+abbrev pub color_value : Field ℤ
+color_value = record { says = color; stand_in = pos 0 }
+
+-- the number of an alignment of a text
+abbrev pub align_number : TextAlign → ℤ
+align_number Left = pos 0
+align_number Center = pos 1
+align_number Right = pos 2
+
+abbrev pub align_value : Field ℤ
+align_value = over align_number (name_in (table {A = TextAlign} TEXT_ALIGNS) Left)
 
 -- a value of a property
 abbrev pub value_for : Prop → Field ℤ
-value_for BgColor = record { says = color; stand_in = pos 0 }
-value_for BgOpa = number_in OPACITY
+value_for prop.BgColor = color_value
+value_for prop.BorderColor = color_value
+value_for prop.ImgRecolor = color_value
+value_for prop.TextColor = color_value
+value_for prop.TextAlign = align_value
+value_for prop = number_in (values_of prop)
 
 -- the changes of the trees
 abbrev pub tree_fields : TreeName → Progress → Made Change
@@ -84,9 +119,19 @@ tree_fields tree.Load at = fields change.Load at ▹ handle
 -- the changes of one object's row
 abbrev pub row_fields : RowName → Progress → Made Change
 row_fields row.Flag at = fields change.Flag at ▹ handle ▹ flag ▹ switch
+row_fields row.State at = fields change.State at ▹ handle ▹ state ▹ switch
 row_fields row.Pos at = fields change.Pos at ▹ handle ▹ coordinate ▹ coordinate
 row_fields row.Size at = fields change.Size at ▹ handle ▹ extent ▹ extent
-row_fields row.Local at = with_two (fields change.Local at ▹ handle ▹ part) property value_for
+
+-- the changes of styles
+abbrev pub style_fields : StyleName → Progress → Made Change
+style_fields style.Style at = fields change.Style at ▹ style_number
+style_fields style.Set at = with_two (fields change.Set at ▹ style_number) property value_for
+style_fields style.Unset at = fields change.Unset at ▹ style_number ▹ property
+style_fields style.Use at = fields change.Use at ▹ handle ▹ style_number ▹ selector
+style_fields style.Unuse at = fields change.Unuse at ▹ handle ▹ style_number ▹ selector
+style_fields style.Local at = with_two (fields change.Local at ▹ handle ▹ selector) property value_for
+style_fields style.Unlocal at = fields change.Unlocal at ▹ handle ▹ selector ▹ property
 
 -- the line of a change
 abbrev pub change_line : Made Change → Made Line
@@ -96,6 +141,7 @@ abbrev pub line_fields : Name → Progress → Made Line
 line_fields name.Frame at = fields Frame at
 line_fields (name.Tree n) at = change_line (tree_fields n at)
 line_fields (name.Row n) at = change_line (row_fields n at)
+line_fields (name.Style n) at = change_line (style_fields n at)
 
 abbrev pub named_says : Option Name → List Word → Reading Line
 named_says None words = Err Syntax

@@ -6,6 +6,7 @@ pub mod Machine
 pub mod Numbers
 pub mod Run
 pub mod Script
+pub mod Selectors
 pub mod Step
 pub mod Why
 pub mod Words

@@ -17,9 +17,21 @@ pub enum TreeName {
 #[derive(Clone, Copy)]
 pub enum RowName {
     Flag,
+    State,
     Pos,
     Size,
+}
+
+/// A change of styles.
+#[derive(Clone, Copy)]
+pub enum StyleName {
+    Style,
+    Set,
+    Unset,
+    Use,
+    Unuse,
     Local,
+    Unlocal,
 }
 
 /// The first word of a line that is neither blank nor a comment.
@@ -28,10 +40,11 @@ pub enum Name {
     Frame,
     Tree(TreeName),
     Row(RowName),
+    Style(StyleName),
 }
 
 /// The names of all commands.
-pub const COMMANDS: [(&'static str, Name); 13] = [
+pub const COMMANDS: [(&'static str, Name); 20] = [
     ("frame", Name::Frame),
     ("screen", Name::Tree(TreeName::Screen)),
     ("new", Name::Tree(TreeName::New)),
@@ -42,7 +55,14 @@ pub const COMMANDS: [(&'static str, Name); 13] = [
     ("back", Name::Tree(TreeName::Back)),
     ("load", Name::Tree(TreeName::Load)),
     ("flag", Name::Row(RowName::Flag)),
+    ("state", Name::Row(RowName::State)),
     ("pos", Name::Row(RowName::Pos)),
     ("size", Name::Row(RowName::Size)),
-    ("local", Name::Row(RowName::Local)),
+    ("style", Name::Style(StyleName::Style)),
+    ("set", Name::Style(StyleName::Set)),
+    ("unset", Name::Style(StyleName::Unset)),
+    ("use", Name::Style(StyleName::Use)),
+    ("unuse", Name::Style(StyleName::Unuse)),
+    ("local", Name::Style(StyleName::Local)),
+    ("unlocal", Name::Style(StyleName::Unlocal)),
 ];

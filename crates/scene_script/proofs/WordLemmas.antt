@@ -1,38 +1,29 @@
 -- How the words of a line are cut off one at a time.
-use Rattle.std.proofs.Common.{◌≡◌, ◌≢◌, ◌∙◌, refl, sym, ap, ℕ, ◌<◌, Bool, true, false, List, [], ◌∷◌, length, take, drop, arith, not, one-add, length-take}
-use Rattle.std.proofs.lemmas.List.Folds.{length-prefix_len}
-use Rattle.std.specs.Prelude.{Some, filter, slice_get, position, unwrap_or}
-use Rattle.std.specs.declared.option.Option.{Option}
-use Rattle.std.specs.List.{slice_split, position_or_len}
+use Rattle.std.proofs.Common.{◌≡◌, ◌≢◌, refl, ℕ, ◌+◌, ◌-◌, ◌<◌, Bool, List, [], ◌∷◌, length, take, drop, arith, length-drop}
+use Rattle.std.proofs.lemmas.List.{take_all}
+use Rattle.std.proofs.lemmas.List.Splits.{slice_split_first}
+use Rattle.std.specs.Prelude.{Some, None, filter, slice_get, position, is_some}
+use Rattle.std.specs.List.{slice_split, list_any}
 use Rattle.std.proofs.lemmas.Bool.Decides.{nat_tests}
 use Rattle.run_defs.specs.Language.{Word, words_of, is_space, has_a_byte}
 
--- what stands before the first space, and the words after it
-abbrev Parted : List ℕ → Type 0
-Parted bs =
-    (rest : List Word) × (slice_split is_space bs ≡ take (position_or_len is_space bs) bs ∷ rest) × (filter has_a_byte rest ≡ words_of (drop (position_or_len is_space bs) bs))
+pub any_position : (p : ℕ → Bool) (bs : List ℕ) → list_any p bs ≡ is_some (position p bs)
+any_position p [] = refl
+any_position p (b ∷ bs) = grind (arith, nat_tests, any_position p bs)
 
-parted_by : (b : ℕ) (bs : List ℕ) (t : Bool) → is_space b ≡ t → Parted bs → Parted (b ∷ bs)
-parted_by b bs true e h =
-    let here : words_of (b ∷ bs) ≡ words_of bs = rw e refl in
-    rw e (slice_split is_space bs, refl, sym here)
-parted_by b bs false e h = rw (e, one-add, h.1) (h.0, refl, h.2)
+-- bytes are one piece where no byte cuts them
+pub one_piece : (p : ℕ → Bool) (bs : List ℕ) → position p bs ≡ None → slice_split p bs ≡ bs ∷ []
+one_piece p [] e = refl
+one_piece p (b ∷ bs) e = grind (arith, nat_tests, one_piece p bs)
 
-parted : (bs : List ℕ) → Parted bs
-parted [] = ([], refl, refl)
-parted (b ∷ bs) = parted_by b bs (is_space b) refl (parted bs)
+-- else the first piece ends at the first that does
+pub first_piece : (p : ℕ → Bool) (bs : List ℕ) (i : ℕ) → position p bs ≡ Some i → slice_split p bs ≡ take i bs ∷ slice_split p (take (length bs - (i + 1)) (drop (i + 1) bs))
+first_piece p bs i e = grind (arith, nat_tests, slice_split_first p bs 0, take_all, length-drop)
 
--- a place, or the end
-place_or_end : (xs : List ℕ) → unwrap_or (position is_space xs) (length xs) ≡ position_or_len is_space xs
-place_or_end xs =
-    grind (arith, nat_tests, length-prefix_len (λ (b : ℕ). not (is_space b)) xs, length-take (position_or_len is_space xs) xs)
+pub ruleset cuts = (any_position, one_piece, first_piece)
 
--- the first word of bytes that begin with it
-pub word_cut : (bs : List ℕ) (o : Option ℕ) → o ≡ position is_space bs → 0 < length bs → slice_get bs 0 ≢ Some 32 →
-    words_of bs ≡ take (unwrap_or o (length bs)) bs ∷ words_of (drop (unwrap_or o (length bs)) bs)
-word_cut [] o s l n = absurd (omega arith)
-word_cut (b ∷ bs) o s l n =
-    let solid : is_space b ≡ false = grind (arith, nat_tests, n) in
-    let cut = parted (b ∷ bs) in
-    let some : has_a_byte (take (position_or_len is_space (b ∷ bs)) (b ∷ bs)) ≡ true = rw (solid, one-add) refl in
-    rw (s, place_or_end (b ∷ bs)) (ap (filter has_a_byte) cut.1 ∙ rw (some, cut.2) refl)
+-- bytes that begin with no space begin with a word
+pub first_word : (bs : List ℕ) (word : Word) (rest : List Word) → slice_split is_space bs ≡ word ∷ rest → 0 < length bs → slice_get bs 0 ≢ Some 32 →
+    words_of bs ≡ word ∷ filter has_a_byte rest
+first_word [] word rest e h n = absurd (omega arith)
+first_word (b ∷ bs) word rest e h n = grind (arith, nat_tests, n, e)

@@ -1,13 +1,13 @@
 //! The commands, each by its fields in their order.
 ghost use Rattle.std.specs.Prelude.{◌≡◌};
-ghost use Rattle.run_defs.specs.Commands.{tree_fields, row_fields, line_fields, command_says};
+ghost use Rattle.run_defs.specs.Commands.{tree_fields, row_fields, style_fields, line_fields, command_says};
 ghost use Rattle.run_defs.specs.Language.{words_of};
 
 use crate::fields::Fields;
-use gui_base::intervals::{COORDINATE, INDEX};
+use gui_base::intervals::{COORDINATE, INDEX, STYLE};
 use gui_base::named;
-use gui_base::words::{FLAGS, Flag, KINDS, Kind, ON_OFF, PARTS, PROPS, Part, Prop};
-use run_defs::{COMMANDS, Command, Line, LineFault, Name, RowName, TreeName};
+use gui_base::words::{FLAGS, Flag, KINDS, Kind, ON_OFF};
+use run_defs::{COMMANDS, Command, Line, LineFault, Name, RowName, StyleName, TreeName};
 use scene_defs::Change;
 
 /// What a name and the words after it say.
@@ -31,6 +31,7 @@ fn line(name: Name, fields: &mut Fields) -> Line
         Name::Frame => Line::Frame,
         Name::Tree(name) => Line::Make(Command::Change(tree_change(name, fields))),
         Name::Row(name) => Line::Make(Command::Change(row_change(name, fields))),
+        Name::Style(name) => Line::Make(Command::Change(style_change(name, fields))),
     }
 }
 
@@ -64,17 +65,36 @@ fn row_change(name: RowName, line: &mut Fields) -> Change
             line.name(&FLAGS, Flag::Hidden),
             line.name(&ON_OFF, false),
         ),
+        RowName::State => Change::State(line.handle(), line.state(), line.name(&ON_OFF, false)),
         RowName::Pos => Change::Pos(
             line.handle(),
             line.number(COORDINATE),
             line.number(COORDINATE),
         ),
         RowName::Size => Change::Size(line.handle(), line.extent(), line.extent()),
-        RowName::Local => {
-            let h = line.handle();
-            let part = line.name(&PARTS, Part::Main);
-            let prop = line.name(&PROPS, Prop::BgColor);
-            Change::Local(h, part, prop, line.value(prop))
+    }
+}
+
+fn style_change(name: StyleName, line: &mut Fields) -> Change
+    ensures made { result ≡ (style_fields name line.old).made }
+    ensures state { line.new ≡ (style_fields name line.old).at }
+{
+    match name {
+        StyleName::Style => Change::Style(line.count(STYLE)),
+        StyleName::Set => {
+            let style = line.count(STYLE);
+            let prop = line.property();
+            Change::Set(style, prop, line.value(prop))
         }
+        StyleName::Unset => Change::Unset(line.count(STYLE), line.property()),
+        StyleName::Use => Change::Use(line.handle(), line.count(STYLE), line.selector()),
+        StyleName::Unuse => Change::Unuse(line.handle(), line.count(STYLE), line.selector()),
+        StyleName::Local => {
+            let h = line.handle();
+            let selector = line.selector();
+            let prop = line.property();
+            Change::Local(h, selector, prop, line.value(prop))
+        }
+        StyleName::Unlocal => Change::Unlocal(line.handle(), line.selector(), line.property()),
     }
 }

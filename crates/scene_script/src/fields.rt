@@ -1,15 +1,19 @@
 //! The fields of a line, taken one after another.
 ghost use Rattle.std.specs.Prelude.{◌≡◌};
 ghost use Rattle.gui_base.specs.Names.{slice};
-ghost use Rattle.run_defs.specs.Commands.{handle, new_handle, extent, value_for};
+ghost use Rattle.run_defs.specs.Commands.{handle, new_handle, extent, state, selector, property};
+ghost use Rattle.run_defs.specs.Commands.{color_value, align_value, value_for};
 ghost use Rattle.run_defs.specs.Fields.{number_in, count_in, name_in, value, past, value_or, with_fault};
 ghost use Rattle.run_defs.specs.Fields.{next_of, after_next, fields, start, ended};
 ghost use Rattle.run_defs.specs.Language.{first_fault, words_of};
 
 use crate::numbers::{color, count, number};
+use crate::selectors::selector;
 use crate::words::next_word;
-use gui_base::intervals::{Count, EXTENT, HANDLE, Interval, NEW_HANDLE, OPACITY};
-use gui_base::{Handle, Length, Prop, named};
+use gui_base::intervals::{Count, EXTENT, HANDLE, Interval, NEW_HANDLE};
+use gui_base::props::PROPS;
+use gui_base::words::{STATES, TEXT_ALIGNS, TextAlign};
+use gui_base::{Handle, Length, Part, Prop, Selector, State, named};
 use run_defs::LineFault;
 use std::marker::Model;
 
@@ -97,19 +101,67 @@ impl<'a> Fields<'a> {
         self.note(named(names, word).ok_or(LineFault::Syntax), stand_in)
     }
 
-    /// A value of a property.
+    /// A state.
+    #[tactic(auto, unfolding(run_defs::specs::Commands::state))]
+    pub(crate) fn state(&mut self) -> State
+        ensures value { result ≡ value state self.old }
+        ensures state { self.new ≡ past state self.old }
+    {
+        self.name(&STATES, State::Checked)
+    }
+
+    /// A property.
+    #[tactic(auto, unfolding(run_defs::specs::Commands::property))]
+    pub(crate) fn property(&mut self) -> Prop
+        ensures value { result ≡ value property self.old }
+        ensures state { self.new ≡ past property self.old }
+    {
+        self.name(&PROPS, Prop::BgColor)
+    }
+
+    /// A part and states.
     #[tactic(auto, unfolding(run_defs::specs::Fields::value, run_defs::specs::Fields::past))]
+    pub(crate) fn selector(&mut self) -> Selector
+        ensures value { result ≡ value selector self.old }
+        ensures state { self.new ≡ past selector self.old }
+    {
+        let stand_in = Selector {
+            part: Part::Main,
+            states: 0,
+        };
+        let word = self.word();
+        self.note(selector(word).ok_or(LineFault::Syntax), stand_in)
+    }
+
+    /// A value of a property.
     pub(crate) fn value(&mut self, prop: Prop) -> i32
         ensures value { result ≡ value (value_for prop) self.old }
         ensures state { self.new ≡ past (value_for prop) self.old }
     {
         match prop {
-            Prop::BgColor => {
-                let word = self.word();
-                self.note(color(word), 0)
-            }
-            Prop::BgOpa => self.number(OPACITY),
+            Prop::BgColor | Prop::BorderColor | Prop::ImgRecolor | Prop::TextColor => self.color(),
+            Prop::TextAlign => self.align(),
+            _ => self.number(prop.values()),
         }
+    }
+
+    /// A colour.
+    #[tactic(auto, unfolding(run_defs::specs::Fields::value, run_defs::specs::Fields::past))]
+    fn color(&mut self) -> i32
+        ensures value { result ≡ value color_value self.old }
+        ensures state { self.new ≡ past color_value self.old }
+    {
+        let word = self.word();
+        self.note(color(word), 0)
+    }
+
+    /// The number of an alignment of a text.
+    #[tactic(auto, using(run_defs::proofs::Fields::overs))]
+    fn align(&mut self) -> i32
+        ensures value { result ≡ value align_value self.old }
+        ensures state { self.new ≡ past align_value self.old }
+    {
+        self.name(&TEXT_ALIGNS, TextAlign::Left) as i32
     }
 
     /// What the line says, where this was its last field.

@@ -7,6 +7,7 @@ mod fields;
 mod numbers;
 mod parse;
 mod refusals;
+mod selectors;
 mod words;
 
 pub use cutter::{Cut, Cutter};

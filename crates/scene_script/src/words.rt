@@ -1,9 +1,11 @@
 //! The words of a line.
-ghost use Rattle.std.specs.Prelude.{◌≡◌, ◌≢◌, ◌∷◌, [], Some, position, slice_get, IfNone, IfSome};
-ghost use Rattle.run_defs.specs.Language.{words_of, is_space, is_comment};
+ghost use Rattle.std.specs.Prelude.{◌≡◌, ◌≢◌, ◌∷◌, [], ◌==◌, Some, position, slice_get, IfNone, IfSome, is_some};
+ghost use Rattle.std.specs.List.{slice_split, before_first, after_first, list_any};
+ghost use Rattle.std.specs.Option.{option_map_or};
+ghost use Rattle.run_defs.specs.Language.{words_of, is_comment};
 
 /// The first word of these bytes, and what follows it.
-#[tactic(auto, using(crate::proofs::WordLemmas::word_cut))]
+#[tactic(auto, using(crate::proofs::WordLemmas::first_word))]
 pub(crate) fn next_word(bytes: &[u8]) -> Option<(&[u8], &[u8])>
     ensures none { IfNone result (words_of bytes.now ≡ []) }
     ensures word { IfSome result (λ t. words_of bytes.now ≡ t.0.now ∷ words_of t.1.now) }
@@ -12,15 +14,30 @@ pub(crate) fn next_word(bytes: &[u8]) -> Option<(&[u8], &[u8])>
     if from.is_empty() {
         return None;
     }
-    let end = first_space(from).unwrap_or(from.len());
-    Some(from.split_at(end))
+    let (word, rest) = cut(from, b' ');
+    Some((word, rest.unwrap_or(b"")))
 }
 
-/// Where the first space stands.
-fn first_space(bytes: &[u8]) -> Option<usize>
-    ensures { result ≡ position is_space bytes.now }
+/// What stands before the first such byte, and what stands behind it, where there is one.
+#[tactic(auto, using(crate::proofs::WordLemmas::cuts))]
+pub(crate) fn cut(bytes: &[u8], at: u8) -> (&[u8], Option<&[u8]>)
+    ensures before { result.0.now ≡ before_first (λ b. b == at) bytes.now }
+    ensures behind { IfSome result.1 (λ rest. rest.now ≡ after_first (λ b. b == at) bytes.now) }
+    ensures found { is_some result.1 ≡ list_any (λ b. b == at) bytes.now }
+    ensures pieces { slice_split (λ b. b == at) bytes.now
+        ≡ result.0.now ∷ option_map_or (λ rest. slice_split (λ b. b == at) rest.now) result.1 [] }
 {
-    bytes.iter().position(|b| *b == b' ')
+    match position(bytes, at) {
+        None => (bytes, None),
+        Some(end) => (&bytes[..end], Some(&bytes[end + 1..])),
+    }
+}
+
+/// Where the first such byte stands.
+fn position(bytes: &[u8], at: u8) -> Option<usize>
+    ensures { result ≡ position (λ b. b == at) bytes.now }
+{
+    bytes.iter().position(|b| *b == at)
 }
 
 /// The bytes from the first that is no space.

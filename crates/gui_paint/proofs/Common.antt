@@ -21,8 +21,8 @@ pub use Rattle.gui_base.specs.declared.words.Kind.{Kind}
 pub use Rattle.gui_base.specs.declared.words.Kind.TheVariants.{Screen}
 pub use Rattle.gui_base.specs.declared.words.Length.{Length}
 pub use Rattle.gui_base.specs.declared.words.Length.TheVariants.{Pixels}
-pub use Rattle.gui_base.specs.declared.words.Prop.{Prop}
-pub use Rattle.gui_base.specs.declared.words.Prop.TheVariants.{BgColor, BgOpa}
+pub use Rattle.gui_base.specs.declared.props.Prop.{Prop}
+pub use Rattle.gui_base.specs.declared.props.Prop.TheVariants.{BgColor, BgOpa}
 pub use Rattle.gui_color.specs.Buffer.{Buffer, pixel_at}
 pub use Rattle.gui_draw.specs.Drawing.{Draws}
 pub use Rattle.gui_paint.specs.Painting.{Painting, Leaves, Paints, IsSeenPart, IsUnseen, no_more, is_seen, painted, painted_items, painted_tree, painted_scene}

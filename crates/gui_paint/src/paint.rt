@@ -1,7 +1,7 @@
 //! Painting a scene into a draw buffer.
 ghost use Rattle.std.specs.Prelude.{◌≡◌, MatchOption, IsSome, Some, option_map};
 ghost use Rattle.gui_base.specs.Corners.{rect_of};
-ghost use Rattle.gui_base.specs.declared.words.Prop.TheVariants.{BgColor};
+ghost use Rattle.gui_base.specs.declared.props.Prop.TheVariants.{BgColor};
 ghost use Rattle.scene_defs.specs.Items.{items_of, rgb_of};
 ghost use Rattle.scene_defs.specs.Place.{pixels_of, wanted_in, place as place_of};
 ghost use Rattle.scene_defs.specs.Placing.{IsNear};

@@ -15,13 +15,10 @@ use Rattle.gui_base.specs.declared.intervals.Interval.{Interval}
 use Rattle.gui_base.specs.declared.intervals.TheConstants.{HANDLE, NEW_HANDLE, INDEX, EXTENT, COORDINATE, COLOR, STYLE, TEXT_ALIGN}
 use Rattle.gui_base.specs.declared.words.Kind.TheVariants.{Obj}
 use Rattle.gui_base.specs.declared.words.TextAlign.{TextAlign}
-use Rattle.gui_base.specs.declared.words.TextAlign.TheVariants.{Left, Center, Right}
 use Rattle.gui_base.specs.declared.props.Prop.{Prop}
 use Rattle.gui_base.specs.declared.props.Prop.TheVariants as prop
 use Rattle.gui_base.specs.Props.{is_value, values_of}
-use Rattle.scene_defs.specs.Ranges.{is_in_range}
 use Rattle.scene_defs.specs.Row.{is_size}
-use Rattle.scene_defs.specs.Valid.{IsChange}
 use Rattle.run_defs.specs.declared.names.Name.{Name}
 use Rattle.run_defs.specs.declared.names.Name.TheVariants as name
 use Rattle.run_defs.specs.declared.names.RowName.{RowName}
@@ -32,7 +29,7 @@ use Rattle.run_defs.specs.declared.names.TreeName.{TreeName}
 use Rattle.run_defs.specs.declared.names.TreeName.TheVariants as tree
 use Rattle.run_defs.specs.declared.names.TheConstants.{COMMANDS}
 use Rattle.run_defs.specs.Commands.{handle, new_handle, index, extent, coordinate, kind, style_number, color_value, align_number, value_for}
-use Rattle.run_defs.specs.Commands.{tree_fields, row_fields, style_fields, line_fields, named_says, command_says}
+use Rattle.run_defs.specs.Commands.{tree_fields, row_fields, style_fields, change_line, line_fields, named_says, command_says}
 use Rattle.run_defs.specs.Fields.{Progress, number_in, count_in, value, start}
 use Rattle.run_defs.specs.Language.{Word, mapped, words_of}
 use Rattle.run_defs.specs.Laws.{IsInRange, SaysInRange}
@@ -101,9 +98,7 @@ color_value-in : (at : Progress) → is_within COLOR (value color_value at) ≡ 
 color_value-in at = value-is color_value (is_within COLOR) refl color-ok at
 
 align-in : (align : TextAlign) → is_within TEXT_ALIGN (align_number align) ≡ true
-align-in Left = refl
-align-in Center = refl
-align-in Right = refl
+align-in align = grind arith
 
 value-in : (prop : Prop) (at : Progress) → is_value prop (value (value_for prop) at) ≡ true
 value-in prop.BgColor at = color_value-in at
@@ -115,40 +110,28 @@ value-in prop at = number-in (values_of prop) refl at
 
 ruleset inside = (handle-in, new_handle-in, index-in, extent-in, coordinate-in, style_number-in, value-in)
 
-tree-in : (name : TreeName) (at : Progress) → is_in_range (tree_fields name at).made ≡ true
-tree-in tree.New at = simp inside
-tree-in name at = simp inside
-
-row-in : (name : RowName) (at : Progress) → is_in_range (row_fields name at).made ≡ true
-row-in row.Flag at = simp inside
-row-in name at = simp inside
-
-style-in : (name : StyleName) (at : Progress) → is_in_range (style_fields name at).made ≡ true
-style-in style.Set at = simp inside
-style-in name at = simp inside
-
 -- a command makes no kind that only roots have
 kind-is : (at : Progress) → value kind at ≡ Obj
 unfolding value named
 kind-is at = grind arith
 
-tree-is : (name : TreeName) (at : Progress) → IsChange (tree_fields name at).made
-tree-is tree.New at = kind-is _
-tree-is name at = tt
+tree-in : (name : TreeName) (at : Progress) → IsInRange (Ok (change_line (tree_fields name at)).made)
+tree-in tree.New at = (simp inside, kind-is _)
+tree-in name at = (simp inside, tt)
 
-row-is : (name : RowName) (at : Progress) → IsChange (row_fields name at).made
-row-is row.Flag at = tt
-row-is name at = tt
+row-in : (name : RowName) (at : Progress) → IsInRange (Ok (change_line (row_fields name at)).made)
+row-in row.Flag at = (simp inside, tt)
+row-in name at = (simp inside, tt)
 
-style-is : (name : StyleName) (at : Progress) → IsChange (style_fields name at).made
-style-is style.Set at = tt
-style-is name at = tt
+style-in : (name : StyleName) (at : Progress) → IsInRange (Ok (change_line (style_fields name at)).made)
+style-in style.Style at = (simp inside, tt)
+style-in name at = (simp inside, tt)
 
 line-in : (name : Name) (at : Progress) → IsInRange (Ok (line_fields name at).made)
 line-in name.Frame at = tt
-line-in (name.Tree n) at = (tree-in n at, tree-is n at)
-line-in (name.Row n) at = (row-in n at, row-is n at)
-line-in (name.Style n) at = (style-in n at, style-is n at)
+line-in (name.Tree n) at = tree-in n at
+line-in (name.Row n) at = row-in n at
+line-in (name.Style n) at = style-in n at
 
 words-in : (words : List Word) → IsInRange (words_say words)
 unfolding command_says

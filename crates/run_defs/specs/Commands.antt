@@ -123,7 +123,7 @@ row_fields row.State at = fields change.State at ▹ handle ▹ state ▹ switch
 row_fields row.Pos at = fields change.Pos at ▹ handle ▹ coordinate ▹ coordinate
 row_fields row.Size at = fields change.Size at ▹ handle ▹ extent ▹ extent
 
--- the changes of styles
+-- the changes of styles, and of what an object has of them
 abbrev pub style_fields : StyleName → Progress → Made Change
 style_fields style.Style at = fields change.Style at ▹ style_number
 style_fields style.Set at = with_two (fields change.Set at ▹ style_number) property value_for

@@ -22,7 +22,7 @@ pub enum RowName {
     Size,
 }
 
-/// A change of styles.
+/// A change of styles, or of what an object has of them.
 #[derive(Clone, Copy)]
 pub enum StyleName {
     Style,

@@ -1,5 +1,6 @@
 //! The words of a line.
-ghost use Rattle.std.specs.Prelude.{◌≡◌, ◌≢◌, ◌∷◌, [], ◌==◌, Some, position, slice_get, IfNone, IfSome, is_some};
+ghost use Rattle.std.specs.Prelude.{◌≡◌, ◌≢◌, ◌==◌, [], ◌∷◌, Some, IfNone, IfSome, is_some, position};
+ghost use Rattle.std.specs.Prelude.{slice_get};
 ghost use Rattle.std.specs.List.{slice_split, before_first, after_first, list_any};
 ghost use Rattle.std.specs.Option.{option_map_or};
 ghost use Rattle.run_defs.specs.Language.{words_of, is_comment};

@@ -170,9 +170,12 @@ impl Store {
             Change::Front(h) => self.tree.move_to_index(h, u16::MAX),
             Change::Back(h) => self.tree.move_to_index(h, 0),
             Change::Load(h) => self.load(h),
-            Change::Flag(_, _, _) | Change::State(_, _, _) => self.change_row(change),
-            Change::Pos(_, _, _) | Change::Size(_, _, _) => self.change_row(change),
-            _ => self.change_styles(change),
+            Change::Style(_) | Change::Set(_, _, _) | Change::Unset(_, _) => {
+                self.change_styles(change)
+            }
+            Change::Use(_, _, _) | Change::Unuse(_, _, _) => self.change_styles(change),
+            Change::Local(_, _, _, _) | Change::Unlocal(_, _, _) => self.change_styles(change),
+            _ => self.change_row(change),
         }
     }
 

@@ -101,15 +101,4 @@ module _ (b : Book) where
     freed = of_entries 1;
     after = book.without_local b h.0 selector prop;
   })
-  styling_of (change.Screen n) = None
-  styling_of (change.New n p kind) = None
-  styling_of (change.Delete h) = None
-  styling_of (change.Parent h p) = None
-  styling_of (change.Index h n) = None
-  styling_of (change.Front h) = None
-  styling_of (change.Back h) = None
-  styling_of (change.Load h) = None
-  styling_of (change.Flag h flag on) = None
-  styling_of (change.State h state on) = None
-  styling_of (change.Pos h x y) = None
-  styling_of (change.Size h width height) = None
+  styling_of change = None

@@ -1,24 +1,18 @@
 -- The headline from the reading.
-use Rattle.std.proofs.Common.{◌≡◌, refl, subst, sym, [], ◌*◌, ◌≤◌, arith}
+use Rattle.std.proofs.Common.{◌≡◌, subst, sym, [], arith}
 use Rattle.std.specs.Prelude.{Some, None, ℕ}
 use Rattle.std.specs.declared.option.Option.{Option}
 use Rattle.std.proofs.KnownBytes.{Appends-nil}
-use Rattle.std.proofs.lemmas.Nat.{mul-le}
 use Rattle.gui_base.specs.Limits.{Bounds}
 use Rattle.run_defs.specs.Machine.{Machine, first_machine}
-use Rattle.gui_edge.specs.Panel.{PanelState, Opens, HasSizes}
+use Rattle.gui_edge.specs.Panel.{PanelState, Opens}
 use Rattle.gui_edge.proofs.Telling.{keeps_telling-some}
 use Rattle.scene_run.specs.Effects.{PanelEffects}
 use Rattle.scene_run.specs.Headline.{Outside, Runs, Headline}
 use Rattle.scene_run.specs.declared.status.Status.{Status}
 use Rattle.scene_run.specs.declared.status.Status.TheVariants.{PanelFault, NoMemory}
 
--- a panel that was just opened has the sizes
-pub opened_sizes : (old new : PanelState) (limits : Bounds) → Opens old new limits.width limits.height (limits.width * limits.lines) → 1 ≤ limits.width → 1 ≤ limits.lines → HasSizes new limits
-opened_sizes old new limits opens width lines =
-    subst (λ (s : PanelState). HasSizes s limits) (sym opens.is) (record { width_is = refl; height_is = refl; limit_is = refl; opened = mul-le 1 1 limits.width limits.lines width lines })
-
--- opening it answers no line
+-- opening a panel answers no line
 pub opened_effects : (old new : PanelState) (width height limit : ℕ) → Opens old new width height limit → PanelEffects old new None []
 opened_effects old new width height limit opens =
     subst (λ (s : PanelState). PanelEffects old s None []) (sym opens.is) (record {

@@ -60,6 +60,7 @@ impl Runner {
     }
 
     /// Answers a line.
+    #[tactic(auto, using(crate::proofs::Going::halts_at))]
     fn take_line<L: Sink, P: Panel>(
         &mut self,
         said: Result<Line, LineFault>,
@@ -106,6 +107,7 @@ impl Runner {
     }
 
     /// Takes a byte of the script.
+    #[tactic(auto, using(crate::proofs::Bytes::reads_byte))]
     fn take_byte<L: Sink, P: Panel>(
         &mut self,
         byte: u8,
@@ -123,6 +125,7 @@ impl Runner {
     }
 
     /// Takes a piece of the script.
+    #[tactic(auto, using(crate::proofs::Bytes::reads_none))]
     pub fn take_piece<L: Sink, P: Panel>(
         &mut self,
         piece: &[u8],

@@ -1,11 +1,7 @@
 use Rattle.std.proofs.Common.{ap, ◌∙◌}
 use Rattle.gui_core.specs.Machines.{machine_of}
-use Rattle.gui_edge.proofs.Prefixes.{on_err}
-use Rattle.scene_run.proofs.Going.{goes_on_one, halts_at}
+use Rattle.scene_run.proofs.Going.{goes_on_one}
 use Rattle.scene_run.proofs.runner.Runner.take_line.Goals as goal
-
-pub returns-in_err-end-clause-err : goal.returns-in_err-end-clause-err
-returns-in_err-end-clause-err g c = on_err c.from_residual.result (halts_at _ _ c.args.said c.in_err-end.ensures.err c.in_err-end.ensures.sizes)
 
 pub returns-clause-ok : goal.returns-clause-ok
 returns-clause-ok g c =

@@ -2,14 +2,11 @@ use Rattle.std.proofs.Common.{◌≡◌, ◌<◌, ℕ, List, ◌∷◌, ◌++◌
 use Rattle.std.proofs.lemmas.List.{take_more, drop_more, take-append-drop}
 use Rattle.gui_edge.proofs.Prefixes.{on_err}
 use Rattle.scene_run.proofs.Going.{ready_less}
-use Rattle.scene_run.proofs.Bytes.{reads_none, reads_more, stops_more}
+use Rattle.scene_run.proofs.Bytes.{reads_more, stops_more}
 use Rattle.scene_run.proofs.runner.Runner.take_piece.Goals as goal
 
 cut_at : (bytes : List ℕ) (i : ℕ) → i < length bytes → bytes ≡ take i bytes ++ (get_or bytes i 0 ∷ drop (i + 1) bytes)
 cut_at bytes i lt = sym (take-append-drop i bytes) ∙ ap (λ (t : List ℕ). take i bytes ++ t) (drop_more bytes i 0 lt)
-
-pub loop-byte-init : goal.loop-byte-init
-loop-byte-init g c = reads_none _
 
 pub take_byte-requires : goal.take_byte-requires
 take_byte-requires g c = record { ready = c.loop-byte.invariant.ready 1 (ready_less _ _ _ (omega (arith, length-take c.loop-byte.byte-index c.args.piece.now)) c.requires.ready) }

@@ -17,7 +17,7 @@ pub use Rattle.gui_base.specs.declared.pools.TheConstants.{POOLS}
 pub use Rattle.gui_base.specs.declared.refusal.Refusal.{Refusal}
 pub use Rattle.gui_base.specs.declared.refusal.Refusal.TheVariants.{Full, Unknown, Kind as WrongKind}
 pub use Rattle.gui_pool.specs.Table.{Table, value_at, value_inserted, value_replaced, value_removed}
-pub use Rattle.gui_tree.specs.Handles.{numbers}
+pub use Rattle.gui_tree.specs.Handles.{numbers, as_handle}
 pub use Rattle.gui_tree.specs.Trees.{Answer, full_answer, Trees, opened, add_root_answer, add_answer, remove_answer, move_answer, set_parent_answer, with_root, with_child, at_index, below, moved_below, without as without_tree, without}
 pub use Rattle.scene_defs.proofs.Changes.{tests-fail, room_in_range, none_short, one_short, first-then, first-some, sets_row_alone}
 pub use Rattle.scene_defs.proofs.Totals.{total, total-cut, total-parts, one, one_at, size-total, count-total}

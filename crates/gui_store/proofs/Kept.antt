@@ -4,6 +4,7 @@ use Rattle.std.proofs.lemmas.Bool.{and_parts}
 use Rattle.gui_base.specs.declared.limits.Pool.{Pool}
 use Rattle.gui_base.specs.Intervals.{is_counted}
 use Rattle.gui_base.specs.declared.words.Kind.TheVariants.{Obj}
+use Rattle.gui_base.specs.Forest.{StandsOnce}
 use Rattle.scene_defs.specs.declared.Change.TheVariants as change
 use Rattle.gui_store.specs.Changed.{IsChanged}
 use Rattle.gui_store.proofs.Rows.{row_count, within_of, told-count, count-told}
@@ -21,6 +22,9 @@ module _ (p : Parts) where
   object-is h on = shown-object p.rows p.tree.forest h ∙ rw on refl
 
 module _ (p : Parts) (k : AreKept p) where
+  pub once : StandsOnce p.tree.forest
+  once = subst StandsOnce (forest-is p) k.valid.trees.once
+
   pub named : (h : ℕ) → has p.tree.forest h ≡ true → is_counted HANDLE h ≡ true
   named h on = (and_parts _ _ (shown-all p.rows in_intervals p.tree.forest h k.valid.rows.numbers on)).0
 

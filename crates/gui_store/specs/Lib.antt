@@ -4,4 +4,5 @@ pub mod Removed
 pub mod Rows
 pub mod Setters
 pub mod Styling
+pub mod Values
 pub mod Views

@@ -1,4 +1,5 @@
-//! The objects of a scene: their tree, a row for each, their styles, and the changes that a script may ask for.
+//! The objects of a scene: their tree, a row for each, their styles, and the changes that a script may ask
+//! for.
 //!
 //! All memory is taken at [`Store::open`]. A change is done as a whole or refused; a refusal leaves all as
 //! it was.

@@ -4,9 +4,11 @@ ghost use Rattle.std.specs.Prelude.{is_some, option_map};
 ghost use Rattle.std.specs.Option.{option_copied};
 ghost use Rattle.gui_base.specs.Bounded.{bounds_of};
 ghost use Rattle.gui_base.specs.Intervals.{is_counted};
+ghost use Rattle.gui_base.specs.Forest.{has};
+ghost use Rattle.gui_base.specs.Props.{is_value};
 ghost use Rattle.gui_base.specs.Refusing.{first_of, result_of, move_tests};
 ghost use Rattle.scene_defs.specs.Row.{setter_of};
-ghost use Rattle.scene_defs.specs.Scene.{handles_of, is_there, row_at, first_scene};
+ghost use Rattle.scene_defs.specs.Scene.{handles_of, is_there, row_at, value, first_scene};
 ghost use Rattle.scene_defs.specs.Styling.{styling_of};
 ghost use Rattle.scene_defs.specs.Change.{answer_of, changed, tests};
 ghost use Rattle.scene_defs.specs.Ranges.{is_in_range};
@@ -16,17 +18,19 @@ ghost use Rattle.gui_store.specs.Parts.{AreKept};
 ghost use Rattle.gui_store.specs.Removed.{removed_by};
 ghost use Rattle.gui_store.specs.Rows.{HaveRows, rows_without};
 ghost use Rattle.gui_store.specs.Setters.{asked_of};
+ghost use Rattle.gui_store.specs.Values.{won_at, inherited_at, given_at};
 
 use crate::range::is_in_range;
 use crate::row::{Setter, new_row, set_row, setter_of};
 use crate::styling::{named_by, restyle};
 use gui_base::intervals::HANDLE;
-use gui_base::{Handle, Kind, Limits, NoMemory, Refusal};
+use gui_base::{Handle, Kind, Limits, NoMemory, Part, Prop, Refusal};
 use gui_pool::Table;
 use gui_style::Styles;
 use gui_tree::Tree;
 use scene_defs::{Change, Row};
 use std::alloc::Global;
+use style_defs::kinds::default_in;
 
 /// One more than the greatest handle.
 const HANDLES: u32 = HANDLE.high as u32 + 1;
@@ -80,7 +84,7 @@ fn remove_rows(rows: &mut Table<Row>, handles: &[Handle])
 }
 
 impl Store {
-    ghost use Rattle.gui_store.specs.Views.{scene_of, removed_of, Changes};
+    ghost use Rattle.gui_store.specs.Views.{parts_of, scene_of, removed_of, Changes};
 
     /// The top layer, the system layer and a screen, which is active. It takes all the memory that the
     /// store will need; NoMemory where there is too little.
@@ -152,6 +156,62 @@ impl Store {
         ensures in_range { IfSome result (λ row. IsRow row.now) }
     {
         self.rows.get(h.0 as u32)
+    }
+
+    /// The value of a property of a part of an object that is there: what wins for that part in the object's
+    /// states. Where nothing does, an inherited property has what wins for the object's own part, or else for
+    /// that of the nearest object above, each in its own states, and then the default.
+    pub fn value(&self, h: Handle, part: Part, prop: Prop) -> i32
+        requires { is_there (scene_of self.now) h.0 ≡ true }
+        ensures value { result ≡ value (scene_of self.now) h.0 part prop }
+        ensures in_range { is_value prop result ≡ true }
+    {
+        let Some(row) = self.rows.get(h.0 as u32) else {
+            unreachable!()
+        };
+        match self.given(h, part, prop) {
+            Some(value) => value,
+            None => default_in(row.kind, part, row.states, prop),
+        }
+    }
+
+    /// What wins for a part of an object that is there, in its states.
+    fn won(&self, h: Handle, part: Part, prop: Prop) -> Option<i32>
+        requires { has self.now.tree.forest h.0 ≡ true }
+        ensures { result ≡ won_at (parts_of self.now) h.0 part prop }
+    {
+        let Some(row) = self.rows.get(h.0 as u32) else {
+            unreachable!()
+        };
+        self.styles.lookup(h, part, row.states, prop)
+    }
+
+    /// What wins for the own part of an object that is there, or else of the nearest above it.
+    fn inherited(&self, h: Handle, prop: Prop) -> Option<i32>
+        requires { has self.now.tree.forest h.0 ≡ true }
+        ensures { result ≡ inherited_at (parts_of self.now) h.0 prop }
+    {
+        let mut at = Some(h);
+        while let Some(k) = at {
+            let found = self.won(k, Part::Main, prop);
+            if found.is_some() {
+                return found;
+            }
+            at = self.tree.parent(k);
+        }
+        None
+    }
+
+    /// What wins for a part of an object that is there, or is inherited.
+    fn given(&self, h: Handle, part: Part, prop: Prop) -> Option<i32>
+        requires { has self.now.tree.forest h.0 ≡ true }
+        ensures { result ≡ given_at (parts_of self.now) h.0 part prop }
+    {
+        let own = self.won(h, part, prop);
+        if own.is_some() || !prop.inherits() {
+            return own;
+        }
+        self.inherited(h, prop)
     }
 
     /// Carries out a change whose numbers lie in their intervals, or answers its first refusal.

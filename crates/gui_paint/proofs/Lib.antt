@@ -1,4 +1,3 @@
-pub mod Common
+pub mod Naturals
 pub mod Painted
 pub mod Trees
-pub mod Values

@@ -1,5 +1,24 @@
 -- What the walk down a scene's trees paints at a pixel.
-use Rattle.gui_paint.proofs.Common.{◌≡◌, ◌∙◌, refl, sym, ap, ℤ, Bool, true, false, ◌&&◌, if◌then◌else◌, ℕ, Option, Some, None, ◌++◌, fold, inl, inr, arith, ints, fold-append, cases_Bool, nat_tests, Rgb565, Rect, has, is_empty, common, Forest, Empty, Tree, and_then, tree_by, has-common, Object, Scene, is_at, panel_of, place, some_area, met, holds, seen_of, root_tree, shown_trees, items, paint_item, paint_seen, IsValid, is_root_at, seen_alone, walked, there, IsDistinct, distinct_once, valid_is_showable, shown_by_walk, is_seen, painted, painted_tree, painted_scene}
+use Rattle.std.proofs.Common.{◌≡◌, ◌∙◌, refl, sym, ap, ℤ, Bool, true, false, ◌&&◌, if◌then◌else◌, ℕ, Option, Some, None, ◌++◌, fold, inl, inr, arith}
+use Rattle.std.proofs.lemmas.Int.{ints}
+use Rattle.std.proofs.lemmas.List.Sums.{fold-append}
+use Rattle.std.proofs.lemmas.Bool.{cases_Bool}
+use Rattle.std.proofs.lemmas.Bool.Decides.{nat_tests}
+use Rattle.gui_base.specs.declared.color.Rgb565.{Rgb565}
+use Rattle.gui_base.specs.Area.{Rect, has, is_empty, common}
+use Rattle.gui_base.specs.Forest.{Forest, Empty, Tree, and_then, tree_by}
+use Rattle.gui_base.proofs.Areas.{has-common}
+use Rattle.scene_defs.specs.Scene.{Object, Scene, is_at}
+use Rattle.scene_defs.specs.Place.{panel_of, place}
+use Rattle.scene_defs.specs.Visible.{some_area, met, holds, seen_of, root_tree, shown_trees}
+use Rattle.scene_defs.specs.Items.{items, paint_item}
+use Rattle.scene_defs.specs.Picture.{paint_seen}
+use Rattle.scene_defs.specs.Valid.{IsValid, is_root_at}
+use Rattle.scene_defs.specs.Walk.{seen_alone, walked}
+use Rattle.scene_defs.proofs.Distinct.{there, IsDistinct, distinct_once}
+use Rattle.scene_defs.proofs.Validity.{valid_is_showable}
+use Rattle.scene_defs.proofs.Walks.{shown_by_walk}
+use Rattle.gui_paint.specs.Painting.{is_seen, painted, painted_tree, painted_scene}
 
 pub empty_has : (area : Rect) (x y : ℤ) → is_empty area ≡ true → has area x y ≡ false
 empty_has area x y h = grind (arith, ints)

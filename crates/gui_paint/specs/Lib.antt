@@ -1,1 +1,2 @@
+pub mod Insets
 pub mod Painting

@@ -1,5 +1,5 @@
 -- What painting does to a draw buffer.
-use Rattle.std.specs.Prelude.{◌≡◌, ℕ, Bool, true, false, not, ◌&&◌, if◌then◌else◌, fold, List, ℤ}
+use Rattle.std.specs.Prelude.{◌≡◌, ℕ, Bool, true, false, not, ◌&&◌, if◌then◌else◌, fold, ℤ}
 use Rattle.gui_base.specs.declared.color.Rgb565.{Rgb565}
 use Rattle.gui_base.specs.declared.words.Flag.TheVariants.{Hidden}
 use Rattle.gui_base.specs.Area.{Rect, has}
@@ -48,9 +48,14 @@ painted scene x y inside (Tree object cs rest) under =
 abbrev pub painted_tree : Scene → Rect → ℕ → Painting
 painted_tree scene clip h x y under = painted scene x y (has clip x y) (tree_by (is_at h) scene.trees) under
 
--- items in what is seen of their object
-abbrev pub painted_items : Rect → List Item → Painting
-painted_items visible items x y under = if has visible x y then fold (paint_item x y) under items else under
+-- an item where its object is seen
+abbrev pub painted_item : Rect → Item → Painting
+painted_item visible item x y under = if has visible x y then paint_item x y under item else under
+
+-- an object by itself where it is seen
+abbrev pub painted_object : Scene → Rect → ℕ → Painting
+painted_object scene visible h x y under =
+    if has visible x y then fold (paint_item x y) under (items scene h) else under
 
 -- all that is shown
 abbrev pub painted_scene : Scene → Painting

@@ -2,5 +2,7 @@
 #![tactic(auto)]
 
 mod paint;
+mod place;
+mod values;
 
 pub use paint::Shown;

@@ -1,19 +1,20 @@
 //! Painting a scene into a draw buffer.
-ghost use Rattle.std.specs.Prelude.{◌≡◌, MatchOption, IsSome, Some, option_map};
+ghost use Rattle.std.specs.Prelude.{◌≡◌, true, MatchOption, Some};
 ghost use Rattle.gui_base.specs.Corners.{rect_of};
-ghost use Rattle.gui_base.specs.declared.props.Prop.TheVariants.{BgColor};
-ghost use Rattle.scene_defs.specs.Items.{items_of, rgb_of};
-ghost use Rattle.scene_defs.specs.Place.{pixels_of, wanted_in, place as place_of};
-ghost use Rattle.scene_defs.specs.Placing.{IsNear};
-ghost use Rattle.scene_defs.specs.Scene.{row_at};
-ghost use Rattle.scene_defs.specs.Valid.{IsRow, IsSize, IsValue};
+ghost use Rattle.gui_base.specs.declared.words.Part.TheVariants.{Main};
+ghost use Rattle.scene_defs.specs.Items.{fill_of, ring_of};
+ghost use Rattle.scene_defs.specs.Place.{place as place_of};
+ghost use Rattle.scene_defs.specs.Scene.{is_there, value};
+ghost use Rattle.scene_defs.specs.Valid.{IsValid};
 ghost use Rattle.gui_store.specs.Views.{scene_of};
-ghost use Rattle.gui_paint.specs.Painting.{Paints, IsSeenPart, IsUnseen, painted_items, painted_tree};
-ghost use Rattle.gui_paint.specs.Painting.{painted_scene};
+ghost use Rattle.gui_paint.specs.Painting.{Paints, IsSeenPart, IsUnseen, painted_item, painted_object};
+ghost use Rattle.gui_paint.specs.Painting.{painted_tree, painted_scene};
 
-use gui_base::{Area, Flag, Handle, Length, Part, Prop, Rgb565, Steps};
+use crate::place::{content_of, place_in};
+use crate::values::{color, number};
+use gui_base::{Area, Flag, Handle, Prop, Steps};
 use gui_color::DrawBuf;
-use gui_draw::{Picture, fill};
+use gui_draw::{Picture, fill, ring};
 use gui_store::{Row, Store};
 use std::sync::ledger::Ledger;
 
@@ -63,24 +64,22 @@ fn paint_tree<L: Ledger>(
     requires { place_of (scene_of store.now) h.0 ≡ Some (rect_of place) }
     ensures { Paints buf.old buf.new (painted_tree (scene_of store.now) (rect_of clip) h.0) }
 {
+    let tree = store.tree();
     let Some(row) = store.row(h) else {
         return;
     };
     let Some(visible) = seen_part(row, clip, place) else {
         return;
     };
-    paint_row(buf, visible, place, row, steps);
-    let tree = store.tree();
-    let mut next = tree.first_child(h);
+    paint_object(store, buf, visible, place, h, steps);
+    let Some(first) = tree.first_child(h) else {
+        return;
+    };
+    let content = content_of(store, place, h);
+    let mut next = Some(first);
     while let Some(child) = next {
-        paint_tree(
-            store,
-            buf,
-            visible,
-            place_in(store, place, child),
-            child,
-            steps,
-        );
+        let at = place_in(store, content, child);
+        paint_tree(store, buf, visible, at, child, steps);
         next = tree.next(child);
     }
 }
@@ -97,66 +96,57 @@ fn seen_part(row: &Row, clip: Area, place: Area) -> Option<Area>
     if part.is_empty() { None } else { Some(part) }
 }
 
-/// The place that an object wants in its parent's.
-fn place_in(store: &Store, parent: Area, h: Handle) -> Area
-    requires there { IsSome (row_at (scene_of store.now) h.0) }
-    requires near { IsNear (rect_of parent) }
-    ensures { option_map (wanted_in (rect_of parent)) (row_at (scene_of store.now) h.0)
-        ≡ Some (rect_of result) }
-{
-    let Some(row) = store.row(h) else {
-        unreachable!()
-    };
-    wanted_in(parent, row)
-}
-
-fn wanted_in(parent: Area, row: &Row) -> Area
-    requires near { IsNear (rect_of parent) }
-    requires in_range { IsRow row.now }
-    ensures { rect_of result ≡ wanted_in (rect_of parent) row.now }
-{
-    Area::at(
-        parent.x1 + row.x,
-        parent.y1 + row.y,
-        pixels_of(row.width),
-        pixels_of(row.height),
-    )
-}
-
-fn pixels_of(length: Length) -> u32
-    ensures { result ≡ pixels_of length }
-{
-    match length {
-        Length::Pixels(n) => u32::from(n),
-    }
-}
-
-/// Paints the items of an object where they are seen: the fill of its place.
-fn paint_row<L: Ledger>(
+/// Paints the items of an object where they are seen: the fill of its place, and the ring of its border.
+fn paint_object<L: Ledger>(
+    store: &Store,
     buf: &mut DrawBuf,
     visible: Area,
     place: Area,
-    row: &Row,
+    h: Handle,
     steps: &mut Steps<L>,
 )
-    requires { IsRow row.now }
-    ensures { Paints buf.old buf.new
-        (painted_items (rect_of visible) (items_of (rect_of place) row.now)) }
+    requires valid { IsValid (scene_of store.now) }
+    requires there { is_there (scene_of store.now) h.0 ≡ true }
+    requires place { place_of (scene_of store.now) h.0 ≡ Some (rect_of place) }
+    ensures { Paints buf.old buf.new (painted_object (scene_of store.now) (rect_of visible) h.0) }
 {
-    let fg = rgb_of(row.value(Part::Main, Prop::BgColor));
-    let opa = row.value(Part::Main, Prop::BgOpa).unsigned_abs() as u8;
+    paint_fill(store, buf, visible, place, h, steps);
+    paint_border(store, buf, visible, place, h, steps);
+}
+
+fn paint_fill<L: Ledger>(
+    store: &Store,
+    buf: &mut DrawBuf,
+    visible: Area,
+    place: Area,
+    h: Handle,
+    steps: &mut Steps<L>,
+)
+    requires valid { IsValid (scene_of store.now) }
+    requires there { is_there (scene_of store.now) h.0 ≡ true }
+    ensures { Paints buf.old buf.new
+        (painted_item (rect_of visible) (fill_of (rect_of place) (value (scene_of store.now) h.0 Main))) }
+{
+    let fg = color(store, h, Prop::BgColor);
+    let opa = number(store, h, Prop::BgOpa) as u8;
     fill(buf, visible, place, fg, opa, steps);
 }
 
-/// The colour of a value: red, green and blue in eight bits each.
-fn rgb_of(value: i32) -> Rgb565
-    requires { IsValue BgColor value }
-    ensures { result ≡ rgb_of value }
+fn paint_border<L: Ledger>(
+    store: &Store,
+    buf: &mut DrawBuf,
+    visible: Area,
+    place: Area,
+    h: Handle,
+    steps: &mut Steps<L>,
+)
+    requires valid { IsValid (scene_of store.now) }
+    requires there { is_there (scene_of store.now) h.0 ≡ true }
+    ensures { Paints buf.old buf.new
+        (painted_item (rect_of visible) (ring_of (rect_of place) (value (scene_of store.now) h.0 Main))) }
 {
-    let bits = value.unsigned_abs();
-    Rgb565::from_rgb(
-        (bits / 65536) as u8,
-        (bits / 256 % 256) as u8,
-        (bits % 256) as u8,
-    )
+    let width = number(store, h, Prop::BorderWidth) as u8;
+    let fg = color(store, h, Prop::BorderColor);
+    let opa = number(store, h, Prop::BorderOpa) as u8;
+    ring(buf, visible, place, width, fg, opa, steps);
 }

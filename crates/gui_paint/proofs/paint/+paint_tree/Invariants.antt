@@ -1,4 +1,9 @@
-use Rattle.gui_paint.proofs.Common.{rect_of, size, tree_by, HasCome, trees_from, handle_of, is_at, scene_of, Leaves}
+use Rattle.gui_base.specs.Corners.{rect_of}
+use Rattle.gui_base.specs.Forest.{size, tree_by}
+use Rattle.gui_base.proofs.Visits.{HasCome, trees_from}
+use Rattle.scene_defs.specs.Scene.{handle_of, is_at}
+use Rattle.gui_store.specs.Views.{scene_of}
+use Rattle.gui_paint.specs.Painting.{Leaves}
 use Rattle.gui_paint.proofs.Trees.{painted_from}
 use Rattle.gui_paint.proofs.paint.+paint_tree.Given as goal
 

@@ -1,4 +1,11 @@
-use Rattle.gui_paint.proofs.Common.{◌≡◌, ◌∙◌, sym, ap, ℕ, Bool, true, false, ◌&&◌, Some, pos, refl, Rect, area_at, has, rect_of, Bounds, panel_of, place, is_root_at, roots_fill_panel, scene_of}
+use Rattle.std.proofs.Common.{◌≡◌, ◌∙◌, sym, ap, ℕ, Bool, true, false, ◌&&◌, Some, pos, refl}
+use Rattle.gui_base.specs.Area.{Rect, area_at, has}
+use Rattle.gui_base.specs.Corners.{rect_of}
+use Rattle.gui_base.specs.Limits.{Bounds}
+use Rattle.scene_defs.specs.Place.{panel_of, place}
+use Rattle.scene_defs.specs.Valid.{is_root_at}
+use Rattle.scene_defs.proofs.Places.{roots_fill_panel}
+use Rattle.gui_store.specs.Views.{scene_of}
 use Rattle.gui_paint.proofs.Trees.{paints_scene}
 use Rattle.gui_paint.proofs.paint.paint.Given.{Over}
 use Rattle.gui_paint.proofs.paint.paint.Goals as goal

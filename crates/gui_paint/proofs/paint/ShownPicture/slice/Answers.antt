@@ -1,4 +1,8 @@
-use Rattle.gui_paint.proofs.Common.{◌∙◌, ap, fold, Rgb565, paint_seen, shown, scene_of}
+use Rattle.std.proofs.Common.{◌∙◌, ap, fold}
+use Rattle.gui_base.specs.declared.color.Rgb565.{Rgb565}
+use Rattle.scene_defs.specs.Picture.{paint_seen}
+use Rattle.scene_defs.specs.Shown.{shown}
+use Rattle.gui_store.specs.Views.{scene_of}
 use Rattle.gui_paint.proofs.paint.ShownPicture.slice.Goals as goal
 
 pub returns : goal.returns

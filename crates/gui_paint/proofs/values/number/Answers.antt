@@ -12,7 +12,7 @@ returns-clause-value c =
     let fits : FitsSigned w32 c.value.result = search rules in
     let in_range = values_in_range (scene_of c.args.store.now) c.args.h.0 Main c.args.prop c.requires.valid in
     let absolute = simp to_z-of_z at c.unsigned_abs.ensures.value in
-    natural_value c.args.prop _ _ in_range (rw c.value.ensures at absolute)
+    natural_value c.args.prop _ _ in_range (rw c.value.ensures.value at absolute)
 
 pub returns-clause-in_range : goal.returns-clause-in_range
 returns-clause-in_range c =

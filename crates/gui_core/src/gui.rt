@@ -1,5 +1,5 @@
 //! The machine.
-ghost use Rattle.std.specs.Prelude.{◌≡◌, ◌*◌, ◌<◌, ◌≤◌, ◌+◌, IfOk, OnOk, OnErr, pos};
+ghost use Rattle.std.specs.Prelude.{◌≡◌, ◌*◌, ◌≤◌, ◌+◌, IfOk, OnOk, OnErr, pos};
 ghost use Rattle.gui_base.specs.Area.{area_at};
 ghost use Rattle.gui_base.specs.Corners.{rect_of};
 ghost use Rattle.gui_edge.specs.Panel.{HasSizes, CanFlush, Flushes, FlushDone, FlushFailed};

@@ -1,6 +1,6 @@
 -- What is known of a panel, and what its calls do to it.
-use Rattle.std.specs.Prelude.{◌≡◌, ℕ, ◌+◌, ◌*◌, ◌<◌, ◌≤◌, min, true, false, if◌then◌else◌, List, length, ℤ, pos}
-use Rattle.std.specs.Prelude.{IfSome, Ok, Err}
+use Rattle.std.specs.Prelude.{◌≡◌, ℕ, ◌+◌, ◌*◌, ◌<◌, ◌≤◌, min, true, false, if◌then◌else◌, List, length}
+use Rattle.std.specs.Prelude.{ℤ, pos, IfSome, Ok, Err}
 use Rattle.std.specs.declared.option.Option.{Option}
 use Rattle.std.specs.declared.result.Result.{Result}
 use Rattle.std.specs.Io.KnownBytes.{Appends}
@@ -55,12 +55,12 @@ pub record CanOpen (width height limit : ℕ) : Type 0 where
   pub least_limit : width ≤ limit
   pub most_limit : limit ≤ width * height
 
--- a panel that was just opened
+-- a panel that was just opened: nothing else changed
 pub record Opens (old new : PanelState) (width height limit : ℕ) : Type 0 where
   pub is : new ≡ record old { width = width; height = height; limit = limit; shows = new.shows }
   pub shows : KeepsTelling old.shows new.shows (λ before after. length after ≡ width * height)
 
--- what stays where a panel could not be opened
+-- a panel that could not be opened: nothing else changed
 pub record StaysClosed (old new : PanelState) : Type 0 where
   pub is : new ≡ record old { limit = 0; flush_faults = new.flush_faults }
   pub flush_faults : old.flush_faults ≤ new.flush_faults
@@ -90,7 +90,7 @@ pub record SameOutside (panel area : Rect) (old new : List Rgb565) : Type 0 wher
   pub outside : (x y : ℤ) → has panel x y ≡ true → has area x y ≡ false →
       color_at panel new x y ≡ color_at panel old x y
 
--- what each flush does, and what none changes
+-- what each flush does: nothing else changes
 pub record Flushes (old new : PanelState) (area : Rect) : Type 0 where
   pub is : new ≡ record old {
     shows = new.shows;
@@ -108,7 +108,7 @@ pub record FlushFailed (old new : PanelState) (area : Rect) : Type 0 where
   pub count : old.flush_faults < new.flush_faults
   pub shows : KeepsTelling old.shows new.shows (SameOutside (area_of old) area)
 
--- what no presenting changes
+-- what each presenting does: nothing else changes
 pub record Presents (old new : PanelState) : Type 0 where
   pub is : new ≡ record old { frames = new.frames; present_faults = new.present_faults }
   pub present_faults : old.present_faults ≤ new.present_faults

@@ -5,7 +5,8 @@ ghost use Rattle.std.specs.Option.{option_to_list};
 ghost use Rattle.run_defs.specs.Laws.{IsInRange};
 ghost use Rattle.scene_script.specs.Cutting.{HasTaken, cut_says};
 ghost use Rattle.scene_run.specs.Effects.{output};
-ghost use Rattle.scene_run.specs.Running.{running, reading, IsReady, GoesOn, Halts, Reads, Stops, Ends, StopsAtEnd};
+ghost use Rattle.scene_run.specs.Running.{running, reading, IsReady, GoesOn, Halts, Reads, Stops, Ends};
+ghost use Rattle.scene_run.specs.Running.{StopsAtEnd};
 
 use crate::answer::{LineEnd, answer};
 use crate::status::Status;

@@ -112,7 +112,8 @@ parent_by test above Empty = None
 parent_by test above (Tree row cs rest) =
     cond (test row) above (cond (has_by test cs) (parent_by test (Some row) cs) (parent_by test above rest))
 
--- the first row that passes the test, and those above it, the nearest first; `above` are those above the trees
+-- the first row that passes the test, and those above it, the nearest first; `above` are those above the
+-- trees
 abbrev pub path_by : {A : Type 0} → (A → Bool) → List A → Forest A → List A
 path_by test above Empty = []
 path_by test above (Tree row cs rest) =

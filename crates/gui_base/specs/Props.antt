@@ -1,5 +1,5 @@
--- What a property is by itself: the values that it may have, its value where nothing sets it, and whether it is
--- inherited.
+-- What a property is by itself: the values that it may have, its value where nothing sets it, and whether it
+-- is inherited.
 use Rattle.std.specs.Prelude.{Bool, true, false, ℤ, pos}
 use Rattle.gui_base.specs.declared.intervals.Interval.{Interval}
 use Rattle.gui_base.specs.declared.intervals.TheConstants.{COLOR, OPACITY, BORDER, PAD, TEXT_SPACE}

@@ -14,8 +14,8 @@ use Rattle.style_defs.specs.Book.{Book, all_forgotten, entries_in, uses_in}
 use Rattle.gui_base.specs.Forest.{Forest, and_then, leaf, added_by, cut_by, moved_by, moved_last_by, size}
 use Rattle.gui_base.specs.Forest.{preorder}
 use Rattle.gui_base.specs.Forest.{tree_by, parent_by, with_row_by}
-use Rattle.gui_base.specs.Refusing.{Test, first_of, absent, parentless, root_tests, child_tests, removal_tests}
-use Rattle.gui_base.specs.Refusing.{move_tests, parent_tests, Kind as WrongKind, Place}
+use Rattle.gui_base.specs.Refusing.{Test, first_of, absent, parentless, root_tests, child_tests}
+use Rattle.gui_base.specs.Refusing.{removal_tests, move_tests, parent_tests, Kind as WrongKind, Place}
 use Rattle.scene_defs.specs.declared.Change.{Change}
 use Rattle.scene_defs.specs.declared.Change.TheVariants as change
 use Rattle.scene_defs.specs.Ranges.{is_in_range}

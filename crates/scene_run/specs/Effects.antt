@@ -6,8 +6,8 @@ use Rattle.scene_defs.specs.Scene.{Scene}
 use Rattle.run_defs.specs.declared.Outcome.{Outcome}
 use Rattle.run_defs.specs.Script.{Said}
 use Rattle.run_defs.specs.Machine.{Machine}
-use Rattle.run_defs.specs.Run.{Entry, Told, first_moment, entry, after_all, entries, told, frame_count, log_text}
-use Rattle.run_defs.specs.Run.{frame_file, frame_files, file_asked, last_done, fault_count}
+use Rattle.run_defs.specs.Run.{Entry, Told, first_moment, entry, after_all, entries, told, frame_count}
+use Rattle.run_defs.specs.Run.{log_text, frame_file, frame_files, file_asked, last_done, fault_count}
 use Rattle.gui_edge.specs.Causes.{Rose}
 use Rattle.gui_edge.specs.Sink.{SinkState, AppendsPrefix}
 use Rattle.gui_edge.specs.Panel.{PanelState, HasSizes}

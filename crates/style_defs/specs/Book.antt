@@ -113,9 +113,8 @@ without_use book h u = record book { uses = slice_set book.uses h (drop_by (is_u
 -- with a local entry, in the place of the one for the same selector and property, or last
 abbrev pub with_local : Book → ℕ → Entry → Book
 with_local book h entry =
-    record book {
-      locals = slice_set book.locals h (put_by (is_for (selector_of entry) entry.prop) entry (locals_of book h));
-    }
+    let same = is_for (selector_of entry) entry.prop in
+    record book { locals = slice_set book.locals h (put_by same entry (locals_of book h)) }
 
 -- without a local entry
 abbrev pub without_local : Book → ℕ → Selector → Prop → Book

@@ -102,10 +102,12 @@ pub record ValuesAreWorked : Type 0 where
   pub part_pressed_above : text_below 0 pressed Knob ≡ red
   pub part_pressed_below : text_below pressed 0 Knob ≡ black
   -- and what is set for the main part comes first
-  pub part_of_main : value_on [] (with_set 0 TextColor 0 green ∷ with_set 0 TextColor 0 red ∷ []) Knob TextColor ≡ green
+  pub part_of_main :
+      value_on [] (with_set 0 TextColor 0 green ∷ with_set 0 TextColor 0 red ∷ []) Knob TextColor ≡ green
   -- the nearest above gives the value
   pub nearest :
-      value_on [] (plain Obj 0 ∷ with_set 0 TextColor 0 green ∷ with_set 0 TextColor 0 red ∷ []) Main TextColor ≡ green
+      value_on [] (plain Obj 0 ∷ with_set 0 TextColor 0 green ∷ with_set 0 TextColor 0 red ∷ []) Main TextColor
+      ≡ green
   -- a fill is not inherited
   pub fill_above : value_on [] (plain Obj 0 ∷ with_set 0 BgColor 0 red ∷ []) Main BgColor ≡ white
   -- a screen is filled, what stands on it is not, nor is another part of it

@@ -1,14 +1,12 @@
 -- What calls of `Styles` leave.
-use Rattle.gui_store.proofs.Common.{◌≡◌, ◌∙◌, sym, subst, ℕ, ◌+◌, Bool, true, false, cond, not, Entries, nat_tests, List, [], ◌∷◌, length, slice_set, slice_index_or, Ok, Err, inl, inr, refl, arith, get_or_past, OnOk, OnErr, Handle, first_of, result_of, numbers, Answer, Styles, Styling, entries_in, uses_in, IsStyled, IsAnswered, full_for}
+use Rattle.gui_store.proofs.Common.{◌≡◌, ◌∙◌, sym, subst, ℕ, ◌+◌, Bool, true, false, cond, not, Entries, nat_tests, List, [], ◌∷◌, length, slice_set, slice_index_or, Ok, Err, inl, inr, refl, arith, get_or_past, OnOk, OnErr, Handle, first_of, result_of, numbers, Answer, Styles, Styling, entries_in, uses_in, IsStyled, IsAnswered, full_for, of_entries, one_unless, set_past, forgotten, all_forgotten}
 use Rattle.std.specs.List.{sum_by}
-use Rattle.gui_base.specs.declared.refusal.Refusal.TheVariants as refusal
 use Rattle.gui_base.specs.Refusing.{Unknown}
-use Rattle.scene_defs.specs.Styling.{of_entries, one_unless}
+use Rattle.gui_style.specs.Styles.{full_answer}
+use Rattle.gui_base.specs.declared.refusal.Refusal.TheVariants as refusal
 use Rattle.std.proofs.lemmas.Bool.{cases_lt}
-use Rattle.std.proofs.lemmas.List.{set_past}
 use Rattle.style_defs.proofs.Counting.{lengths-set}
 use Rattle.style_defs.specs.Book as book
-use Rattle.gui_style.specs.Styles.{full_answer, forgotten, all_forgotten}
 
 -- a call that answers as the tests and the pools do
 pub answered : (s t u : Styles) (styling : Styling) (r a : Answer) → r ≡ a → OnOk r (t ≡ u) → OnErr r (t ≡ s) →

@@ -1,20 +1,13 @@
 -- The parts of a store after each change that is done.
-use Rattle.gui_store.proofs.Common.{Ok, ◌≡◌, ◌<◌, ◌≤◌, ◌∙◌, sym, ap, subst, ℕ, zero, suc, ◌+◌, ◌-◌, Bool, true, false, length, slice_set, slice_index_or, List, Option, Some, None, is_some, option_map, refl, arith, length-set, nat_eq, eqb-true, ◌++◌, [], ◌∷◌, cond, eqb, if◌then◌else◌, OnOk, OnErr, nat_tests, get_or-set_same, POOLS, Handle, Objects, StyleSlots, Entries, Uses, Full, Refusal, Forest, Empty, Tree, and_then, leaf, put_at, has, size, count, preorder, cut, cut_by, tree_at, parent_of, with_children_by, Bounds, Test, first_of, result_of, root_tests, child_tests, removal_tests, move_tests, parent_tests, map-and_then, map-size, map-cut_by, map-tree_by, map-parent_by, map-added_by, map-moved_by, map-moved_last_by, count-has, Table, value_at, value_inserted, value_replaced, numbers, Answer, full_answer, Trees, opened, add_root_answer, add_answer, remove_answer, move_answer, set_parent_answer, with_root, with_child, at_index, below, moved_below, without_tree, Change, is_in_range, is_there, Object, Scene, is_at, handles_of, spare, new_row, new_object, first_scene, is_screen_kind, answer_in_range, tests, first_short, scene_after, tree_below, all_below, parent_object, at_index_below, last_below, row_after, over_row, row_set, setter_of, need_of, freed_by, IsValid, IsChange, is_root_at, tests-fail, room_in_range, none_short, first-then, sets_row_alone, total, total-cut, total-parts, one, one_at, size-total, added_sum, removed_sum, first_is_valid, set_sums, Row, row_in, object_in, HaveRows, rows_without, removed_after, Styles, Styling, styling_of, AreSlots, IsStyled, IsAnswered, full_for, Book, entries_in, uses_in, Parts, scene_in, AreKept}
-use Rattle.std.specs.Prelude.{replicate}
-use Rattle.std.proofs.lemmas.Result.{on_ok_weaker, on_err_weaker}
+use Rattle.gui_store.proofs.Common.{Ok, ◌≡◌, ◌<◌, ◌≤◌, ◌∙◌, sym, ap, subst, ℕ, zero, suc, ◌+◌, ◌-◌, Bool, true, false, length, slice_set, List, Option, Some, None, is_some, option_map, refl, arith, length-set, nat_eq, eqb-true, ◌++◌, [], ◌∷◌, cond, eqb, if◌then◌else◌, OnOk, OnErr, nat_tests, get_or-set_same, POOLS, Handle, Objects, StyleSlots, Entries, Uses, Full, Refusal, Forest, Empty, Tree, and_then, leaf, put_at, has, size, count, preorder, cut, cut_by, tree_at, parent_of, with_children_by, Bounds, Test, first_of, result_of, root_tests, child_tests, removal_tests, move_tests, parent_tests, map-and_then, map-size, map-cut_by, map-tree_by, map-parent_by, map-added_by, map-moved_by, map-moved_last_by, count-has, Table, value_at, value_inserted, value_replaced, numbers, Answer, full_answer, Trees, opened, add_root_answer, add_answer, remove_answer, move_answer, set_parent_answer, with_root, with_child, at_index, below, moved_below, without_tree, Change, is_in_range, is_there, Object, Scene, is_at, handles_of, spare, new_row, new_object, first_scene, is_screen_kind, answer_in_range, tests, first_short, scene_after, tree_below, all_below, parent_object, at_index_below, last_below, row_after, over_row, row_set, setter_of, need_of, freed_by, IsValid, IsChange, is_root_at, tests-fail, room_in_range, none_short, first-then, first-some, sets_row_alone, total, total-cut, total-parts, one, one_at, size-total, added_sum, removed_sum, first_is_valid, set_sums, Row, row_in, object_in, HaveRows, rows_without, removed_after, Styles, Styling, styling_of, AreSlots, IsStyled, full_for, Book, entries_in, uses_in, Parts, scene_in, AreKept, on_ok_weaker, on_err_weaker, locals_of, uses_of, no_lists, empty_book, ext_get_or, all_forgotten, book_without, object_tests, need_by, freed_by_styling, named_by, IsRestyled, Place, refusal_of}
 use Rattle.gui_base.specs.declared.limits.Pool.{Pool}
 use Rattle.style_defs.specs.Book as book
-use Rattle.style_defs.specs.Book.{locals_of, uses_of, no_lists, empty_book}
-use Rattle.style_defs.proofs.Empty.{no_entries, no_uses}
+use Rattle.style_defs.proofs.Empty.{empty_in_order, empty_bare, no_entries, no_uses}
 use Rattle.style_defs.proofs.Changing.{all_forgets}
-use Rattle.gui_style.specs.Styles.{all_forgotten}
-use Rattle.scene_defs.specs.Change.{book_without, object_tests, need_by, freed_by_styling}
-use Rattle.gui_store.specs.Styling.{named_by, IsRestyled}
 use Rattle.gui_store.proofs.Calls.{forgets}
 use Rattle.gui_base.specs.declared.refusal.Refusal.TheVariants as refusal
 use Rattle.gui_base.specs.declared.words.Kind.{Kind}
 use Rattle.gui_base.specs.declared.words.Kind.TheVariants.{Screen, Layer}
-use Rattle.gui_base.specs.Refusing.{Place}
 use Rattle.scene_defs.specs.declared.Change.TheVariants as change
 use Rattle.scene_defs.proofs.Handles.{has-handles}
 use Rattle.scene_defs.proofs.RowKinds.{root_there}
@@ -27,14 +20,10 @@ use Rattle.gui_store.proofs.Kept.{read-on, read-off, Left, answered, done, there
 stay : (s : Styles) (need freed : Pool → ℕ) → ((q : Pool) → (need q ≡ 0) × (freed q ≡ 0)) → AreSlots s s need freed
 stay s need freed none = record { styles = omega (arith, none StyleSlots); entries = omega (arith, none Entries); uses = omega (arith, none Uses) }
 
--- The first test that holds of some and then others.
-first-before : (ts us : List Test) (later : Option Refusal) (why : Refusal) → first_of ts None ≡ Some why → first_of (ts ++ us) later ≡ Some why
-first-before [] us later why e = cc
-first-before (t ∷ ts) us later why e = grind (arith, e, first-before ts us later why)
-
-first-after : (ts us : List Test) (later : Option Refusal) → first_of ts None ≡ None → first_of (ts ++ us) later ≡ first_of us later
-first-after [] us later e = refl
-first-after (t ∷ ts) us later e = grind (arith, e, first-after ts us later)
+-- the first test that holds of some and then others
+first-both : (ts us : List Test) (later : Option Refusal) → first_of (ts ++ us) later ≡ first_of ts (first_of us later)
+first-both [] us later = refl
+first-both (t ∷ ts) us later = ap (λ (o : Option Refusal). if t.0 then Some (refusal_of t.1) else o) (first-both ts us later)
 
 -- With an index past the last tree, it is put last.
 put_at-last : {A : Type 0} (n : ℕ) (t f : Forest A) → size f ≤ n → put_at n t f ≡ and_then f t
@@ -55,15 +44,15 @@ last-alike test n t (Tree row cs rest) few =
 module _ (p : Parts) (k : AreKept p) where
   -- what each edit of the tree answers
   pub screen-answer : (n : Handle) → result_of (answer_in_range (scene_in p) (change.Screen n)) ≡ add_root_answer p.tree n.0
-  screen-answer n = tree-answer p k (change.Screen n) (λ f. root_tests f n.0) (full_answer p.tree) refl refl (grind (arith, nat_tests))
+  screen-answer n = tree-answer p k (change.Screen n) (λ f. root_tests f n.0) (full_answer p.tree) refl (grind (arith, nat_tests, k.objects))
 
   pub object-answer : (n q : Handle) (kind : Kind) → result_of (answer_in_range (scene_in p) (change.New n q kind)) ≡ add_answer p.tree n.0 q.0
-  object-answer n q kind = tree-answer p k (change.New n q kind) (λ f. child_tests f n.0 q.0) (full_answer p.tree) refl refl (grind (arith, nat_tests))
+  object-answer n q kind = tree-answer p k (change.New n q kind) (λ f. child_tests f n.0 q.0) (full_answer p.tree) refl (grind (arith, nat_tests, k.objects))
 
   pub delete-answer : (h : Handle) → nat_eq h.0 p.active ≡ false →
       result_of (answer_in_range (scene_in p) (change.Delete h)) ≡ remove_answer p.tree h.0
   delete-answer h other =
-      tree-answer p k (change.Delete h) (λ f. removal_tests f h.0 ++ (nat_eq h.0 p.active, Place) ∷ []) None refl refl (grind (arith, nat_tests))
+      tree-answer p k (change.Delete h) (λ f. removal_tests f h.0 ++ (nat_eq h.0 p.active, Place) ∷ []) None refl (grind (arith, nat_tests))
       ∙ rw other refl
 
   pub delete-active : (h : Handle) → nat_eq h.0 p.active ≡ true → answer_in_range (scene_in p) (change.Delete h) ≡ Some refusal.Place
@@ -189,7 +178,7 @@ module _ (p : Parts) (k : AreKept p) where
       last-alike (is_at q.handle) n (tree_below (scene_in p) h) bare (omega (arith, few, a, size-total bare, size-total (scene_in p).trees, k.valid.pools.objects))
 
   -- A change that moves a tree, as a call of the tree does.
-  module _ (change : Change) (fits : is_in_range change ≡ true) (plain : IsChange change) (set : styling_of p.styles.book change ≡ None)
+  module _ (change : Change) (fits : is_in_range change ≡ true) (plain : IsChange change)
       (sums : (w : Object → ℕ) → removed_sum (scene_in p) change w ≡ added_sum (scene_in p) change w)
       (none : (q : Pool) → (need_of (scene_in p) change q ≡ 0) × (freed_by (scene_in p) change q ≡ 0))
       (removed : p.tree.removed ≡ removed_after p.tree.removed (scene_in p) change) (t : Trees) (r : Answer) (err : OnErr r (t ≡ p.tree)) where
@@ -197,7 +186,7 @@ module _ (p : Parts) (k : AreKept p) where
         record (scene_in p) { trees = shown p.rows g } ≡ scene_after (scene_in p) change → r ≡ result_of (first_of (ts p.tree.forest) None) →
         OnOk r (t ≡ record p.tree { forest = g }) → Left p change (record p { tree = t }) r
     moved ts g e shows a ok =
-        let same = tree-answer p k change ts None set e (grind (arith, nat_tests, (none Objects).0)) ∙ sym a in
+        let same = tree-answer p k change ts None e (ap (option_map Full) (none_short (scene_in p) change POOLS (λ q. (none q).0))) ∙ sym a in
         let fine : Fine p change (record p { tree = record p.tree { forest = g } }) = record {
           shows = shows;
           handles = k.handles;
@@ -220,7 +209,7 @@ module _ (p : Parts) (k : AreKept p) where
       r ≡ set_parent_answer p.tree h.0 q.0 → OnOk r (t ≡ below p.tree h.0 q.0) → Left p (change.Parent h q) (record p { tree = t }) r
   moved_below_other h q fits t r err =
       let shows = map-moved_last_by (object_in p.rows) (is_at h.0) (is_at q.0) p.tree.forest in
-      moved (change.Parent h q) fits tt refl (λ w. refl) (λ q. (refl, refl)) refl t r err
+      moved (change.Parent h q) fits tt (λ w. refl) (λ q. (refl, refl)) refl t r err
       (λ f. parent_tests f h.0 q.0) (below p.tree h.0 q.0).forest refl (with_trees shows)
 
   pub last-after : (h : Handle) (n : ℕ) → p.limits.objects ≤ n →
@@ -278,56 +267,37 @@ module _ (p : Parts) (k : AreKept p) where
     removed = cc;
   }
 
-  module _ (change : Change) (styling : Styling) (is : styling_of p.styles.book change ≡ Some styling) where
-    -- where the object that it names is not there
-    styled-absent : first_of (object_tests (handles_of (scene_in p).trees) styling.object) None ≡ Some refusal.Unknown → answer_in_range (scene_in p) change ≡ Some refusal.Unknown
-    styled-absent absent = let s = quiet change styling is in rw (s.setter, is) (first-before (object_tests (handles_of (scene_in p).trees) styling.object) styling.tests _ refusal.Unknown absent)
-
-    -- where it is there, if one is named
-    styled : (t : Styles) (r : Answer) → is_in_range change ≡ true → IsChange change → first_of (object_tests (handles_of (scene_in p).trees) styling.object) None ≡ None → IsAnswered p.styles t styling r → Left p change (record p { styles = t }) r
-    styled t r fits plain there a =
-        let s = quiet change styling is in
-        let answer : answer_in_range (scene_in p) change ≡ first_of styling.tests (full_for p.styles styling.need) =
-        rw (s.full, s.setter, is) (first-after (object_tests (handles_of (scene_in p).trees) styling.object) styling.tests _ there) in
-        let fine : IsStyled p.styles t styling → answer_in_range (scene_in p) change ≡ None → Fine p change (record p { styles = t }) = λ done none. record {
-          shows = rw (s.setter, is) (ap (λ (b : Book). record (scene_in p) { book = b }) done.book);
-          handles = k.handles;
-          rows = λ h. omega (arith, s.sums (one_at h));
-          room = k.room;
-          objects = omega (arith, s.objects);
-          styles = subst (λ (o : Option Styling). AreSlots p.styles t (need_by o change) (freed_by_styling o (scene_in p) change)) (sym is) done.slots;
-          removed = s.removed;
-        } in
-        answered p k change fits plain (record p { styles = t }) r (ap result_of answer ∙ sym a.answer_is) (on_ok_weaker r fine a.done) (on_err_weaker r (λ same. ap (λ (x : Styles). record p { styles = x }) same) a.refused)
-
   -- whether the object that is named is unknown
   abbrev pub named_test : Option Styling → Option Refusal
   named_test o = first_of (object_tests (handles_of (scene_in p).trees) (named_by o)) None
 
-  -- A change of styles, as a call of them does it.
-  module _ (change : Change) (some : is_some (styling_of p.styles.book change) ≡ true) where
-    pub unnamed : named_test (styling_of p.styles.book change) ≡ Some refusal.Unknown → answer_in_range (scene_in p) change ≡ Some refusal.Unknown
-    unnamed absent = by (styling_of p.styles.book change) refl some absent where
-      by : (o : Option Styling) → styling_of p.styles.book change ≡ o → is_some o ≡ true → named_test o ≡ Some refusal.Unknown → answer_in_range (scene_in p) change ≡ Some refusal.Unknown
-      by None e some absent = cc
-      by (Some styling) e some absent = styled-absent change styling e absent
+  pub unnamed : (change : Change) (o : Option Styling) → styling_of p.styles.book change ≡ o → is_some o ≡ true → named_test o ≡ Some refusal.Unknown →
+      answer_in_range (scene_in p) change ≡ Some refusal.Unknown
+  unnamed change None is some absent = cc
+  unnamed change (Some styling) is some absent =
+      let s = quiet change styling is in
+      let named = object_tests (handles_of (scene_in p).trees) styling.object in rw (s.setter, is) (first-both named styling.tests _ ∙ first-some named _ refusal.Unknown absent)
 
-    pub restyled : (t : Styles) (r : Answer) → is_in_range change ≡ true → IsChange change → named_test (styling_of p.styles.book change) ≡ None → IsRestyled p.styles t (styling_of p.styles.book change) r → Left p change (record p { styles = t }) r
-    restyled t r fits plain there a = by (styling_of p.styles.book change) refl some there a where
-      by : (o : Option Styling) → styling_of p.styles.book change ≡ o → is_some o ≡ true → named_test o ≡ None → IsRestyled p.styles t o r → Left p change (record p { styles = t }) r
-      by None e some there a = cc
-      by (Some styling) e some there a = styled change styling e t r fits plain there a
+  -- as the call of the styles does it
+  pub restyled : (change : Change) (t : Styles) (r : Answer) (o : Option Styling) → is_in_range change ≡ true → IsChange change → styling_of p.styles.book change ≡ o → is_some o ≡ true →
+      named_test o ≡ None → IsRestyled p.styles t o r → Left p change (record p { styles = t }) r
+  restyled change t r None fits plain is some there a = cc
+  restyled change t r (Some styling) fits plain is some there a =
+      let s = quiet change styling is in
+      let answer : answer_in_range (scene_in p) change ≡ first_of styling.tests (full_for p.styles styling.need) =
+      let named = object_tests (handles_of (scene_in p).trees) styling.object in rw (s.full, s.setter, is) (first-both named styling.tests _ ∙ first-then named _ there) in
+      let fine : IsStyled p.styles t styling → answer_in_range (scene_in p) change ≡ None → Fine p change (record p { styles = t }) = λ done none. record {
+        shows = rw (s.setter, is) (ap (λ (b : Book). record (scene_in p) { book = b }) done.book);
+        handles = k.handles;
+        rows = λ h. omega (arith, s.sums (one_at h));
+        room = k.room;
+        objects = omega (arith, s.objects);
+        styles = subst (λ (o : Option Styling). AreSlots p.styles t (need_by o change) (freed_by_styling o (scene_in p) change)) (sym is) done.slots;
+        removed = s.removed;
+      } in
+      answered p k change fits plain (record p { styles = t }) r (ap result_of answer ∙ sym a.answer_is) (on_ok_weaker r fine a.done) (on_err_weaker r (λ same. ap (λ (x : Styles). record p { styles = x }) same) a.refused)
 
--- A book with a place for each number, in which nothing is set, is the empty one.
-no-lists : {A : Type 0} (lists : List (List A)) → length lists ≡ 65536 → ((h : ℕ) → slice_index_or lists h [] ≡ []) → lists ≡ no_lists
-unfolding no_lists
-no-lists {A} lists long empty = by 65536 lists long empty where
-  by : (n : ℕ) (lists : List (List A)) → length lists ≡ n → ((h : ℕ) → slice_index_or lists h [] ≡ []) → lists ≡ replicate n []
-  by zero [] long empty = refl
-  by zero (xs ∷ lists) long empty = absurd (omega (arith, long))
-  by (suc n) [] long empty = absurd (omega (arith, long))
-  by (suc n) (xs ∷ lists) long empty = let none : xs ≡ [] = empty 0 in rw (none, by n lists (omega (arith, long)) (λ h. empty (suc h))) refl
-
+-- What `Styles` opens: nothing is set, in a place for each number.
 pub record AreNew (s : Styles) (limits : Bounds) : Type 0 where
   pub no_styles : s.book.styles ≡ []
   pub no_locals : (h : ℕ) → locals_of s.book h ≡ []
@@ -355,7 +325,10 @@ module _ (tree : Trees) (limits : Bounds) (room : 3 ≤ limits.objects) (new : t
       let first = value-set t.values 1 h (Some a) (omega (arith, keys)) in rw (third, second, first, empty h) refl
 
   first-book : styles.book ≡ empty_book
-  first-book = λ i. record { styles = bare.no_styles i; locals = no-lists styles.book.locals bare.locals bare.no_locals i; uses = no-lists styles.book.uses bare.uses bare.no_uses i }
+  first-book =
+      let locals = ext_get_or [] styles.book.locals no_lists (bare.locals ∙ sym empty_in_order.local_places) (λ h less. bare.no_locals h ∙ sym (empty_bare h).locals) in
+      let uses = ext_get_or [] styles.book.uses no_lists (bare.uses ∙ sym empty_in_order.use_places) (λ h less. bare.no_uses h ∙ sym (empty_bare h).uses) in
+      λ i. record { styles = bare.no_styles i; locals = locals i; uses = uses i }
 
   first-shows : scene_in first_parts ≡ first_scene limits
   first-shows = rw (new, first-value 1, first-value 2, first-value 3, top, system, screen, first-book) refl

@@ -1,11 +1,9 @@
 -- What the parts of a store answer, and that a change keeps them in order.
-use Rattle.gui_store.proofs.Common.{nat_lt, inl, inr, ◌≡◌, ◌<◌, ◌⊎◌, ◌∙◌, sym, ap, subst, ℕ, ◌+◌, true, false, length, Option, unwrap_or, Some, None, is_some, option_map, Ok, Err, List, refl, arith, if◌then◌else◌, OnOk, OnErr, IsErrAnd, err_from_is_err_and, nat_tests, POOLS, HANDLE, Objects, StyleSlots, Entries, Uses, Refusal, Full, Forest, has, count, Test, first_of, result_of, Table, value_at, Trees, Answer, Change, is_in_range, Scene, is_there, handles_of, object_at, row_at, spare, answer_in_range, answer_of, scene_after, scene_by, tests, first_short, need_of, freed_by, IsValid, IsChange, IsRow, in_intervals, one_short, one_at, added_sum, removed_sum, after_leaves, after_valid, slots_add_up, Row, Styles, AreSlots, styling_of, Parts, scene_in, AreKept, removed_after, new_row, row_in, object_in}
+use Rattle.gui_store.proofs.Common.{◌≡◌, ◌<◌, ◌∙◌, sym, ap, subst, ℕ, ◌+◌, true, false, length, Option, unwrap_or, Some, None, is_some, option_map, Ok, Err, List, refl, arith, OnOk, OnErr, IsErrAnd, err_from_is_err_and, POOLS, HANDLE, Objects, StyleSlots, Entries, Uses, Refusal, Full, Forest, has, count, Test, first_of, result_of, Table, value_at, Trees, Answer, Change, is_in_range, Scene, is_there, handles_of, object_at, row_at, spare, answer_in_range, answer_of, scene_after, scene_by, tests, first_short, need_of, freed_by, IsValid, IsChange, IsRow, in_intervals, one_at, added_sum, removed_sum, after_leaves, after_valid, slots_add_up, Row, Styles, AreSlots, Parts, scene_in, AreKept, removed_after, new_row, row_in, object_in, StandsOnce}
 use Rattle.std.proofs.lemmas.Bool.{and_parts}
 use Rattle.gui_base.specs.declared.limits.Pool.{Pool}
 use Rattle.gui_base.specs.Intervals.{is_counted}
 use Rattle.gui_base.specs.declared.words.Kind.TheVariants.{Obj}
-use Rattle.gui_base.specs.Forest.{StandsOnce}
-use Rattle.scene_defs.specs.declared.Change.TheVariants as change
 use Rattle.gui_store.specs.Changed.{IsChanged}
 use Rattle.gui_store.proofs.Rows.{row_count, within_of, told-count, count-told}
 use Rattle.gui_store.proofs.Shown.{shown-handles, shown-object, shown-all}
@@ -54,20 +52,10 @@ module _ (p : Parts) (k : AreKept p) where
   pub counted : (h : ℕ) → row_count p.rows h ≡ count p.tree.forest h
   counted h = let once = ap (λ (f : Forest ℕ). count f h) (forest-is p) in told-count p.tree.forest h (value_at p.rows h) (omega (arith, once, k.valid.trees.once h)) (k.rows h)
 
-  -- An edit of the tree takes slots of objects alone, and answers what the tree does.
-  only_objects : (change : Change) → styling_of p.styles.book change ≡ None → (q : Pool) → (q ≡ Objects) ⊎ (need_of (scene_in p) change q ≡ 0)
-  only_objects change none Objects = inl refl
-  only_objects (change.Local h selector prop value) none q = cc
-  only_objects change none q = inr (cc)
-
-  pub tree-answer : (change : Change) (ts : Forest ℕ → List Test) (later : Option Refusal) → styling_of p.styles.book change ≡ None →
-      tests (scene_in p) change ≡ ts (handles_of (scene_in p).trees) →
-      later ≡ (if nat_lt p.tree.spare (need_of (scene_in p) change Objects) then Some (Full Objects) else None) →
-      result_of (answer_in_range (scene_in p) change) ≡ result_of (first_of (ts p.tree.forest) later)
-  tree-answer change ts later none e is =
-      let same : option_map Full (first_short (scene_in p) change POOLS) ≡ later =
-      grind (arith, nat_tests, one_short (scene_in p) change Objects (only_objects change none), is, k.objects) in
-      rw (e, forest-is p, same) refl
+  -- an edit of the tree answers what the tree does
+  pub tree-answer : (change : Change) (ts : Forest ℕ → List Test) (later : Option Refusal) → tests (scene_in p) change ≡ ts (handles_of (scene_in p).trees) →
+      option_map Full (first_short (scene_in p) change POOLS) ≡ later → result_of (answer_in_range (scene_in p) change) ≡ result_of (first_of (ts p.tree.forest) later)
+  tree-answer change ts later e short = rw (e, forest-is p, short) refl
 
 pub err-some : (o : Option Refusal) (x : Refusal) → result_of o ≡ Err x → o ≡ Some x
 err-some o x e = grind (arith, e)

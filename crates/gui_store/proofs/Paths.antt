@@ -1,20 +1,14 @@
 -- The path of an object goes on at its parent.
-use Rattle.gui_store.proofs.Common.{◌≡◌, ◌<◌, ◌⊎◌, ◌∙◌, sym, ap, subst, length, ℕ, true, List, [], ◌∷◌, Option, Some, None, option_map, inl, inr, arith, eqb, nat_tests, Forest, Empty, Tree, has, as_handle, Handle, parent_of, Parts, AreKept, scene_in, Object, Row, is_at, row_in, object_in, value_at, unwrap_or}
-use Rattle.std.specs.Prelude.{IfSome}
+use Rattle.gui_store.proofs.Common.{if◌then◌else◌, ◌≡◌, ◌<◌, ◌⊎◌, ◌∙◌, sym, ap, subst, length, ℕ, true, List, [], ◌∷◌, Option, Some, None, option_map, inl, inr, arith, eqb, nat_tests, Forest, Empty, Tree, has, as_handle, Handle, parent_of, Parts, AreKept, scene_in, Object, Row, is_at, row_in, object_in, value_at, unwrap_or, IfSome, parent_by, path_by, path_of, StandsOnce, option_or, value, styled_of, map-path_by, map, ℤ, IsDistinct, distinct_handles}
 use Rattle.std.proofs.lemmas.Bool.{cases_Bool}
-use Rattle.gui_base.specs.Forest.{parent_by, path_by, path_of, StandsOnce}
-use Rattle.std.specs.Option.{option_or}
 use Rattle.gui_base.specs.declared.props.Prop.{Prop}
+use Rattle.gui_base.specs.Props.{inherits}
 use Rattle.gui_base.specs.declared.words.Part.TheVariants.{Main}
-use Rattle.gui_store.specs.Values.{won_at, inherited_along, given_along, given_at}
+use Rattle.gui_store.specs.Values.{won_at, inherited_along, given_at}
 use Rattle.gui_store.proofs.Kept.{once, read-on, read-at}
 use Rattle.style_defs.specs.Kinds.{default_in}
 use Rattle.style_defs.specs.Value.{value_on}
-use Rattle.scene_defs.specs.Scene.{value, styled_of}
 use Rattle.gui_base.specs.declared.words.Part.{Part}
-use Rattle.gui_base.proofs.Forests.{map-path_by}
-use Rattle.std.specs.Prelude.{map, ℤ}
-use Rattle.gui_base.proofs.Visits.{IsDistinct, distinct_handles}
 
 abbrev path : Forest ℕ → List ℕ → ℕ → List ℕ
 path f above h = path_by (λ k. eqb k h) above f
@@ -87,5 +81,5 @@ value-is p k h part prop row o read given =
     let shown = λ (objects : List Object). value_on p.styles.book.styles (map (styled_of p.styles.book) objects) part prop in
     let default = λ (row : Row). default_in row.kind part row.states prop in
     ap (λ (row : Row). unwrap_or o (default row)) (read-at p k h row read)
-    ∙ ap (λ (o : Option ℤ). unwrap_or o (default (row_in p.rows h))) (given ∙ ap (λ (hs : List ℕ). given_along p hs h part prop) u.path)
+    ∙ ap (λ (o : Option ℤ). unwrap_or o (default (row_in p.rows h))) (given ∙ ap (λ (hs : List ℕ). option_or (won_at p h part prop) (if inherits prop then inherited_along p hs prop else None)) u.path)
     ∙ ap shown (sym (ap (map (object_in p.rows)) u.path) ∙ map-path_by (object_in p.rows) (is_at h) [] f)

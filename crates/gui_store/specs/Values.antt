@@ -21,13 +21,10 @@ module _ (p : Parts) where
   inherited_along hs prop =
       inherited p.styles.book.styles (map (styled_of p.styles.book) (map (object_in p.rows) hs)) prop
 
-  -- what wins for a part of h, or is inherited along this path
-  abbrev pub given_along : List ℕ → ℕ → Part → Prop → Option ℤ
-  given_along hs h part prop =
-      option_or (won_at h part prop) (if inherits prop then inherited_along hs prop else None)
-
+  -- what wins for the main part of h, else of the nearest above
   abbrev pub inherited_at : ℕ → Prop → Option ℤ
   inherited_at h prop = inherited_along (path_of p.tree.forest h) prop
 
+  -- what wins for a part of h, or is inherited
   abbrev pub given_at : ℕ → Part → Prop → Option ℤ
-  given_at h part prop = given_along (path_of p.tree.forest h) h part prop
+  given_at h part prop = option_or (won_at h part prop) (if inherits prop then inherited_at h prop else None)

@@ -9,9 +9,7 @@ parent_done : (c : After-set_parent) →
     Left (parts_of c.args.self.now) c.args.change.now (record (parts_of c.args.self.now) { tree = c.set_parent.new.self }) c.set_parent.result
 parent_done c =
     let e = c.set_parent.ensures in
-    let fits = rw c.in-Parent.is at c.requires.in_range in
-    rw c.in-Parent.is
-    (moved_below_other (parts_of c.args.self.now) c.args.self.now.kept c.in-Parent.h c.in-Parent.parent fits _ _ e.refused e.answer e.ok)
+    rw c.in-Parent.is (moved_below_other _ c.args.self.now.kept c.in-Parent.h c.in-Parent.parent (rw c.in-Parent.is at c.requires.in_range) _ _ e.refused e.answer e.ok)
 
 pub invariant_of-self : goal.invariant_of-self
 invariant_of-self c = record { kept = (parent_done c).kept }
@@ -23,10 +21,7 @@ index_done : (c : After-move_to_index) →
     Left (parts_of c.args.self.now) c.args.change.now (record (parts_of c.args.self.now) { tree = c.move_to_index.new.self }) c.move_to_index.result
 index_done c =
     let e = c.move_to_index.ensures in
-    let fits = rw c.in-Index.is at c.requires.in_range in
-    rw c.in-Index.is
-    (moved_beside (parts_of c.args.self.now) c.args.self.now.kept (change.Index c.in-Index.h c.in-Index.index) fits tt refl (λ w. refl) (λ q. (refl, refl)) refl
-    c.move_to_index.new.self c.move_to_index.result e.refused c.in-Index.h.0 c.in-Index.index refl refl e.answer e.ok)
+    rw c.in-Index.is (moved_beside _ c.args.self.now.kept (change.Index c.in-Index.h c.in-Index.index) (rw c.in-Index.is at c.requires.in_range) tt (λ w. refl) (λ q. (refl, refl)) refl _ _ e.refused c.in-Index.h.0 c.in-Index.index refl refl e.answer e.ok)
 
 pub invariant_of-self-in-Index : goal.invariant_of-self-in-Index
 invariant_of-self-in-Index c = record { kept = (index_done c).kept }
@@ -38,10 +33,7 @@ front_done : (c : After-move_to_index-in-Front) →
     Left (parts_of c.args.self.now) c.args.change.now (record (parts_of c.args.self.now) { tree = c.move_to_index-in-Front.new.self }) c.move_to_index-in-Front.result
 front_done c =
     let e = c.move_to_index-in-Front.ensures in
-    let fits = rw c.in-Front.is at c.requires.in_range in
-    rw c.in-Front.is
-    (moved_beside (parts_of c.args.self.now) c.args.self.now.kept (change.Front c.in-Front.h) fits tt refl (λ w. refl) (λ q. (refl, refl)) refl
-    c.move_to_index-in-Front.new.self c.move_to_index-in-Front.result e.refused c.in-Front.h.0 65535 refl (last-after _ c.args.self.now.kept c.in-Front.h 65535 (omega (arith, c.args.self.now.limits.scene.most_objects))) e.answer e.ok)
+    rw c.in-Front.is (moved_beside _ c.args.self.now.kept (change.Front c.in-Front.h) (rw c.in-Front.is at c.requires.in_range) tt (λ w. refl) (λ q. (refl, refl)) refl _ _ e.refused c.in-Front.h.0 65535 refl (last-after _ c.args.self.now.kept c.in-Front.h 65535 (omega (arith, c.args.self.now.limits.scene.most_objects))) e.answer e.ok)
 
 pub invariant_of-self-in-Front : goal.invariant_of-self-in-Front
 invariant_of-self-in-Front c = record { kept = (front_done c).kept }
@@ -53,10 +45,7 @@ back_done : (c : After-move_to_index-in-Back) →
     Left (parts_of c.args.self.now) c.args.change.now (record (parts_of c.args.self.now) { tree = c.move_to_index-in-Back.new.self }) c.move_to_index-in-Back.result
 back_done c =
     let e = c.move_to_index-in-Back.ensures in
-    let fits = rw c.in-Back.is at c.requires.in_range in
-    rw c.in-Back.is
-    (moved_beside (parts_of c.args.self.now) c.args.self.now.kept (change.Back c.in-Back.h) fits tt refl (λ w. refl) (λ q. (refl, refl)) refl
-    c.move_to_index-in-Back.new.self c.move_to_index-in-Back.result e.refused c.in-Back.h.0 0 refl refl e.answer e.ok)
+    rw c.in-Back.is (moved_beside _ c.args.self.now.kept (change.Back c.in-Back.h) (rw c.in-Back.is at c.requires.in_range) tt (λ w. refl) (λ q. (refl, refl)) refl _ _ e.refused c.in-Back.h.0 0 refl refl e.answer e.ok)
 
 pub invariant_of-self-in-Back : goal.invariant_of-self-in-Back
 invariant_of-self-in-Back c = record { kept = (back_done c).kept }

@@ -19,6 +19,22 @@ pub struct Area {
     ghost y2_fits: { IsCoordinate y2 },
 }
 
+impl Default for Area {
+    ghost use Rattle.gui_base.specs.Corners.{rect_of};
+
+    ghost is_default = { λ area. is_empty (rect_of area) ≡ true };
+
+    /// The area with no pixel.
+    fn default() -> Area {
+        Area {
+            x1: 0,
+            y1: 0,
+            x2: -1,
+            y2: -1,
+        }
+    }
+}
+
 impl Area {
     ghost use Rattle.gui_base.specs.Corners.{rect_of};
 
@@ -79,7 +95,7 @@ impl Area {
     }
 
     /// Whether both corners of another lie between its own.
-    fn holds_corners(self, other: Area) -> bool
+    pub fn holds_corners(self, other: Area) -> bool
         ensures { result ≡ has_corners (rect_of self) (rect_of other) }
     {
         is_within(self.x1, other.x1, other.x2, self.x2)

@@ -31,6 +31,15 @@ pub const INDEX: Count = Count { low: 0, high: 3999 };
 /// A wanted width or height in pixels.
 pub const EXTENT: Count = Count { low: 0, high: 4000 };
 
+/// A wanted width or height in hundredths of the parent's content area.
+pub const PERCENT: Count = Count { low: 0, high: 100 };
+
+/// How much of the free space of a track an item takes, beside the others that take some.
+pub const GROW: Count = Count { low: 0, high: 255 };
+
+/// A solved width or height in pixels.
+pub const SOLVED: Count = Count { low: 0, high: 8191 };
+
 /// A wanted coordinate in pixels.
 pub const COORDINATE: Interval = Interval {
     low: -4000,
@@ -63,6 +72,71 @@ pub const TEXT_ALIGN: Interval = Interval { low: 0, high: 2 };
 
 /// The number of a shared style.
 pub const STYLE: Count = Count { low: 1, high: 999 };
+
+/// The number of a font beside the built-in one.
+pub const FONT: Count = Count { low: 1, high: 99 };
+
+/// The height of a font in pixels.
+pub const FONT_HEIGHT: Count = Count { low: 1, high: 64 };
+
+/// How far the next character of a text stands from one, in pixels.
+pub const ADVANCE: Count = Count { low: 0, high: 64 };
+
+/// The sizes of the box of a glyph in pixels.
+pub const GLYPH_WIDTH: Count = Count { low: 0, high: 32 };
+
+pub const GLYPH_HEIGHT: Count = Count { low: 0, high: 64 };
+
+/// Where the box of a glyph stands in its cell, in pixels.
+pub const GLYPH_OFFSET: Interval = Interval { low: -64, high: 64 };
+
+/// The code of a character that has a glyph.
+pub const CODE: Interval = Interval {
+    low: 32,
+    high: 1_114_111,
+};
+
+/// The number of an image.
+pub const IMAGE: Count = Count { low: 1, high: 999 };
+
+/// A width or height of an image in pixels.
+pub const IMAGE_SIDE: Count = Count { low: 1, high: 256 };
+
+/// A row of an image, from 0.
+pub const IMAGE_ROW: Count = Count { low: 0, high: 255 };
+
+/// A value of a bar or a slider, and an end of its range.
+pub const VALUE: Interval = Interval {
+    low: -10_000,
+    high: 10_000,
+};
+
+/// The number of a focus group.
+pub const GROUP: Count = Count { low: 1, high: 99 };
+
+/// The number of the focus group of a device, 0 for none.
+pub const DEVICE_GROUP: Count = Count { low: 0, high: 99 };
+
+/// How many steps the encoder turns, backwards below 0.
+pub const TURN: Interval = Interval {
+    low: -100,
+    high: 100,
+};
+
+/// A time that passes, in milliseconds.
+pub const TICK: Count = Count {
+    low: 0,
+    high: 60_000,
+};
+
+/// How long an animation takes from its start to its end, in milliseconds.
+pub const ANIM_TIME: Count = Count {
+    low: 1,
+    high: 60_000,
+};
+
+/// How often an animation is played.
+pub const REPEAT: Count = Count { low: 1, high: 1000 };
 
 /// How deep an object may lie, a root having depth 1.
 pub const MAX_DEPTH: u8 = 16;

@@ -3,7 +3,9 @@
 
 pub mod area;
 pub mod bits;
+pub mod bytes;
 pub mod color;
+pub mod events;
 pub mod intervals;
 pub mod limits;
 pub mod names;
@@ -15,14 +17,18 @@ pub mod words;
 
 pub use area::Area;
 pub use bits::Bits;
+pub use bytes::Bytes;
 pub use color::Rgb565;
+pub use events::{Action, Aim, EventKind, Key, Path, Var};
 pub use limits::{Limits, Pool};
 pub use names::named;
 pub use pools::POOLS;
 pub use props::Prop;
 pub use refusal::Refusal;
 pub use steps::Steps;
-pub use words::{Flag, Kind, Length, Part, Selector, State};
+pub use words::{
+    Align, Flag, Flow, Format, Kind, Length, Part, Placing, Selector, State, TextAlign,
+};
 
 /// The name of an object. 1 is the top layer, 2 the system layer and 3 the first screen; callers choose from
 /// 10 to 9999.

@@ -125,8 +125,12 @@ pub struct Selector {
 /// A wanted width or height.
 #[derive(Clone, Copy, Debug, PartialEq, Eq)]
 pub enum Length {
-    /// So many pixels, from 0 to 4000.
+    /// A number of pixels, from 0 to 4000.
     Pixels(u16),
+    /// Hundredths of the parent's content area, from 0 to 100.
+    Percent(u8),
+    /// As much as what it holds.
+    Content,
 }
 
 /// Where an object stands in its parent's content area, unless the parent has a flow.
@@ -209,6 +213,13 @@ pub const PLACINGS: [(&'static str, Placing); 6] = [
     ("space_evenly", Placing::SpaceEvenly),
     ("space_around", Placing::SpaceAround),
     ("space_between", Placing::SpaceBetween),
+];
+
+/// The placings of the items of a track across it.
+pub const CROSS_PLACINGS: [(&'static str, Placing); 3] = [
+    ("start", Placing::Start),
+    ("end", Placing::End),
+    ("center", Placing::Center),
 ];
 
 /// Where a line of a text stands in its width.

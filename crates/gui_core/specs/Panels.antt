@@ -1,21 +1,15 @@
 -- What a refresh does to a panel.
-use Rattle.std.specs.Prelude.{◌≡◌, ◌<◌, ◌≤◌, IsSome, IfSome}
+use Rattle.std.specs.Prelude.{◌≡◌, ◌<◌, IfSome}
 use Rattle.scene_defs.specs.Scene.{Scene}
 use Rattle.scene_defs.specs.Picture.{picture}
 use Rattle.gui_edge.specs.Panel.{PanelState, HasSizes}
-use Rattle.gui_core.specs.declared.Refreshed.{Refreshed}
-use Rattle.gui_core.specs.declared.Refreshed.TheVariants.{Done, Fault}
+use Rattle.gui_refresh.specs.Refreshes.{KeepsPanel}
+use Rattle.gui_refresh.specs.declared.Refreshed.{Refreshed}
+use Rattle.gui_refresh.specs.declared.Refreshed.TheVariants.{Done, Fault}
 
 -- the panel shows the picture of this scene, where it tells
 abbrev pub ShowsScene : PanelState → Scene → Type 0
 ShowsScene panel scene = IfSome panel.shows (λ colors. colors ≡ picture scene)
-
--- what a refresh leaves as it was
-pub record KeepsPanel (old new : PanelState) : Type 0 where
-  pub told : IsSome old.shows → IsSome new.shows
-  pub frames : new.frames ≡ old.frames
-  pub present_faults : new.present_faults ≡ old.present_faults
-  pub flush_faults : old.flush_faults ≤ new.flush_faults
 
 -- a refresh of this scene
 pub record Refreshes (old new : PanelState) (scene : Scene) (answer : Refreshed) : Type 0 where

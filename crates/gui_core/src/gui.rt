@@ -1,30 +1,38 @@
 //! The machine.
-ghost use Rattle.std.specs.Prelude.{◌≡◌, ◌*◌, ◌≤◌, ◌+◌, IfOk, OnOk, OnErr, pos};
-ghost use Rattle.gui_base.specs.Area.{area_at};
+ghost use Rattle.std.specs.Prelude.{◌≡◌, false, IfOk, OnOk, OnErr, pos};
+ghost use Rattle.gui_base.specs.Area.{area_at, is_empty};
 ghost use Rattle.gui_base.specs.Corners.{rect_of};
-ghost use Rattle.gui_edge.specs.Panel.{HasSizes, CanFlush, Flushes, FlushDone, FlushFailed};
-ghost use Rattle.scene_defs.specs.Picture.{paint};
+ghost use Rattle.gui_edge.specs.Panel.{HasSizes};
+ghost use Rattle.scene_defs.specs.Place.{panel_of};
 ghost use Rattle.gui_store.specs.Views.{scene_of};
+ghost use Rattle.gui_layout.specs.Solved.{AreSolved, limits_of};
+ghost use Rattle.gui_refresh.specs.Stages.{sizes_of};
 ghost use Rattle.gui_core.specs.Panels.{Refreshes};
 
-use crate::Refreshed;
 use gui_base::{Area, Limits, NoMemory, Steps};
-use gui_color::DrawBuf;
-use gui_draw::Picture;
+use gui_damage::Damage;
 use gui_edge::{Failed, Panel, Sink};
+use gui_layout::Places;
 use gui_paint::Shown;
+use gui_refresh::{Refreshed, Refresher};
 use gui_store::Store;
 use run_defs::{Command, Reply};
 use scene_defs::Change;
 use std::alloc::Global;
 use std::sync::ledger::Ledger;
 
-/// A scene, and the buffer that slices of its picture are painted into.
+/// A scene with its places, the areas of the panel that are pending, and what sends their pixels of the
+/// scene's picture.
 #[derive(Drop)]
 pub struct Gui {
     store: Store,
-    buffer: DrawBuf,
-    ghost room: { buffer.limit ≡ (scene_of store).limits.width * (scene_of store).limits.lines },
+    places: Places,
+    damage: Damage,
+    refresher: Refresher,
+    ghost solved: { AreSolved places (scene_of store) },
+    ghost limits: { limits_of places ≡ (scene_of store).limits },
+    ghost panel: { damage.panel ≡ panel_of (scene_of store) },
+    ghost sizes: { refresher.sizes ≡ sizes_of (scene_of store).limits },
 }
 
 impl Gui {
@@ -43,8 +51,16 @@ impl Gui {
         ensures { IfOk result (λ gui. machine_of gui ≡ first_machine (bounds_of limits.now)) }
     {
         let store = Store::open(alloc, limits)?;
-        let buffer = DrawBuf::open(alloc, limits.width * limits.lines)?;
-        Ok(Gui { store, buffer })
+        let mut places = Places::open(alloc, limits)?;
+        places.solve_all(&store);
+        let damage = Damage::new(panel_area(limits));
+        let refresher = Refresher::open(alloc, limits)?;
+        Ok(Gui {
+            store,
+            places,
+            damage,
+            refresher,
+        })
     }
 
     /// Carries out a command, or answers its first refusal, which leaves all as it was. What its events write
@@ -65,7 +81,7 @@ impl Gui {
         }
     }
 
-    /// Changes the scene, and replies.
+    /// Changes the scene, solves its places, and replies.
     fn change(&mut self, change: &Change) -> Reply
         requires { IsChange change.now }
         ensures machine { machine_of self.new
@@ -73,7 +89,10 @@ impl Gui {
         ensures reply { result ≡ reply_by (answer_of (machine_of self.old).scene change.now) }
     {
         match self.store.apply(change) {
-            Ok(()) => Reply::Ok { noted: false },
+            Ok(()) => {
+                self.places.solve_all(&self.store);
+                Reply::Ok { noted: false }
+            }
             Err(refusal) => Reply::Refused(refusal),
         }
     }
@@ -85,57 +104,36 @@ impl Gui {
         &self.store
     }
 
-    /// Sends the picture of the scene, in slices of at most the panel's limit, and stops at the first fault.
-    /// `steps` counts the pixels that are made black as each slice begins, and each mix over a pixel.
+    /// The places of the scene's objects.
+    pub fn places(&self) -> &Places
+        ensures { AreSolved result.now (machine_of self.now).scene }
+    {
+        &self.places
+    }
+
+    /// Sends the picture of the scene, all of the panel, in slices of at most the panel's limit, and stops at
+    /// the first fault. `steps` counts the pixels that are made black as each slice begins, and each mix over
+    /// a pixel.
     pub fn refresh<P: Panel, B: Ledger>(&mut self, panel: &mut P, steps: &mut Steps<B>) -> Refreshed
         requires { HasSizes (P.state panel.old) (machine_of self.old).scene.limits }
         ensures machine { machine_of self.new ≡ machine_of self.old }
         ensures refreshes { Refreshes (P.state panel.old) (P.state panel.new) (machine_of self.old).scene
             result }
     {
-        let Limits {
-            width,
-            height,
-            lines,
-            ..
-        } = *self.store.limits();
-        let mut from = 0;
-        while from < height {
-            let count = lines.min(height - from);
-            match self.show_slice(panel, lines_area(width, from, count), steps) {
-                Ok(()) => from += count,
-                Err(Failed) => return Refreshed::Fault,
-            }
-        }
-        Refreshed::Done
-    }
-
-    /// Paints a slice of the picture and sends it.
-    fn show_slice<P: Panel, B: Ledger>(
-        &mut self,
-        panel: &mut P,
-        area: Area,
-        steps: &mut Steps<B>,
-    ) -> Result<(), Failed>
-        requires sizes { HasSizes (P.state panel.old) (machine_of self.old).scene.limits }
-        requires slice { CanFlush (P.state panel.old) (rect_of area) }
-        ensures machine { machine_of self.new ≡ machine_of self.old }
-        ensures same { Flushes (P.state panel.old) (P.state panel.new) (rect_of area) }
-        ensures ok { OnOk result (FlushDone (P.state panel.old) (P.state panel.new) (rect_of area)
-            (paint (machine_of self.old).scene)) }
-        ensures err { OnErr result (FlushFailed (P.state panel.old) (P.state panel.new) (rect_of area)) }
-    {
-        self.buffer.begin(area, steps);
-        Shown { store: &self.store }.slice(&mut self.buffer, steps);
-        panel.flush(area, self.buffer.pixels())
+        self.damage.add(panel_area(self.store.limits()));
+        let shown = Shown {
+            store: &self.store,
+            places: &self.places,
+        };
+        self.refresher
+            .refresh(&shown, &mut self.damage, panel, steps)
     }
 }
 
-/// Lines of a panel: all of its width, and `count` pixels downward from y = `from` on.
-fn lines_area(width: u32, from: u32, count: u32) -> Area
-    requires wide { width ≤ 1024 }
-    requires high { from + count ≤ 1024 }
-    ensures { rect_of result ≡ area_at (pos 0) (pos from) width count }
+/// All pixels of the panel of these limits.
+fn panel_area(limits: &Limits) -> Area
+    ensures value { rect_of result ≡ area_at (pos 0) (pos 0) limits.now.width limits.now.height }
+    ensures some { is_empty (rect_of result) ≡ false }
 {
-    Area::at(0, from as i32, width, count)
+    Area::at(0, 0, limits.width, limits.height)
 }

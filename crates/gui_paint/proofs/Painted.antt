@@ -8,6 +8,8 @@ use Rattle.gui_base.specs.declared.color.Rgb565.{Rgb565}
 use Rattle.gui_base.specs.Area.{Rect, has, is_empty, common}
 use Rattle.gui_base.specs.Forest.{Forest, Empty, Tree, and_then, tree_by}
 use Rattle.gui_base.proofs.Areas.{has-common}
+use Rattle.gui_base.specs.declared.words.Flag.TheVariants.{Hidden}
+use Rattle.scene_defs.specs.Row.{is_on}
 use Rattle.scene_defs.specs.Scene.{Object, Scene, is_at}
 use Rattle.scene_defs.specs.Place.{panel_of, place}
 use Rattle.scene_defs.specs.Visible.{some_area, met, holds, seen_of, root_tree, shown_trees}
@@ -37,7 +39,10 @@ module _ (x y : ℤ) where
 
 module _ (scene : Scene) (x y : ℤ) where
   holds-seen_of : (clip : Option Rect) (object : Object) → holds (seen_of (place scene) clip object) x y ≡ (holds clip x y && is_seen object.row (holds (place scene object.handle) x y))
-  holds-seen_of clip object = grind (arith, nat_tests, holds-met x y clip (place scene object.handle))
+  holds-seen_of clip object = elim (cases_Bool (is_on object.row.flags Hidden)) [
+    | inl is ↦ grind (arith, is)
+    | inr isnt ↦ rw isnt (holds-met x y clip (place scene object.handle))
+  ]
 
   own-seen : (area : Option Rect) (object : Object) (under : Rgb565) → fold (paint_seen x y) under (seen_alone (items scene) area object.handle) ≡ (if holds area x y then fold (paint_item x y) under (items scene object.handle) else under)
   own-seen None object under = refl

@@ -1,5 +1,5 @@
 -- How trees are painted one after another.
-use Rattle.std.proofs.Common.{◌≡◌, ◌∙◌, ◌<◌, IsSome, IsSomeAnd, IfSome, refl, sym, ap, subst, ℕ, ℤ, Bool, true, false, ◌&&◌, if◌then◌else◌, Option, Some, None, option_map, fold, eqb, [], ◌∷◌, arith}
+use Rattle.std.proofs.Common.{◌≡◌, ◌∙◌, ◌<◌, refl, sym, ap, subst, ℕ, ℤ, Bool, true, false, not, ◌&&◌, if◌then◌else◌, Option, Some, None, option_map, fold, eqb, [], ◌∷◌, arith}
 use Rattle.std.proofs.lemmas.Bool.Decides.{nat_tests}
 use Rattle.gui_base.specs.declared.color.Rgb565.{Rgb565}
 use Rattle.gui_base.specs.declared.words.Part.TheVariants.{Main}
@@ -13,15 +13,15 @@ use Rattle.gui_color.specs.Buffer.{Buffer, pixel_at}
 use Rattle.gui_draw.specs.Drawing.{Draws}
 use Rattle.scene_defs.specs.declared.Row.{Row}
 use Rattle.gui_tree.specs.Handles.{as_handle}
+use Rattle.gui_base.specs.declared.words.Flag.TheVariants.{Hidden}
+use Rattle.scene_defs.specs.Row.{is_on}
 use Rattle.scene_defs.specs.Scene.{Object, Scene, handle_of, handles_of, is_at, is_there, object_by, row_at, row_of, value}
-use Rattle.scene_defs.specs.Place.{content_of, insets, panel_of, place, wanted_in}
-use Rattle.scene_defs.specs.Placing.{IsNear}
+use Rattle.scene_defs.specs.Place.{panel_of, place}
 use Rattle.scene_defs.specs.Visible.{holds}
 use Rattle.scene_defs.specs.Items.{Item, coat_of, fill_of, items, paint_item, ring_of}
 use Rattle.scene_defs.specs.Valid.{IsValid}
 use Rattle.scene_defs.proofs.Distinct.{distinct_once, there}
 use Rattle.scene_defs.proofs.Handles.{has-handles}
-use Rattle.scene_defs.proofs.Places.{children_in_parents, places_near}
 use Rattle.gui_paint.specs.Painting.{Painting, Leaves, Paints, IsSeenPart, IsUnseen, no_more, is_seen, painted, painted_item, painted_object, painted_tree, painted_scene}
 use Rattle.gui_paint.proofs.Painted.{painted-unseen, three_trees}
 
@@ -149,6 +149,21 @@ unseen_tree scene clip h row area x y under is at unseen =
     ∙ (ap (λ (here : Bool). painted scene x y here (children_by (is_at h) scene.trees) (if here then fold (paint_item x y) under (items scene h) else under)) (unseen.pixels x y)
     ∙ painted-unseen scene x y (children_by (is_at h) scene.trees) under)
 
+-- an object that stands nowhere
+nowhere : (clip hidden : Bool) → (clip && (not hidden && false)) ≡ false
+nowhere clip hidden = grind arith
+
+pub placeless_tree : (scene : Scene) (clip : Rect) (h : ℕ) (row : Row) (x y : ℤ) (under : Rgb565) → Some row ≡ row_at scene h → place scene h ≡ None →
+    painted_tree scene clip h x y under ≡ under
+placeless_tree scene clip h row x y under is none =
+    let by : Option Rect → Rgb565 = λ (p : Option Rect).
+    let here = has clip x y && is_seen row (holds p x y) in
+    painted scene x y here (children_by (is_at h) scene.trees) (if here then fold (paint_item x y) under (items scene h) else under) in
+    ap (λ (t : Forest Object). painted scene x y (has clip x y) t under) (tree_is scene h row is)
+    ∙ (ap by none
+    ∙ (ap (λ (here : Bool). painted scene x y here (children_by (is_at h) scene.trees) (if here then fold (paint_item x y) under (items scene h) else under)) (nowhere (has clip x y) (is_on row.flags Hidden))
+    ∙ painted-unseen scene x y (children_by (is_at h) scene.trees) under))
+
 -- an object where it is seen, and then all below it
 pub seen_tree : (old mid new : Buffer) (scene : Scene) (clip visible : Rect) (h : ℕ) (row : Row) (area : Rect) (first : Option Handle) → Some row ≡ row_at scene h → place scene h ≡ Some area → IsSeenPart clip row area visible →
     trees_from handle_of first scene.trees ≡ children_by (is_at h) scene.trees → Paints old mid (painted_object scene visible h) → Leaves mid new (painted_from scene visible first) no_more → Paints old new (painted_tree scene clip h)
@@ -170,18 +185,6 @@ module _ (scene : Scene) (h : ℕ) (child : Handle) (valid : IsValid scene) (com
 
   pub child_small : (row : Row) → Some row ≡ row_at scene h → size (tree_by (is_at child.0) scene.trees) < size (tree_by (is_at h) scene.trees)
   child_small row is = rw (on.tree, tree_is scene h row is) (omega (arith, on.small))
-
-  pub child_wanted : (area : Rect) → place scene h ≡ Some area → place scene child.0 ≡ option_map (wanted_in (content_of (insets scene h) area)) (row_at scene child.0)
-  child_wanted area at = children_in_parents scene h child.0 area valid at on.below
-
-  pub child_near : (area : Rect) → place scene h ≡ Some area → IsSomeAnd (place scene child.0) IsNear
-  child_near area at = go (place scene child.0) (places_near scene child.0 valid) is_some where
-    is_some : IsSome (place scene child.0)
-    is_some = rw (child_wanted area at, object_root (is_at child.0) scene.trees, on.tree) refl
-
-    go : (o : Option Rect) → IfSome o IsNear → IsSome o → IsSomeAnd o IsNear
-    go None near some = cc
-    go (Some a) near some = near
 
   module _ (forest : Forest ℕ) (next : Option Handle) (same : forest ≡ handles_of scene.trees) (is : next ≡ option_map as_handle (next_to forest child.0)) where
     gone : GoesOn handle_of scene.trees h child next

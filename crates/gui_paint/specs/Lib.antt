@@ -1,2 +1,1 @@
-pub mod Insets
 pub mod Painting

@@ -2,7 +2,7 @@
 #![tactic(auto)]
 
 mod paint;
-mod place;
+mod shown;
 mod values;
 
-pub use paint::Shown;
+pub use shown::Shown;

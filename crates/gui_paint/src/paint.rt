@@ -10,7 +10,7 @@ ghost use Rattle.gui_store.specs.Views.{scene_of};
 ghost use Rattle.gui_paint.specs.Painting.{Paints, IsSeenPart, IsUnseen, painted_item, painted_object};
 ghost use Rattle.gui_paint.specs.Painting.{painted_tree, painted_scene};
 
-use crate::place::{content_of, place_in};
+use crate::shown::Shown;
 use crate::values::{color, number};
 use gui_base::{Area, Flag, Handle, Prop, Steps};
 use gui_color::DrawBuf;
@@ -24,48 +24,44 @@ const TOP_LAYER: Handle = Handle(1);
 /// The layer above all else.
 const SYSTEM_LAYER: Handle = Handle(2);
 
-/// The picture of a scene: the active screen, and the two layers over it.
-#[derive(Clone, Copy)]
-pub struct Shown<'a> {
-    pub store: &'a Store,
-}
-
 impl<'a> Picture for Shown<'a> {
     ghost use Rattle.scene_defs.specs.Picture.{paint};
 
     ghost color = { λ s. paint (scene_of s.store.now) };
 
     fn slice<L: Ledger>(&self, buf: &mut DrawBuf, steps: &mut Steps<L>) {
-        paint(self.store, buf, steps);
+        paint(self, buf, steps);
     }
 }
 
 /// Paints what is shown of a scene over the pixels of the buffer.
-fn paint<L: Ledger>(store: &Store, buf: &mut DrawBuf, steps: &mut Steps<L>)
-    ensures { Paints buf.old buf.new (painted_scene (scene_of store.now)) }
+fn paint<L: Ledger>(shown: &Shown, buf: &mut DrawBuf, steps: &mut Steps<L>)
+    ensures { Paints buf.old buf.new (painted_scene (scene_of shown.now.store.now)) }
 {
-    let limits = store.limits();
+    let limits = shown.store.limits();
     let panel = Area::at(0, 0, limits.width, limits.height);
     let clip = panel.meet(buf.area());
-    paint_tree(store, buf, clip, panel, store.active(), steps);
-    paint_tree(store, buf, clip, panel, TOP_LAYER, steps);
-    paint_tree(store, buf, clip, panel, SYSTEM_LAYER, steps);
+    paint_tree(shown, buf, clip, shown.store.active(), steps);
+    paint_tree(shown, buf, clip, TOP_LAYER, steps);
+    paint_tree(shown, buf, clip, SYSTEM_LAYER, steps);
 }
 
-/// Paints an object, which has this place, and then all below it. The clip is what is seen of its parent.
+/// Paints an object, and then all below it. The clip is what is seen of its parent.
 fn paint_tree<L: Ledger>(
-    store: &Store,
+    shown: &Shown,
     buf: &mut DrawBuf,
     clip: Area,
-    place: Area,
     h: Handle,
     steps: &mut Steps<L>,
 )
-    requires { place_of (scene_of store.now) h.0 ≡ Some (rect_of place) }
-    ensures { Paints buf.old buf.new (painted_tree (scene_of store.now) (rect_of clip) h.0) }
+    ensures { Paints buf.old buf.new (painted_tree (scene_of shown.now.store.now) (rect_of clip) h.0) }
 {
+    let store = shown.store;
     let tree = store.tree();
     let Some(row) = store.row(h) else {
+        return;
+    };
+    let Some(place) = shown.places.place(h) else {
         return;
     };
     let Some(visible) = seen_part(row, clip, place) else {
@@ -75,11 +71,9 @@ fn paint_tree<L: Ledger>(
     let Some(first) = tree.first_child(h) else {
         return;
     };
-    let content = content_of(store, place, h);
     let mut next = Some(first);
     while let Some(child) = next {
-        let at = place_in(store, content, child);
-        paint_tree(store, buf, visible, at, child, steps);
+        paint_tree(shown, buf, visible, child, steps);
         next = tree.next(child);
     }
 }

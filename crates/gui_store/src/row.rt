@@ -1,12 +1,13 @@
 //! The row of an object: its first values, and the changes that set it.
-ghost use Rattle.std.specs.Prelude.{◌≡◌, false, true, option_map};
+ghost use Rattle.std.specs.Prelude.{◌≡◌, ◌&&◌, false, true, option_map};
 ghost use Rattle.gui_base.specs.Bits.{flag_bit, with_bit};
-ghost use Rattle.scene_defs.specs.Row.{new_row, flags_of, is_size};
+ghost use Rattle.gui_base.specs.Intervals.{is_within};
+ghost use Rattle.scene_defs.specs.Row.{new_row, flags_of, is_size, is_cross};
 ghost use Rattle.scene_defs.specs.Row.{setter_of, row_after};
 ghost use Rattle.gui_store.specs.Setters.{asked_of};
 
-use gui_base::intervals::{COORDINATE, EXTENT};
-use gui_base::{Bits, Flag, Handle, Kind, Length};
+use gui_base::intervals::{COORDINATE, EXTENT, GROW, PERCENT};
+use gui_base::{Align, Bits, Flag, Flow, Handle, Kind, Length, Placing};
 use scene_defs::{Change, Row};
 
 /// The flags of a new screen or object.
@@ -33,8 +34,12 @@ pub(crate) fn new_row(kind: Kind) -> Row
         states: 0,
         x: 0,
         y: 0,
+        align: Align::TopLeft,
         width: Length::Pixels(100),
         height: Length::Pixels(50),
+        flow: Flow::Free,
+        places: (Placing::Start, Placing::Start, Placing::Start),
+        grow: 0,
     }
 }
 
@@ -79,13 +84,14 @@ pub(crate) fn setter_of(change: &Change) -> Option<Setter>
 {
     match *change {
         Change::Flag(h, _, _) | Change::State(h, _, _) => Some(Setter::of_any(h, true)),
-        Change::Pos(h, x, y) => {
-            let fits = COORDINATE.holds(x) && COORDINATE.holds(y);
-            Some(Setter::of_child(h, fits))
-        }
+        Change::Pos(h, x, y) => Some(Setter::of_child(h, is_place(x, y))),
+        Change::Align(h, _, x, y) => Some(Setter::of_child(h, is_place(x, y))),
         Change::Size(h, width, height) => {
             Some(Setter::of_child(h, is_size(width) && is_size(height)))
         }
+        Change::Flex(h, _) => Some(Setter::of_any(h, true)),
+        Change::Places(h, _, cross, _) => Some(Setter::of_any(h, is_cross(cross))),
+        Change::Grow(h, n) => Some(Setter::of_child(h, GROW.holds(n as u16))),
         _ => None,
     }
 }
@@ -100,13 +106,28 @@ pub(crate) fn set_row(row: &mut Row, change: &Change)
             row.x = x;
             row.y = y;
         }
+        Change::Align(_, align, x, y) => {
+            row.align = align;
+            row.x = x;
+            row.y = y;
+        }
         Change::Size(_, width, height) => {
             row.width = width;
             row.height = height;
         }
+        Change::Flex(_, flow) => row.flow = flow,
+        Change::Places(_, main, cross, track) => row.places = (main, cross, track),
+        Change::Grow(_, n) => row.grow = n,
         Change::State(_, state, on) => row.states = Bits(row.states).with(state.bit(), on).0,
         _ => {}
     }
+}
+
+/// Whether these are coordinates of a wanted place.
+fn is_place(x: i32, y: i32) -> bool
+    ensures { result ≡ (is_within COORDINATE x && is_within COORDINATE y) }
+{
+    COORDINATE.holds(x) && COORDINATE.holds(y)
 }
 
 fn is_size(length: Length) -> bool
@@ -114,7 +135,16 @@ fn is_size(length: Length) -> bool
 {
     match length {
         Length::Pixels(n) => EXTENT.holds(n),
+        Length::Percent(n) => PERCENT.holds(n as u16),
+        Length::Content => true,
     }
+}
+
+/// Whether it places the items of a track across it.
+fn is_cross(placing: Placing) -> bool
+    ensures { result ≡ is_cross placing }
+{
+    matches!(placing, Placing::Start | Placing::End | Placing::Center)
 }
 
 /// The flags with one of them switched on or off.

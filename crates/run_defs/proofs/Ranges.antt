@@ -12,13 +12,13 @@ use Rattle.gui_base.specs.Intervals.{is_counted, is_within}
 use Rattle.gui_base.specs.Names.{table, named}
 use Rattle.gui_base.specs.declared.intervals.Count.{Count}
 use Rattle.gui_base.specs.declared.intervals.Interval.{Interval}
-use Rattle.gui_base.specs.declared.intervals.TheConstants.{HANDLE, NEW_HANDLE, INDEX, EXTENT, COORDINATE, COLOR, STYLE, TEXT_ALIGN}
+use Rattle.gui_base.specs.declared.intervals.TheConstants.{HANDLE, NEW_HANDLE, INDEX, EXTENT, PERCENT, COORDINATE, GROW, COLOR, STYLE, TEXT_ALIGN}
 use Rattle.gui_base.specs.declared.words.Kind.TheVariants.{Obj}
 use Rattle.gui_base.specs.declared.words.TextAlign.{TextAlign}
 use Rattle.gui_base.specs.declared.props.Prop.{Prop}
 use Rattle.gui_base.specs.declared.props.Prop.TheVariants as prop
 use Rattle.gui_base.specs.Props.{is_value, values_of}
-use Rattle.scene_defs.specs.Row.{is_size}
+use Rattle.scene_defs.specs.Row.{is_size, is_cross}
 use Rattle.run_defs.specs.declared.names.Name.{Name}
 use Rattle.run_defs.specs.declared.names.Name.TheVariants as name
 use Rattle.run_defs.specs.declared.names.RowName.{RowName}
@@ -28,10 +28,11 @@ use Rattle.run_defs.specs.declared.names.StyleName.TheVariants as style
 use Rattle.run_defs.specs.declared.names.TreeName.{TreeName}
 use Rattle.run_defs.specs.declared.names.TreeName.TheVariants as tree
 use Rattle.run_defs.specs.declared.names.TheConstants.{COMMANDS}
-use Rattle.run_defs.specs.Commands.{handle, new_handle, index, extent, coordinate, kind, style_number, color_value, align_number, value_for}
+use Rattle.run_defs.specs.Commands.{handle, new_handle, index, extent, coordinate, cross_placing, grow, kind, style_number, color_value, align_number, value_for}
 use Rattle.run_defs.specs.Commands.{tree_fields, row_fields, style_fields, change_line, line_fields, named_says, command_says}
 use Rattle.run_defs.specs.Fields.{Progress, number_in, count_in, value, start}
 use Rattle.run_defs.specs.Language.{Word, mapped, words_of}
+use Rattle.run_defs.specs.Lengths.{before_percent, length_by, length_said}
 use Rattle.run_defs.specs.Laws.{IsInRange, SaysInRange}
 use Rattle.run_defs.specs.Numbers.{within, number, number_of, natural, color_from, color}
 use Rattle.run_defs.specs.Script.{line_says, words_say}
@@ -85,8 +86,22 @@ new_handle-in at = rw value-over (count-in NEW_HANDLE refl at)
 index-in : (at : Progress) → is_counted INDEX (value index at) ≡ true
 index-in at = count-in INDEX refl at
 
+length-ok : (word : Word) → IfOk (length_said word) (λ length. is_size length ≡ true)
+unfolding length_said
+length-ok word = by (before_percent word) where
+  by : (number : Option Word) → IfOk (length_by number word) (λ length. is_size length ≡ true)
+  by None = grind (arith, natural-ok EXTENT.low EXTENT.high word)
+  by (Some number) = grind (arith, natural-ok PERCENT.low PERCENT.high number)
+
 extent-in : (at : Progress) → is_size (value extent at) ≡ true
-extent-in at = rw value-over (count-in EXTENT refl at)
+extent-in at = value-is extent is_size refl length-ok at
+
+cross-in : (at : Progress) → is_cross (value cross_placing at) ≡ true
+unfolding value named
+cross-in at = grind arith
+
+grow-in : (at : Progress) → is_counted GROW (value grow at) ≡ true
+grow-in at = count-in GROW refl at
 
 coordinate-in : (at : Progress) → is_within COORDINATE (value coordinate at) ≡ true
 coordinate-in at = number-in COORDINATE refl at
@@ -108,7 +123,7 @@ value-in prop.TextColor at = color_value-in at
 value-in prop.TextAlign at = rw value-over (align-in _)
 value-in prop at = number-in (values_of prop) refl at
 
-ruleset inside = (handle-in, new_handle-in, index-in, extent-in, coordinate-in, style_number-in, value-in)
+ruleset inside = (handle-in, new_handle-in, index-in, extent-in, coordinate-in, cross-in, grow-in, style_number-in, value-in)
 
 -- a command makes no kind that only roots have
 kind-is : (at : Progress) → value kind at ≡ Obj

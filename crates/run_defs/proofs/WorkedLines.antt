@@ -5,7 +5,10 @@ use Rattle.hex.specs.Hex.{decode_pairs}
 use Rattle.gui_base.specs.Bits.{with_bit}
 use Rattle.gui_base.specs.Names.{named}
 use Rattle.gui_base.specs.declared.words.Flag.TheVariants.{Bubble}
-use Rattle.gui_base.specs.declared.words.Length.TheVariants.{Pixels}
+use Rattle.gui_base.specs.declared.words.Align.TheVariants.{BottomMid}
+use Rattle.gui_base.specs.declared.words.Flow.TheVariants.{RowWrap}
+use Rattle.gui_base.specs.declared.words.Length.TheVariants.{Pixels, Percent, Content}
+use Rattle.gui_base.specs.declared.words.Placing.TheVariants.{End, Center, SpaceEvenly}
 use Rattle.gui_base.specs.declared.words.Part.TheVariants.{Main, Knob}
 use Rattle.gui_base.specs.declared.words.State.TheVariants.{Pressed}
 use Rattle.gui_base.specs.declared.props.Prop.TheVariants.{BgColor, TextAlign}
@@ -14,7 +17,8 @@ use Rattle.scene_defs.specs.declared.Change.TheVariants as change
 use Rattle.run_defs.specs.declared.Command.TheVariants.{Change as CommandOf}
 use Rattle.run_defs.specs.declared.Line.TheVariants.{Blank, Frame, Make}
 use Rattle.run_defs.specs.declared.LineFault.TheVariants.{Syntax, Range}
-use Rattle.run_defs.specs.Commands.{command_says, state, property}
+use Rattle.run_defs.specs.Commands.{command_says, state, property, align, flow}
+use Rattle.run_defs.specs.Lengths.{length_said}
 use Rattle.run_defs.specs.Fields.{over, value, past}
 use Rattle.run_defs.specs.Numbers.{number, natural, color}
 use Rattle.run_defs.specs.Selectors.{selector_named, state_named}
@@ -28,6 +32,11 @@ worked : map (λ line. parse line) (
     ∷ codes "  # frame 1"
     ∷ codes "pos 12  -40 7 "
     ∷ codes "size 12 0 4000"
+    ∷ codes "size 12 50% content"
+    ∷ codes "align 12 bottom_mid -1 2"
+    ∷ codes "flex 1 row_wrap"
+    ∷ codes "places 1 space_evenly end center"
+    ∷ codes "grow 12 255"
     ∷ codes "flag 1 bubble on"
     ∷ codes "state 12 pressed off"
     ∷ codes "style 7"
@@ -40,6 +49,11 @@ worked : map (λ line. parse line) (
     ∷ Ok Blank
     ∷ asks (change.Pos (record { 0 = 12 }) (neg_ℤ (pos 40)) (pos 7))
     ∷ asks (change.Size (record { 0 = 12 }) (Pixels 0) (Pixels 4000))
+    ∷ asks (change.Size (record { 0 = 12 }) (Percent 50) Content)
+    ∷ asks (change.Align (record { 0 = 12 }) BottomMid (neg_ℤ (pos 1)) (pos 2))
+    ∷ asks (change.Flex (record { 0 = 1 }) RowWrap)
+    ∷ asks (change.Places (record { 0 = 1 }) SpaceEvenly End Center)
+    ∷ asks (change.Grow (record { 0 = 12 }) 255)
     ∷ asks (change.Flag (record { 0 = 1 }) Bubble true)
     ∷ asks (change.State (record { 0 = 12 }) Pressed false)
     ∷ asks (change.Style 7)
@@ -48,7 +62,7 @@ worked : map (λ line. parse line) (
     ∷ asks (change.Unuse (record { 0 = 12 }) 7 (record { part = Main; states = 32768 }))
     ∷ asks (change.Set 7 TextAlign (pos 2))
     ∷ []
-unfolding line_says command_says named value past over number natural color decode_pairs state property selector_named state_named with_bit
+unfolding line_says command_says named value past over number natural color decode_pairs state property align flow length_said selector_named state_named with_bit
 worked = refl
 
 -- the form of the whole line comes before the intervals of its numbers, and what a value may be depends on the property
@@ -57,12 +71,16 @@ faults : map (λ line. parse line) (
     ∷ codes "pos 12 -4001 07"
     ∷ codes "pos 12 -4001"
     ∷ codes "pos 12 -4001 7 7"
+    ∷ codes "size 12 101% 1"
+    ∷ codes "size 12 05% 1"
+    ∷ codes "places 1 start space_evenly start"
+    ∷ codes "grow 12 256"
     ∷ codes "local 12 main bg_opa 256"
     ∷ codes "local 12 main bg_opa #ffffff"
     ∷ codes "set 7 pad_row 1001"
     ∷ codes "set 7 pad_rows 1001"
     ∷ codes "use 12 1000 main:"
     ∷ codes "use 12 1000 main:pressed"
-    ∷ []) ≡ Err Range ∷ Err Syntax ∷ Err Syntax ∷ Err Syntax ∷ Err Range ∷ Err Syntax ∷ Err Range ∷ Err Syntax ∷ Err Syntax ∷ Err Range ∷ []
-unfolding line_says command_says named value past over number natural color decode_pairs state property selector_named state_named with_bit
+    ∷ []) ≡ Err Range ∷ Err Syntax ∷ Err Syntax ∷ Err Syntax ∷ Err Range ∷ Err Syntax ∷ Err Syntax ∷ Err Range ∷ Err Range ∷ Err Syntax ∷ Err Range ∷ Err Syntax ∷ Err Syntax ∷ Err Range ∷ []
+unfolding line_says command_says named value past over number natural color decode_pairs state property align flow length_said selector_named state_named with_bit
 faults = refl

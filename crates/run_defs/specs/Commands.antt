@@ -2,16 +2,23 @@
 use Rattle.std.specs.Prelude.{ℕ, ℤ, pos, Bool, false, List, Some, None, Err}
 use Rattle.std.specs.declared.option.Option.{Option}
 use Rattle.gui_base.specs.declared.Handle.{Handle}
-use Rattle.gui_base.specs.declared.intervals.TheConstants.{HANDLE, NEW_HANDLE, INDEX, EXTENT, COORDINATE}
+use Rattle.gui_base.specs.declared.intervals.TheConstants.{HANDLE, NEW_HANDLE, INDEX, COORDINATE, GROW}
 use Rattle.gui_base.specs.declared.intervals.TheConstants.{STYLE}
-use Rattle.gui_base.specs.declared.words.TheConstants.{KINDS, FLAGS, ON_OFF, STATES, TEXT_ALIGNS}
+use Rattle.gui_base.specs.declared.words.TheConstants.{KINDS, FLAGS, ON_OFF, STATES, TEXT_ALIGNS, ALIGNS}
+use Rattle.gui_base.specs.declared.words.TheConstants.{FLOWS, PLACINGS, CROSS_PLACINGS}
+use Rattle.gui_base.specs.declared.words.Align.{Align}
+use Rattle.gui_base.specs.declared.words.Align.TheVariants.{TopLeft}
 use Rattle.gui_base.specs.declared.words.Flag.{Flag}
 use Rattle.gui_base.specs.declared.words.Flag.TheVariants.{Hidden}
+use Rattle.gui_base.specs.declared.words.Flow.{Flow}
+use Rattle.gui_base.specs.declared.words.Flow.TheVariants.{Free}
 use Rattle.gui_base.specs.declared.words.Kind.{Kind}
 use Rattle.gui_base.specs.declared.words.Kind.TheVariants.{Obj}
 use Rattle.gui_base.specs.declared.words.Length.{Length}
 use Rattle.gui_base.specs.declared.words.Length.TheVariants.{Pixels}
 use Rattle.gui_base.specs.declared.words.Part.TheVariants.{Main}
+use Rattle.gui_base.specs.declared.words.Placing.{Placing}
+use Rattle.gui_base.specs.declared.words.Placing.TheVariants.{Start}
 use Rattle.gui_base.specs.declared.words.Selector.{Selector}
 use Rattle.gui_base.specs.declared.words.State.{State}
 use Rattle.gui_base.specs.declared.words.State.TheVariants.{Checked}
@@ -40,6 +47,7 @@ use Rattle.run_defs.specs.declared.names.TheConstants.{COMMANDS}
 use Rattle.run_defs.specs.Fields.{Field, Progress, Made, number_in, count_in, over, name_in, fields, ◌▹◌}
 use Rattle.run_defs.specs.Fields.{or_syntax, with_two, start, ended}
 use Rattle.run_defs.specs.Language.{Word, Reading}
+use Rattle.run_defs.specs.Lengths.{length_said}
 use Rattle.run_defs.specs.Numbers.{color}
 use Rattle.run_defs.specs.Selectors.{selector_named}
 
@@ -53,8 +61,9 @@ new_handle = over (λ n. record { 0 = n }) (count_in NEW_HANDLE)
 abbrev pub index : Field ℕ
 index = count_in INDEX
 
+-- a wanted width or height
 abbrev pub extent : Field Length
-extent = over Pixels (count_in EXTENT)
+extent = record { says = length_said; stand_in = Pixels 0 }
 
 abbrev pub coordinate : Field ℤ
 coordinate = number_in COORDINATE
@@ -70,6 +79,23 @@ switch = name_in (table {A = Bool} ON_OFF) false
 
 unfoldable pub state : Field State
 state = name_in (table {A = State} STATES) Checked
+
+unfoldable pub align : Field Align
+align = name_in (table {A = Align} ALIGNS) TopLeft
+
+unfoldable pub flow : Field Flow
+flow = name_in (table {A = Flow} FLOWS) Free
+
+abbrev pub placing : Field Placing
+placing = name_in (table {A = Placing} PLACINGS) Start
+
+-- a placing of the items of a track across it
+abbrev pub cross_placing : Field Placing
+cross_placing = name_in (table {A = Placing} CROSS_PLACINGS) Start
+
+-- how much of the free space of its track an object takes
+abbrev pub grow : Field ℕ
+grow = count_in GROW
 
 -- the number of a style
 abbrev pub style_number : Field ℕ
@@ -121,7 +147,11 @@ abbrev pub row_fields : RowName → Progress → Made Change
 row_fields row.Flag at = fields change.Flag at ▹ handle ▹ flag ▹ switch
 row_fields row.State at = fields change.State at ▹ handle ▹ state ▹ switch
 row_fields row.Pos at = fields change.Pos at ▹ handle ▹ coordinate ▹ coordinate
+row_fields row.Align at = fields change.Align at ▹ handle ▹ align ▹ coordinate ▹ coordinate
 row_fields row.Size at = fields change.Size at ▹ handle ▹ extent ▹ extent
+row_fields row.Flex at = fields change.Flex at ▹ handle ▹ flow
+row_fields row.Places at = fields change.Places at ▹ handle ▹ placing ▹ cross_placing ▹ placing
+row_fields row.Grow at = fields change.Grow at ▹ handle ▹ grow
 
 -- the changes of styles, and of what an object has of them
 abbrev pub style_fields : StyleName → Progress → Made Change

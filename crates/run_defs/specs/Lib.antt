@@ -2,6 +2,7 @@ pub mod Commands
 pub mod Fields
 pub mod Language
 pub mod Laws
+pub mod Lengths
 pub mod Machine
 pub mod Numbers
 pub mod Run

@@ -19,7 +19,11 @@ pub enum RowName {
     Flag,
     State,
     Pos,
+    Align,
     Size,
+    Flex,
+    Places,
+    Grow,
 }
 
 /// A change of styles, or of what an object has of them.
@@ -44,7 +48,7 @@ pub enum Name {
 }
 
 /// The names of all commands.
-pub const COMMANDS: [(&'static str, Name); 20] = [
+pub const COMMANDS: [(&'static str, Name); 24] = [
     ("frame", Name::Frame),
     ("screen", Name::Tree(TreeName::Screen)),
     ("new", Name::Tree(TreeName::New)),
@@ -57,7 +61,11 @@ pub const COMMANDS: [(&'static str, Name); 20] = [
     ("flag", Name::Row(RowName::Flag)),
     ("state", Name::Row(RowName::State)),
     ("pos", Name::Row(RowName::Pos)),
+    ("align", Name::Row(RowName::Align)),
     ("size", Name::Row(RowName::Size)),
+    ("flex", Name::Row(RowName::Flex)),
+    ("places", Name::Row(RowName::Places)),
+    ("grow", Name::Row(RowName::Grow)),
     ("style", Name::Style(StyleName::Style)),
     ("set", Name::Style(StyleName::Set)),
     ("unset", Name::Style(StyleName::Unset)),

@@ -3,7 +3,6 @@ pub mod Distinct
 pub mod Handles
 pub mod InRange
 pub mod Pictures
-pub mod Places
 pub mod RowKinds
 pub mod Totals
 pub mod Validity

@@ -14,7 +14,6 @@ use Rattle.style_defs.specs.Book.{Book, locals_of}
 use Rattle.style_defs.specs.InOrder.{IsBook, IsEntry}
 use Rattle.style_defs.proofs.Ranges.{values_in_range as all_in_range}
 use Rattle.style_defs.specs.Value.{Styled}
-use Rattle.scene_defs.specs.Place.{Insets, insets}
 use Rattle.scene_defs.specs.Scene.{Object, Scene, styled_of, path_at, value}
 use Rattle.scene_defs.specs.Values.{ValuesInRange}
 use Rattle.scene_defs.specs.Valid.{IsValid}
@@ -37,26 +36,3 @@ objects_fit book objects in_order = All-map Fits (styled_of book) objects (all_o
 pub values_in_range : ValuesInRange
 values_in_range scene h part prop valid =
     all_in_range scene.book.styles (map (styled_of scene.book) (path_at scene h)) part prop (record { settings = valid.book.settings; locals = objects_fit scene.book (path_at scene h) valid.book })
-
--- a border and a pad are at most 1100 pixels together
-pub record AreSmall (i : Insets) : Type 0 where
-  pub left : i.left ≤ 1100
-  pub right : i.right ≤ 1100
-  pub top : i.top ≤ 1100
-  pub bottom : i.bottom ≤ 1100
-
-width_small : (n : ℤ) → is_value BorderWidth n ≡ true → nat_of n ≤ 100
-width_small n e = grind (arith, ints, nat_tests, e)
-
-pad_small : (n : ℤ) → is_value PadLeft n ≡ true → nat_of n ≤ 1000
-pad_small n e = grind (arith, ints, nat_tests, e)
-
-pub insets_small : (scene : Scene) (h : ℕ) → IsValid scene → AreSmall (insets scene h)
-insets_small scene h valid =
-    let width = width_small (value scene h Main BorderWidth) (values_in_range scene h Main BorderWidth valid) in
-    record {
-      left = omega (arith, width, pad_small (value scene h Main PadLeft) (values_in_range scene h Main PadLeft valid));
-      right = omega (arith, width, pad_small (value scene h Main PadRight) (values_in_range scene h Main PadRight valid));
-      top = omega (arith, width, pad_small (value scene h Main PadTop) (values_in_range scene h Main PadTop valid));
-      bottom = omega (arith, width, pad_small (value scene h Main PadBottom) (values_in_range scene h Main PadBottom valid));
-    }

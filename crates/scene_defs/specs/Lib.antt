@@ -3,7 +3,6 @@ pub mod Items
 pub mod Laws
 pub mod Picture
 pub mod Place
-pub mod Placing
 pub mod Ranges
 pub mod Row
 pub mod Scene

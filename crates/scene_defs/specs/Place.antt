@@ -1,65 +1,73 @@
--- Where objects stand.
-use Rattle.std.specs.Prelude.{ℕ, ◌+◌, if◌then◌else◌, Some, None, ℤ, pos, ◌+ℤ◌, ◌-ℤ◌}
-use Rattle.std.specs.Int.{int_max}
+-- Where objects stand: the boxes of all of them are solved by the rules of layout.
+use Rattle.std.specs.Prelude.{ℕ, ◌+◌, option_map, pos}
 use Rattle.std.specs.declared.option.Option.{Option}
-use Rattle.gui_base.specs.declared.words.Length.{Length}
-use Rattle.gui_base.specs.declared.words.Length.TheVariants.{Pixels}
 use Rattle.gui_base.specs.declared.props.Prop.{Prop}
-use Rattle.gui_base.specs.declared.props.Prop.TheVariants.{BorderWidth, PadLeft, PadRight, PadTop}
-use Rattle.gui_base.specs.declared.props.Prop.TheVariants.{PadBottom}
+use Rattle.gui_base.specs.declared.props.Prop.TheVariants.{BorderWidth, PadLeft, PadRight, PadTop, PadBottom}
+use Rattle.gui_base.specs.declared.props.Prop.TheVariants.{PadRow, PadColumn}
+use Rattle.gui_base.specs.declared.words.Flag.TheVariants.{Hidden}
 use Rattle.gui_base.specs.declared.words.Part.TheVariants.{Main}
 use Rattle.gui_base.specs.Area.{Rect, area_at, nat_of}
-use Rattle.gui_base.specs.Forest.{Forest, Empty, Tree, has_by}
+use Rattle.gui_base.specs.Forest.{Forest, map_forest}
+use Rattle.layout_defs.specs.Boxes.{Axis, Box, side_across, side_down}
+use Rattle.layout_defs.specs.Laws.{row_by, is_placed_at}
+use Rattle.layout_defs.specs.Solving.{Placed, place_of, solved}
 use Rattle.scene_defs.specs.declared.Row.{Row}
-use Rattle.scene_defs.specs.Row.{is_root}
-use Rattle.scene_defs.specs.Scene.{Object, Scene, is_at, value}
+use Rattle.scene_defs.specs.Row.{is_on}
+use Rattle.scene_defs.specs.Scene.{Object, Scene, value}
 
 abbrev pub panel_of : Scene → Rect
 panel_of scene = area_at (pos 0) (pos 0) scene.limits.width scene.limits.height
 
-abbrev pub pixels_of : Length → ℕ
-pixels_of (Pixels n) = n
+-- a value of the main part of h that is a number of pixels
+abbrev pub pixels_of : Scene → ℕ → Prop → ℕ
+pixels_of scene h prop = nat_of (value scene h Main prop)
 
--- how far the content of an object is from each side of its area
-pub record Insets : Type 0 where
-  pub left : ℕ
-  pub right : ℕ
-  pub top : ℕ
-  pub bottom : ℕ
+-- the border and the pad on one side of h
+abbrev pub inset_of : Scene → ℕ → Prop → ℕ
+inset_of scene h pad = pixels_of scene h BorderWidth + pixels_of scene h pad
 
--- the border and the pad on each side
-abbrev pub insets : Scene → ℕ → Insets
-insets scene h =
-    let side = λ (pad : Prop). nat_of (value scene h Main BorderWidth) + nat_of (value scene h Main pad) in
-    record { left = side PadLeft; right = side PadRight; top = side PadTop; bottom = side PadBottom }
-
--- what an area is without these; it has no pixel where they leave none
-abbrev pub content_of : Insets → Rect → Rect
-content_of i area = record {
-  x1 = area.x1 +ℤ pos i.left;
-  y1 = area.y1 +ℤ pos i.top;
-  x2 = int_max ((area.x1 +ℤ pos i.left) -ℤ pos 1) (area.x2 -ℤ pos i.right);
-  y2 = int_max ((area.y1 +ℤ pos i.top) -ℤ pos 1) (area.y2 -ℤ pos i.bottom);
+-- what is wanted of an object across, and down
+abbrev pub across_of : Scene → ℕ → Row → Axis
+across_of scene h row = record {
+  size = row.width;
+  side = side_across row.align;
+  wanted = row.x;
+  before = inset_of scene h PadLeft;
+  after = inset_of scene h PadRight;
+  gap = pixels_of scene h PadColumn;
 }
 
--- the area that an object wants in its parent's content area
-abbrev pub wanted_in : Rect → Row → Rect
-wanted_in content row =
-    area_at (content.x1 +ℤ row.x) (content.y1 +ℤ row.y) (pixels_of row.width) (pixels_of row.height)
+abbrev pub down_of : Scene → ℕ → Row → Axis
+down_of scene h row = record {
+  size = row.height;
+  side = side_down row.align;
+  wanted = row.y;
+  before = inset_of scene h PadTop;
+  after = inset_of scene h PadBottom;
+  gap = pixels_of scene h PadRow;
+}
 
--- an object's area, from its parent's content area: a root fills the panel
-abbrev pub placed : Rect → Rect → Row → Rect
-placed panel content row = if is_root row.kind then panel else wanted_in content row
+-- what layout knows of an object; what it shows has no size of its own
+abbrev pub box_of : Scene → Object → Box
+box_of scene object = record {
+  handle = object.handle;
+  hidden = is_on object.row.flags Hidden;
+  across = across_of scene object.handle object.row;
+  down = down_of scene object.handle object.row;
+  flow = object.row.flow;
+  places = record { main = object.row.places.0; cross = object.row.places.1; track = object.row.places.2 };
+  grow = object.row.grow;
+  own_width = 0;
+  own_height = λ room. 0;
+}
 
--- the area of h, if it is among these trees, whose parent has this content area
-abbrev pub place_in : Rect → (ℕ → Insets) → Rect → Forest Object → ℕ → Option Rect
-place_in panel insets content Empty h = None
-place_in panel insets content (Tree object cs rest) h =
-    if is_at h object then Some (placed panel content object.row)
-    else if has_by (is_at h) cs then
-    place_in panel insets (content_of (insets object.handle) (placed panel content object.row)) cs h
-    else place_in panel insets content rest h
+abbrev pub boxes_of : Scene → Forest Box
+boxes_of scene = map_forest (box_of scene) scene.trees
+
+-- where all objects stand, their roots filling the panel
+abbrev pub solved_of : Scene → Forest Placed
+solved_of scene = solved scene.limits.width scene.limits.height (boxes_of scene)
 
 -- the area of h, if it is there
-abbrev pub place : Scene → ℕ → Option Rect
-place scene h = place_in (panel_of scene) (insets scene) (panel_of scene) scene.trees h
+unfoldable pub place : Scene → ℕ → Option Rect
+place scene h = option_map place_of (row_by (is_placed_at h) (solved_of scene))

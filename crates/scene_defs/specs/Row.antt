@@ -6,13 +6,18 @@ use Rattle.gui_base.specs.Bits.{has_bit, with_bit, flag_bit, state_bit}
 use Rattle.gui_base.specs.Intervals.{is_counted, is_within}
 use Rattle.gui_base.specs.declared.Handle.{Handle}
 use Rattle.gui_base.specs.declared.intervals.Interval.{Interval}
-use Rattle.gui_base.specs.declared.intervals.TheConstants.{EXTENT, COORDINATE, OPACITY, COLOR}
+use Rattle.gui_base.specs.declared.intervals.TheConstants.{EXTENT, PERCENT, COORDINATE, GROW}
 use Rattle.gui_base.specs.declared.words.Flag.{Flag}
 use Rattle.gui_base.specs.declared.words.Flag.TheVariants.{Clickable}
 use Rattle.gui_base.specs.declared.words.Kind.{Kind}
 use Rattle.gui_base.specs.declared.words.Kind.TheVariants.{Screen, Layer, Obj}
 use Rattle.gui_base.specs.declared.words.Length.{Length}
-use Rattle.gui_base.specs.declared.words.Length.TheVariants.{Pixels}
+use Rattle.gui_base.specs.declared.words.Length.TheVariants.{Pixels, Percent, Content}
+use Rattle.gui_base.specs.declared.words.Align.TheVariants.{TopLeft}
+use Rattle.gui_base.specs.declared.words.Flow.TheVariants.{Free}
+use Rattle.gui_base.specs.declared.words.Placing.{Placing}
+use Rattle.gui_base.specs.declared.words.Placing.TheVariants.{Start, End, Center, SpaceEvenly, SpaceAround}
+use Rattle.gui_base.specs.declared.words.Placing.TheVariants.{SpaceBetween}
 use Rattle.gui_base.specs.declared.props.Prop.{Prop}
 use Rattle.gui_base.specs.declared.props.Prop.TheVariants.{BgColor, BgOpa}
 use Rattle.scene_defs.specs.declared.Change.{Change}
@@ -43,8 +48,12 @@ new_row kind = record {
   states = 0;
   x = pos 0;
   y = pos 0;
+  align = TopLeft;
   width = Pixels 100;
   height = Pixels 50;
+  flow = Free;
+  places = (Start, Start, Start);
+  grow = 0;
 }
 
 -- The intervals of its numbers.
@@ -52,11 +61,23 @@ new_row kind = record {
 -- a wanted width or height
 abbrev pub is_size : Length → Bool
 is_size (Pixels n) = is_counted EXTENT n
+is_size (Percent n) = is_counted PERCENT n
+is_size Content = true
+
+-- a placing of the items of a track across it: one of those that deal out no space between items
+abbrev pub is_cross : Placing → Bool
+is_cross Start = true
+is_cross End = true
+is_cross Center = true
+is_cross SpaceEvenly = false
+is_cross SpaceAround = false
+is_cross SpaceBetween = false
 
 -- whether each number of a row lies in its interval
 abbrev pub is_row : Row → Bool
 is_row row =
-    is_within COORDINATE row.x && (is_within COORDINATE row.y && (is_size row.width && is_size row.height))
+    is_within COORDINATE row.x && (is_within COORDINATE row.y &&
+    (is_size row.width && (is_size row.height && (is_cross row.places.1 && is_counted GROW row.grow))))
 
 -- The changes that set the row of one object, and do nothing else.
 pub record Setter : Type 0 where
@@ -80,8 +101,15 @@ setter_of (change.Flag h flag on) =
     of_any h true (λ row. record row { flags = with_bit row.flags (flag_bit flag) on })
 setter_of (change.Pos h x y) =
     of_child h (is_within COORDINATE x && is_within COORDINATE y) (λ row. record row { x = x; y = y })
+setter_of (change.Align h align x y) =
+    of_child h (is_within COORDINATE x && is_within COORDINATE y)
+    (λ row. record row { align = align; x = x; y = y })
 setter_of (change.Size h width height) =
     of_child h (is_size width && is_size height) (λ row. record row { width = width; height = height })
+setter_of (change.Flex h flow) = of_any h true (λ row. record row { flow = flow })
+setter_of (change.Places h main cross track) =
+    of_any h (is_cross cross) (λ row. record row { places = (main, cross, track) })
+setter_of (change.Grow h n) = of_child h (is_counted GROW n) (λ row. record row { grow = n })
 setter_of (change.State h state on) =
     of_any h true (λ row. record row { states = with_bit row.states (state_bit state) on })
 setter_of (change.Screen n) = None

@@ -2,7 +2,6 @@
 ghost use Rattle.scene_defs.specs.Laws.{ChangeKeepsLimits, RefusedChangesNothing, RangeComesFirst};
 ghost use Rattle.scene_defs.specs.Laws.{FullWithoutRoom, DoneWithRoom, RefusedWhateverLimits};
 ghost use Rattle.scene_defs.specs.Laws.{SetsRowAlone, SlotsAddUp};
-ghost use Rattle.scene_defs.specs.Placing.{RootsFillPanel, ChildrenInParents, PlacesNear};
 ghost use Rattle.scene_defs.specs.Valid.{FirstIsValid, ChangeKeepsValid, ValidIsShowable};
 ghost use Rattle.scene_defs.specs.Values.{ValuesInRange};
 ghost use Rattle.scene_defs.specs.Walk.{ShownByWalk, NothingBelowNothing, WalkedInside, ShownInside};
@@ -38,15 +37,6 @@ pub fn slots_add_up()
 #[tactic(auto, using(crate::proofs::Changes::sets_row_alone))]
 pub fn setters_set_one_row()
     ensures { SetsRowAlone }
-{}
-
-/// A root fills the panel, and any other object has the place that it wants in its parent's
-/// content area. No object stands far from the panel.
-#[tactic(auto, using(crate::proofs::Places::laws))]
-pub fn places_follow_parents()
-    ensures roots { RootsFillPanel }
-    ensures children { ChildrenInParents }
-    ensures near { PlacesNear }
 {}
 
 /// The value of a property lies in its interval.

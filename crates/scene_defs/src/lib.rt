@@ -6,7 +6,7 @@ ghost use Rattle.std.specs.Prelude.{◌≡◌};
 
 pub mod laws;
 
-use gui_base::{Bits, Flag, Handle, Kind, Length, Prop, Selector, State};
+use gui_base::{Align, Bits, Flag, Flow, Handle, Kind, Length, Placing, Prop, Selector, State};
 
 /// A change of the scene. No change holds a kind that only roots have.
 #[derive(Clone, Copy)]
@@ -31,8 +31,17 @@ pub enum Change {
     Flag(Handle, Flag, bool),
     /// The wanted place in the parent, in pixels from -4000 to 4000.
     Pos(Handle, i32, i32),
+    /// The alignment in the parent, and the wanted place, in pixels from -4000 to 4000.
+    Align(Handle, Align, i32, i32),
     /// The wanted width and height.
     Size(Handle, Length, Length),
+    /// How an object arranges its children.
+    Flex(Handle, Flow),
+    /// The placings of its flow: along its tracks, across each, which is one of start, end and center, and of
+    /// the tracks.
+    Places(Handle, Placing, Placing, Placing),
+    /// How much of the free space of its track an object takes, beside the others that take some.
+    Grow(Handle, u8),
     /// Switches a state on or off.
     State(Handle, State, bool),
     /// Makes a shared style with this number.
@@ -62,9 +71,17 @@ pub struct Row {
     /// The wanted place in the parent, in pixels from -4000 to 4000.
     pub x: i32,
     pub y: i32,
+    /// Where in the parent's content area that place counts from.
+    pub align: Align,
     /// The wanted sizes.
     pub width: Length,
     pub height: Length,
+    /// How it arranges its children.
+    pub flow: Flow,
+    /// The placings of its flow: along its tracks, across each, and of the tracks.
+    pub places: (Placing, Placing, Placing),
+    /// How much of the free space of its track it takes, beside the others that take some.
+    pub grow: u8,
 }
 
 impl Row {

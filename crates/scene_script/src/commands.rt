@@ -6,7 +6,7 @@ ghost use Rattle.run_defs.specs.Language.{words_of};
 use crate::fields::Fields;
 use gui_base::intervals::{COORDINATE, INDEX, STYLE};
 use gui_base::named;
-use gui_base::words::{FLAGS, Flag, KINDS, Kind, ON_OFF};
+use gui_base::words::{CROSS_PLACINGS, FLAGS, Flag, KINDS, Kind, ON_OFF, PLACINGS, Placing};
 use run_defs::{COMMANDS, Command, Line, LineFault, Name, RowName, StyleName, TreeName};
 use scene_defs::Change;
 
@@ -71,7 +71,21 @@ fn row_change(name: RowName, line: &mut Fields) -> Change
             line.number(COORDINATE),
             line.number(COORDINATE),
         ),
+        RowName::Align => Change::Align(
+            line.handle(),
+            line.align(),
+            line.number(COORDINATE),
+            line.number(COORDINATE),
+        ),
         RowName::Size => Change::Size(line.handle(), line.extent(), line.extent()),
+        RowName::Flex => Change::Flex(line.handle(), line.flow()),
+        RowName::Places => Change::Places(
+            line.handle(),
+            line.name(&PLACINGS, Placing::Start),
+            line.name(&CROSS_PLACINGS, Placing::Start),
+            line.name(&PLACINGS, Placing::Start),
+        ),
+        RowName::Grow => Change::Grow(line.handle(), line.grow()),
     }
 }
 

@@ -1,19 +1,21 @@
 //! The fields of a line, taken one after another.
 ghost use Rattle.std.specs.Prelude.{◌≡◌};
 ghost use Rattle.gui_base.specs.Names.{slice};
-ghost use Rattle.run_defs.specs.Commands.{handle, new_handle, extent, state, selector, property};
+ghost use Rattle.run_defs.specs.Commands.{handle, new_handle, extent, align, flow, grow, state};
+ghost use Rattle.run_defs.specs.Commands.{selector, property};
 ghost use Rattle.run_defs.specs.Commands.{color_value, align_value, value_for};
 ghost use Rattle.run_defs.specs.Fields.{number_in, count_in, name_in, value, past, value_or, with_fault};
 ghost use Rattle.run_defs.specs.Fields.{next_of, after_next, fields, start, ended};
 ghost use Rattle.run_defs.specs.Language.{first_fault, words_of};
 
-use crate::numbers::{color, count, number};
+use crate::lengths::length;
+use crate::numbers::{color, count, number, small};
 use crate::selectors::selector;
 use crate::words::next_word;
-use gui_base::intervals::{Count, EXTENT, HANDLE, Interval, NEW_HANDLE};
+use gui_base::intervals::{Count, GROW, HANDLE, Interval, NEW_HANDLE};
 use gui_base::props::PROPS;
-use gui_base::words::{STATES, TEXT_ALIGNS, TextAlign};
-use gui_base::{Handle, Length, Part, Prop, Selector, State, named};
+use gui_base::words::{ALIGNS, FLOWS, STATES, TEXT_ALIGNS};
+use gui_base::{Align, Flow, Handle, Length, Part, Prop, Selector, State, TextAlign, named};
 use run_defs::LineFault;
 use std::marker::Model;
 
@@ -83,12 +85,41 @@ impl<'a> Fields<'a> {
     }
 
     /// A wanted width or height.
-    #[tactic(auto, using(run_defs::proofs::Fields::overs))]
+    #[tactic(auto, unfolding(run_defs::specs::Fields::value, run_defs::specs::Fields::past))]
     pub(crate) fn extent(&mut self) -> Length
         ensures value { result ≡ value extent self.old }
         ensures state { self.new ≡ past extent self.old }
     {
-        Length::Pixels(self.count(EXTENT))
+        let word = self.word();
+        self.note(length(word), Length::Pixels(0))
+    }
+
+    /// Where an object stands in its parent's content area.
+    #[tactic(auto, unfolding(run_defs::specs::Commands::align))]
+    pub(crate) fn align(&mut self) -> Align
+        ensures value { result ≡ value align self.old }
+        ensures state { self.new ≡ past align self.old }
+    {
+        self.name(&ALIGNS, Align::TopLeft)
+    }
+
+    /// How an object arranges its children.
+    #[tactic(auto, unfolding(run_defs::specs::Commands::flow))]
+    pub(crate) fn flow(&mut self) -> Flow
+        ensures value { result ≡ value flow self.old }
+        ensures state { self.new ≡ past flow self.old }
+    {
+        self.name(&FLOWS, Flow::Free)
+    }
+
+    /// How much of the free space of its track an object takes.
+    #[tactic(auto, unfolding(run_defs::specs::Fields::value, run_defs::specs::Fields::past))]
+    pub(crate) fn grow(&mut self) -> u8
+        ensures value { result ≡ value grow self.old }
+        ensures state { self.new ≡ past grow self.old }
+    {
+        let word = self.word();
+        self.note(small(word, GROW), 0)
     }
 
     /// What a name of a table means.
@@ -140,7 +171,7 @@ impl<'a> Fields<'a> {
     {
         match prop {
             Prop::BgColor | Prop::BorderColor | Prop::ImgRecolor | Prop::TextColor => self.color(),
-            Prop::TextAlign => self.align(),
+            Prop::TextAlign => self.text_align(),
             _ => self.number(prop.values()),
         }
     }
@@ -157,7 +188,7 @@ impl<'a> Fields<'a> {
 
     /// The number of an alignment of a text.
     #[tactic(auto, using(run_defs::proofs::Fields::overs))]
-    fn align(&mut self) -> i32
+    fn text_align(&mut self) -> i32
         ensures value { result ≡ value align_value self.old }
         ensures state { self.new ≡ past align_value self.old }
     {

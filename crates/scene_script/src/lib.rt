@@ -4,6 +4,7 @@
 mod commands;
 mod cutter;
 mod fields;
+mod lengths;
 mod numbers;
 mod parse;
 mod refusals;

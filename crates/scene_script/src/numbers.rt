@@ -1,5 +1,5 @@
 //! Numbers and colours.
-ghost use Rattle.std.specs.Prelude.{◌≡◌, ◌≤◌, ◌≤ℤ◌, ◌<ℤ◌, ◌&&◌, int_le, min, pos, neg_ℤ, option_map, IfOk};
+ghost use Rattle.std.specs.Prelude.{◌≡◌, ◌≤◌, ◌<◌, ◌≤ℤ◌, ◌<ℤ◌, ◌&&◌, int_le, min, pos, neg_ℤ, option_map, IfOk};
 ghost use Rattle.std.specs.List.{list_all};
 ghost use Rattle.run_defs.specs.Numbers.{is_number, value_of, is_digit, within, number, number_of, natural};
 ghost use Rattle.run_defs.specs.Numbers.{color};
@@ -38,6 +38,15 @@ pub(crate) fn count(word: &[u8], interval: Count) -> Result<u16, LineFault>
 {
     let n = natural(word, u32::from(interval.low), u32::from(interval.high))?;
     Ok(n as u16)
+}
+
+/// A number of an interval that has none below 0 and none above 255.
+pub(crate) fn small(word: &[u8], interval: Count) -> Result<u8, LineFault>
+    requires { interval.high < 256 }
+    ensures { result ≡ natural interval.low interval.high word.now }
+{
+    let n = natural(word, u32::from(interval.low), u32::from(interval.high))?;
+    Ok(n as u8)
 }
 
 /// A number from `low` to `high`.

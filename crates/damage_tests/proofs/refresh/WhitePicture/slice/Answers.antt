@@ -1,0 +1,21 @@
+use Rattle.std.proofs.Common.{◌≡◌, ◌∙◌, refl, sym, ap, subst, true, ℤ}
+use Rattle.gui_base.specs.Area.{Rect, has}
+use Rattle.gui_base.specs.Coats.{laid, within, fill_coat}
+use Rattle.gui_base.specs.Color.{black, white, mix, mix_channel}
+use Rattle.gui_base.specs.Corners.{rect_of}
+use Rattle.damage_tests.proofs.refresh.WhitePicture.slice.Goals as goal
+
+-- white over black is white
+filled : (area : Rect) (x y : ℤ) → has area x y ≡ true → laid (within area (fill_coat area white 255) x y) black ≡ white
+unfolding mix mix_channel
+filled area x y i = rw i refl
+
+pub returns : goal.returns
+returns g c =
+    let area = rect_of c.area-area.result in
+    let drawn = c.fill.ensures in
+    record {
+      area_stays = drawn.area_stays;
+      limit_stays = drawn.limit_stays;
+      pixels = λ x y i. drawn.pixels x y i ∙ (ap (laid (within area (fill_coat area white 255) x y)) (c.requires x y i) ∙ filled area x y (subst (λ (a : Rect). has a x y ≡ true) (sym c.area-area.ensures) i));
+    }

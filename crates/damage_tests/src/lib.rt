@@ -1,0 +1,9 @@
+//! Tests over the public calls of the list of pending areas and of the refresher.
+#![tactic(auto)]
+
+#[cfg(test)]
+mod list;
+#[cfg(test)]
+mod listing;
+#[cfg(test)]
+mod refresh;

@@ -1,0 +1,181 @@
+//! Refreshes over a panel that lists its flushes.
+ghost use Rattle.std.specs.Prelude.{◌≡◌, ◌<◌, IfOk};
+ghost use Rattle.gui_edge.specs.Panel.{CanOpen};
+
+use crate::list::corners;
+use crate::listing::Listing;
+use gui_base::{Area, Limits, Rgb565, Steps};
+use gui_color::DrawBuf;
+use gui_damage::Damage;
+use gui_draw::{Picture, fill};
+use gui_edge::{MemSink, Panel, SimPanel, SimPlan};
+use gui_refresh::{Refreshed, Refresher};
+use std::alloc::Global;
+use std::marker::Brand;
+use std::process::Abort;
+use std::sync::ledger::{Blank, Ledger};
+use std::test::Fail;
+
+/// A picture that is white everywhere.
+struct White;
+
+impl Picture for White {
+    ghost use Rattle.gui_base.specs.Color.{white};
+
+    ghost color = { λ picture x y. white };
+
+    fn slice<L: Ledger>(&self, buf: &mut DrawBuf, steps: &mut Steps<L>) {
+        let area = buf.area();
+        fill(buf, area, area, Rgb565::WHITE, 255, steps);
+    }
+}
+
+/// A panel that is opened with these sizes, of which the flush of a number fails.
+fn open_panel(
+    alloc: Global,
+    width: u16,
+    height: u16,
+    limit: u32,
+    fails: u64,
+) -> Result<Listing<SimPanel<MemSink>>, Fail>
+    requires { CanOpen width height limit }
+    ensures { IfOk result (λ panel.
+        (panel.panel.width ≡ width) × (panel.panel.height ≡ height) × (panel.panel.limit ≡ limit)) }
+{
+    let plan = SimPlan {
+        fail_open: false,
+        fail_flush: vec![in alloc; fails]?,
+    };
+    let frames = MemSink::with_capacity(alloc, 0, Vec::new(alloc))?;
+    let mut panel = Listing::new(SimPanel::new(frames, plan));
+    match panel.open(alloc, width, height, limit) {
+        Ok(()) => Ok(panel),
+        Err(fault) => Err(Fail::from(fault)),
+    }
+}
+
+/// Whether these are the flushes of a panel, in order.
+fn check_flushes<P: Panel>(rt: &impl Abort, panel: &Listing<P>, want: &[[i32; 4]]) {
+    assert_eq!(rt; panel.flushes.len(), want.len());
+    for (area, corners_wanted) in panel.flushes.iter().zip(want) {
+        assert_eq!(rt; corners(area), *corners_wanted);
+    }
+}
+
+/// Refreshes a panel of four by three pixels in slices of a line, where the flush of a number fails, and then
+/// once more.
+fn refresh_twice<L: Ledger>(
+    rt: &impl Abort,
+    alloc: Global,
+    blank: Blank,
+    fails: u64,
+    want: &[[i32; 4]],
+) -> Result<(), Fail>
+    requires name { blank.name ≡ L.name }
+    requires parts { blank.parts ≡ L.parts }
+    requires some { 0 < blank.parts }
+{
+    let (book, all) = blank.open::<L>();
+    let mut steps = Steps::new(book, all);
+    let mut refresher = Refresher::open(alloc, &Limits::with_sizes(4, 3, 1))?;
+    let mut damage = Damage::new(Area::at(0, 0, 4, 3));
+    let mut panel = open_panel(alloc, 4, 3, 4, fails)?;
+    let first = refresher.refresh(&White, &mut damage, &mut panel, &mut steps);
+    assert_eq!(rt; first, Refreshed::Fault);
+    assert_eq!(rt; panel.flushes.len() as u64, fails);
+    let second = refresher.refresh(&White, &mut damage, &mut panel, &mut steps);
+    assert_eq!(rt; second, Refreshed::Done);
+    check_flushes(rt, &panel, want);
+    assert_eq!(rt; panel.panel.sent(), 16);
+    for y in 0..3 {
+        for x in 0..4 {
+            assert_eq!(rt; panel.panel.shown(x, y), Rgb565::WHITE);
+        }
+    }
+    Ok(())
+}
+
+#[test]
+fn a_fault_stops_at_its_slice(rt: HostRuntime) -> Result<(), Fail> {
+    let (alloc, [a, b, c]) = (rt.alloc(), [[0, 0, 3, 0], [0, 1, 3, 1], [0, 2, 3, 2]]);
+    refresh_twice::<Brand>(&rt, alloc, Blank::new(1), 1, &[a, b, c, a])?;
+    refresh_twice::<Brand>(&rt, alloc, Blank::new(1), 2, &[a, b, c, b])?;
+    refresh_twice::<Brand>(&rt, alloc, Blank::new(1), 3, &[a, b, c, c])
+}
+
+/// Refreshes a panel of six by four pixels, and again after changes. Two areas are joined, and one is cut at
+/// the panel's edge.
+fn refresh_changes<L: Ledger>(rt: &impl Abort, alloc: Global, blank: Blank) -> Result<(), Fail>
+    requires name { blank.name ≡ L.name }
+    requires parts { blank.parts ≡ L.parts }
+    requires some { 0 < blank.parts }
+{
+    let (book, all) = blank.open::<L>();
+    let mut steps = Steps::new(book, all);
+    let mut refresher = Refresher::open(alloc, &Limits::with_sizes(6, 4, 2))?;
+    let mut damage = Damage::new(Area::at(0, 0, 6, 4));
+    let mut panel = open_panel(alloc, 6, 4, 12, 0)?;
+    let first = refresher.refresh(&White, &mut damage, &mut panel, &mut steps);
+    assert_eq!(rt; first, Refreshed::Done);
+    let second = refresher.refresh(&White, &mut damage, &mut panel, &mut steps);
+    assert_eq!(rt; second, Refreshed::Done);
+    check_flushes(rt, &panel, &[[0, 0, 5, 1], [0, 2, 5, 3]]);
+    damage.add(Area::at(1, 0, 2, 1));
+    damage.add(Area::at(4, 3, 5, 5));
+    damage.add(Area::at(2, 0, 3, 1));
+    let third = refresher.refresh(&White, &mut damage, &mut panel, &mut steps);
+    assert_eq!(rt; third, Refreshed::Done);
+    check_flushes(
+        rt,
+        &panel,
+        &[[0, 0, 5, 1], [0, 2, 5, 3], [1, 0, 4, 0], [4, 3, 5, 3]],
+    );
+    assert_eq!(rt; panel.panel.sent(), 30);
+    assert_eq!(rt; refresher.sum_of(&White, &mut steps), 65_512);
+    Ok(())
+}
+
+#[test]
+fn only_what_is_pending_is_sent(rt: HostRuntime) -> Result<(), Fail> {
+    refresh_changes::<Brand>(&rt, rt.alloc(), Blank::new(1))
+}
+
+/// Adds 31 areas of a pixel that stay apart.
+fn add_dots(damage: &mut Damage)
+    ensures { damage.new.panel ≡ damage.old.panel }
+{
+    for n in 0..31_u16 {
+        damage.add(Area::at(2 * i32::from(n), 2, 1, 1));
+    }
+}
+
+/// Lists 32 areas of a panel of 66 by 3 pixels, the first of which has more lines than a slice. The first
+/// flush fails, and the list has no room for its slice.
+fn refresh_full_list<L: Ledger>(rt: &impl Abort, alloc: Global, blank: Blank) -> Result<(), Fail>
+    requires name { blank.name ≡ L.name }
+    requires parts { blank.parts ≡ L.parts }
+    requires some { 0 < blank.parts }
+{
+    let (book, all) = blank.open::<L>();
+    let mut steps = Steps::new(book, all);
+    let mut refresher = Refresher::open(alloc, &Limits::with_sizes(66, 3, 1))?;
+    let mut damage = Damage::new(Area::at(0, 0, 66, 3));
+    let mut panel = open_panel(alloc, 66, 3, 66, 1)?;
+    assert!(rt; damage.take_slice(198).is_some());
+    damage.add(Area::at(0, 0, 66, 2));
+    add_dots(&mut damage);
+    assert_eq!(rt; damage.areas().len(), 32);
+    let first = refresher.refresh(&White, &mut damage, &mut panel, &mut steps);
+    assert_eq!(rt; first, Refreshed::Fault);
+    assert_eq!(rt; damage.areas().len(), 1);
+    let second = refresher.refresh(&White, &mut damage, &mut panel, &mut steps);
+    assert_eq!(rt; second, Refreshed::Done);
+    let lines = [[0, 0, 65, 0], [0, 0, 65, 0], [0, 1, 65, 1], [0, 2, 65, 2]];
+    check_flushes(rt, &panel, &lines);
+    Ok(())
+}
+
+#[test]
+fn a_full_list_becomes_the_panel_after_a_fault(rt: HostRuntime) -> Result<(), Fail> {
+    refresh_full_list::<Brand>(&rt, rt.alloc(), Blank::new(1))
+}

@@ -1,0 +1,7 @@
+use Rattle.std.proofs.Common.{ℕ, ◌<◌}
+use Rattle.gui_damage.specs.Damage.{rects_of}
+use Rattle.gui_damage.specs.Joining.{HasNoPartner}
+use Rattle.gui_damage.proofs.pairs.pair_to_join.Given as goal
+
+abbrev pub invariant-loop-i : goal.invariant-loop-i
+invariant-loop-i l = (i : ℕ) → i < l.i → HasNoPartner (rects_of l.areas) i

@@ -1,0 +1,23 @@
+-- What follows from the rules of the list.
+use Rattle.std.specs.Prelude.{◌≡◌, ℕ, ◌≤◌, true, List, Some, None, []}
+use Rattle.std.specs.List.{list_all}
+use Rattle.gui_base.specs.Area.{Rect, width_of, is_within}
+use Rattle.gui_damage.specs.Pending.{Pending, IsPending}
+use Rattle.gui_damage.specs.Adding.{added_all, AddsAll}
+use Rattle.gui_damage.specs.Slices.{slice_of, left_after, Takes}
+
+-- a slice has pixels of the first area alone, and what is left has all others
+abbrev pub SliceIsTaken : Type 0
+SliceIsTaken = (pending : Pending) (limit : ℕ) (slice : Rect) →
+    IsPending pending → width_of pending.panel ≤ limit → Some slice ≡ slice_of limit pending.areas →
+    Takes pending.panel limit pending.areas (left_after limit pending.areas) slice
+
+-- there is no slice only where nothing is pending
+abbrev pub NoneOfNothing : Type 0
+NoneOfNothing = (areas : List Rect) (limit : ℕ) → None ≡ slice_of limit areas → areas ≡ []
+
+-- areas of the panel that are added become pending, and little else
+abbrev pub AreasAreAdded : Type 0
+AreasAreAdded = (areas : List Rect) (pending : Pending) →
+    IsPending pending → list_all (is_within pending.panel) areas ≡ true →
+    AddsAll pending (added_all pending areas) areas

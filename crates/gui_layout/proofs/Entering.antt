@@ -1,0 +1,133 @@
+-- The entries of the objects of a valid scene.
+use Rattle.std.proofs.Common.{◌≡◌, ◌∙◌, refl, sym, ap, subst, ℕ, ◌+◌, ◌<◌, ◌≤◌, Bool, true, false, ◌&&◌, ◌||◌, ◌⊎◌, eqb, List, inl, inr, arith}
+use Rattle.std.specs.Prelude.{Option, Some, None, is_some, option_map}
+use Rattle.std.proofs.lemmas.Bool.{cases_Bool, eqb-true, or_parts, or_cases, and_parts, false≢true}
+use Rattle.std.proofs.lemmas.Bool.Decides.{nat_tests}
+use Rattle.gui_base.specs.Area.{area_at}
+use Rattle.gui_base.specs.Forest.{Forest, Empty, Tree, map_forest, has, has_by, all_by, size, height, preorder}
+use Rattle.gui_base.specs.Intervals.{is_counted}
+use Rattle.gui_base.specs.declared.Handle.{Handle}
+use Rattle.gui_base.specs.declared.intervals.TheConstants.{HANDLE, MAX_DEPTH}
+use Rattle.gui_base.proofs.Forests.{map-size, map-height, map-has_by, map-agree}
+use Rattle.gui_pool.specs.Table.{value_at}
+use Rattle.gui_tree.specs.Handles.{numbers}
+use Rattle.scene_defs.specs.Place.{place, box_of as object_box}
+use Rattle.scene_defs.specs.Scene.{Object, Scene, handle_of, handles_of}
+use Rattle.scene_defs.specs.Row.{is_row}
+use Rattle.scene_defs.specs.Valid.{IsValid, in_intervals}
+use Rattle.layout_defs.specs.Boxes.{Box}
+use Rattle.layout_defs.specs.Solving.{Placed, Slot, solved, place_of, nowhere}
+use Rattle.layout_defs.specs.Laws.{row_by, is_placed_at}
+use Rattle.layout_defs.proofs.Solved.{found_by_handle}
+use Rattle.gui_layout.specs.declared.position.Position.{Position}
+use Rattle.gui_layout.specs.Views.{box_at}
+use Rattle.gui_layout.specs.Found.{boxed}
+use Rattle.gui_layout.specs.Kept.{Entries}
+use Rattle.gui_layout.specs.Listing.{HasThese, AreProper}
+use Rattle.gui_layout.specs.Scenes.{HoldsBoxes, scene_box}
+use Rattle.gui_layout.specs.Slots.{HoldsPlaced, slot_of, slot_or, slots_of}
+use Rattle.gui_layout.specs.Solved.{place_in}
+use Rattle.gui_layout.specs.Tables.{sizes_of}
+use Rattle.gui_layout.specs.Walks.{trees_from}
+use Rattle.gui_layout.proofs.Kids.{named}
+use Rattle.gui_layout.proofs.Listed.{slot_in_table}
+use Rattle.gui_layout.proofs.Parts.{distinct_once, first_of, trees_from-first_of, whole}
+use Rattle.gui_layout.proofs.SceneBoxes.{boxes_are}
+use Rattle.gui_layout.proofs.Solves.{handles_solved, placed_handle}
+use Rattle.gui_layout.proofs.These.{proper_of, has_value}
+
+-- the handles of objects lie in their interval
+counted : (f : Forest Object) (h : ℕ) → all_by in_intervals f ≡ true → has (handles_of f) h ≡ true → is_counted HANDLE h ≡ true
+counted Empty h all there = absurd (false≢true there)
+counted (Tree a cs rest) h all there =
+    let here : (in_intervals a ≡ true) × ((all_by in_intervals cs && all_by in_intervals rest) ≡ true) = and_parts _ _ all in
+    let below : (all_by in_intervals cs ≡ true) × (all_by in_intervals rest ≡ true) = and_parts _ _ here.1 in
+    let own : (is_counted HANDLE a.handle ≡ true) × (is_row a.row ≡ true) = and_parts _ _ here.0 in
+    let cases : (eqb a.handle h ≡ true) ⊎ ((has (handles_of cs) h || has (handles_of rest) h) ≡ true) = or_cases _ _ there in
+    elim cases [
+      | inl is ↦ subst (λ k. is_counted HANDLE k ≡ true) (eqb-true a.handle h is) own.0
+      | inr later ↦
+          let sides : (has (handles_of cs) h ≡ true) ⊎ (has (handles_of rest) h ≡ true) = or_cases _ _ later in
+          elim sides [ inl i ↦ counted cs h below.0 i | inr i ↦ counted rest h below.1 i ]
+    ]
+
+module _ (scene : Scene) (valid : IsValid scene) where
+  abbrev forest : Forest ℕ
+  forest = handles_of scene.trees
+
+  pub low : (h : ℕ) → has forest h ≡ true → h < HANDLE.high + 1
+  low h there = let in_interval = counted scene.trees h valid.rows.numbers there in grind (arith, nat_tests)
+
+  pub few : size forest ≤ scene.limits.objects
+  few = let n = valid.pools.objects in omega (arith, map-size handle_of scene.trees)
+
+  pub flat : height forest ≤ MAX_DEPTH
+  flat = let n = valid.trees.low in omega (arith, map-height handle_of scene.trees)
+
+  -- the first root begins all trees
+  pub all_from : (t : Forest ℕ) (first : Option Handle) → t ≡ forest → first ≡ first_of t → trees_from first t ≡ forest
+  all_from t first same is =
+      ap (trees_from first) same
+      ∙ (ap (λ (o : Option Handle). trees_from o forest) (is ∙ ap first_of same) ∙ trees_from-first_of forest forest whole (distinct_once forest valid.trees.once))
+
+  module _ (hs : List Handle) (listed : numbers hs ≡ preorder forest) where
+    pub proper : AreProper hs
+    proper = proper_of hs forest listed valid.trees.once low
+
+    -- the boxes of the table are those of the scene
+    module _ (objects : ℕ) (e : Entries) (boxes : HasThese objects e.boxes hs) (holds : HoldsBoxes e.boxes scene) where
+      same_box : (h : ℕ) → has forest h ≡ true → record (box_at e.boxes h) { handle = h } ≡ scene_box scene h
+      same_box h there = named e.boxes h ∙ holds h (has_value hs forest listed objects e.boxes boxes h ∙ there)
+
+      pub boxed_are : boxed (box_at e.boxes) forest ≡ map_forest (object_box scene) scene.trees
+      boxed_are = map-agree (λ h. record (box_at e.boxes h) { handle = h }) (scene_box scene) forest same_box ∙ sym (boxes_are scene valid.trees.once)
+
+-- one object whose width and slot are known
+joined : (o : Option Placed) (v : Option Position) (w : ℕ) → option_map (λ (p : Placed). p.tall.width) o ≡ Some w → option_map (λ (p : Placed). p.slot) o ≡ Some (slot_or v) → is_some v ≡ true →
+    option_map (λ (q : Position). area_at q.x q.y w q.height) v ≡ option_map place_of o
+joined None v w wide at some = cc
+joined (Some p) None w wide at some = absurd (false≢true some)
+joined (Some p) (Some q) w wide at some =
+    let width : w ≡ p.tall.width = cc in
+    let slot : slot_of q ≡ p.slot = cc in
+    ap (λ (s : Slot). Some (area_at s.x s.y w s.height)) slot ∙ ap (λ n. Some (area_at p.slot.x p.slot.y n p.slot.height)) width
+
+row_none : (test : Placed → Bool) (f : Forest Placed) → has_by test f ≡ false → row_by test f ≡ None
+row_none test Empty out = refl
+row_none test (Tree p cs rest) out =
+    let here : (test p ≡ false) × ((has_by test cs || has_by test rest) ≡ false) = or_parts _ _ out in
+    let below : (has_by test cs ≡ false) × (has_by test rest ≡ false) = or_parts _ _ here.1 in
+    rw (here.0, below.0) (row_none test rest below.1)
+
+-- every place is that of the scene
+module _ (scene : Scene) (valid : IsValid scene) (objects : ℕ) (e : Entries) (hs : List Handle) (listed : numbers hs ≡ preorder (handles_of scene.trees)) where
+  abbrev trees : Forest Placed
+  trees = solved scene.limits.width scene.limits.height (boxed (box_at e.boxes) (handles_of scene.trees))
+
+  module _ (positions : HasThese objects e.positions hs) (placed : HoldsPlaced (sizes_of e.widths) (slots_of e.positions) trees) where
+    there : (h : ℕ) → has_by (is_placed_at h) trees ≡ has (handles_of scene.trees) h
+    there h =
+        sym (map-has_by placed_handle (λ k. eqb k h) trees)
+        ∙ ap (λ (f : Forest ℕ). has f h) (handles_solved (box_at e.boxes) scene.limits.width scene.limits.height (handles_of scene.trees))
+
+    found : (h : ℕ) → has_by (is_placed_at h) trees ≡ true → place_in e h ≡ option_map place_of (row_by (is_placed_at h) trees)
+    found h here =
+        joined (row_by (is_placed_at h) trees) (value_at e.positions h) _
+        (found_by_handle Placed ℕ placed_handle (λ (p : Placed). p.tall.width) 0 (sizes_of e.widths) trees h placed.0 here)
+        (found_by_handle Placed Slot placed_handle (λ (p : Placed). p.slot) nowhere (slots_of e.positions) trees h placed.1 here ∙ ap Some (slot_in_table e.positions h))
+        (has_value hs (handles_of scene.trees) listed objects e.positions positions h ∙ (sym (there h) ∙ here))
+
+    none : (v : Option Position) (w : ℕ) → is_some v ≡ false → option_map (λ (q : Position). area_at q.x q.y w q.height) v ≡ None
+    none None w out = refl
+    none (Some q) w out = absurd (false≢true (sym out))
+
+    absent : (h : ℕ) → has_by (is_placed_at h) trees ≡ false → place_in e h ≡ option_map place_of (row_by (is_placed_at h) trees)
+    absent h out =
+        none (value_at e.positions h) _ (has_value hs (handles_of scene.trees) listed objects e.positions positions h ∙ (sym (there h) ∙ out))
+        ∙ ap (option_map place_of) (sym (row_none (is_placed_at h) trees out))
+
+    pub all_placed : HasThese objects e.boxes hs → HoldsBoxes e.boxes scene → (h : ℕ) → place_in e h ≡ place scene h
+    unfolding place
+    all_placed boxes holds h =
+        elim (cases_Bool (has_by (is_placed_at h) trees)) [ inl here ↦ found h here | inr out ↦ absent h out ]
+        ∙ ap (λ (f : Forest Box). option_map place_of (row_by (is_placed_at h) (solved scene.limits.width scene.limits.height f))) (boxed_are scene valid hs listed objects e boxes holds)

@@ -1,0 +1,25 @@
+use Rattle.std.proofs.Common.{ℕ, List, ◌≡◌, ◌<◌, vec_capacity}
+use Rattle.gui_base.specs.Forest.{size, tree_at, children_of}
+use Rattle.gui_layout.specs.Tables.{sizes_of, listing_of}
+use Rattle.gui_layout.specs.Views.{box_at}
+use Rattle.gui_layout.proofs.Parts.{IsNext, trees_from}
+use Rattle.gui_layout.proofs.Heightens.{Heightens}
+use Rattle.gui_layout.proofs.heights.+find_natural_heights.Given as goal
+
+abbrev pub decreases-find_natural_heights : goal.decreases-find_natural_heights
+decreases-find_natural_heights l = size (tree_at l.tree.now.forest l.h.0)
+
+abbrev pub invariant-loop-next : goal.invariant-loop-next
+invariant-loop-next l =
+    let f = l.tree.forest in
+    let box = box_at l.boxes in
+    record {
+      next_is : IsNext f l.next;
+      small : size (trees_from l.next f) < size (tree_at f l.h.0);
+      listed : listing_of l.naturals ≡ listing_of l.fn.naturals;
+      capacity : vec_capacity l.items ≡ vec_capacity l.fn.items;
+      later : (u : List ℕ) → Heightens box (sizes_of l.widths) (sizes_of l.naturals) u (trees_from l.next f) → Heightens box (sizes_of l.widths) (sizes_of l.fn.naturals) u (children_of f l.h.0);
+    }
+
+abbrev pub decreases-loop-next : goal.decreases-loop-next
+decreases-loop-next l = size (trees_from l.next l.tree.forest)

@@ -1,0 +1,113 @@
+use Rattle.std.proofs.Common.{◌≡◌, ◌<◌, ◌∙◌, sym, ap, subst, ℕ, List, Option, Some, set, refl, arith, rules}
+use Rattle.gui_base.specs.Forest.{Forest, Empty, Tree, roots, size, tree_at}
+use Rattle.gui_base.specs.declared.Handle.{Handle}
+use Rattle.gui_layout.proofs.Listed.{sizes_short}
+use Rattle.gui_layout.specs.Tables.{Listing, IsListed, sizes_of, AreListed}
+use Rattle.gui_layout.specs.Views.{box_at}
+use Rattle.layout_defs.specs.Boxes.{Box}
+use Rattle.layout_defs.specs.Solving.{natural_width}
+use Rattle.layout_defs.specs.Tables.{KeepsOthers}
+use Rattle.gui_layout.specs.Found.{HoldsNaturalWidths, widths_of}
+use Rattle.gui_layout.proofs.Parts.{distinct_once, distinct-part, has-part, here, IsHead, next_head, IsNext, GoesOn, trees_from, walk_begins, walk_goes_on, there, found}
+use Rattle.gui_layout.proofs.Kids.{named}
+use Rattle.gui_layout.proofs.Finds.{Finds, finds_none, finds_first, finds_top}
+use Rattle.gui_layout.proofs.natural.+find_natural_widths.Goals as goal
+use Rattle.gui_layout.proofs.natural.+find_natural_widths.Goals.{In-Some, After-next-next, After-set_size}
+
+pub loop-next-init : goal.loop-next-init
+loop-next-init t c =
+    let f = c.args.tree.now.forest in
+    let box = box_at c.args.boxes.now in
+    let distinct = distinct_once f c.requires.once in
+    let begins = walk_begins f c.args.h.0 c.first_child-next.result distinct c.first_child-next.ensures in
+    let at = there f c.args.h.0 c.requires.there in
+    let known = found at.part distinct in
+    record {
+      next_is = begins.next_is;
+      listed = refl;
+      small = rw (begins.all, known.children, known.tree) (omega arith);
+      later = λ u rest. subst (Finds box (sizes_of c.args.naturals.now) u) begins.all rest;
+    }
+
+next_is : (t : ℕ) (c : In-Some t) → IsNext c.args.tree.now.forest (Some c.in-Some.child)
+next_is t c = subst (IsNext c.args.tree.now.forest) c.in-Some.is c.loop-next.invariant.next_is
+
+head : (t : ℕ) (c : In-Some t) → IsHead c.args.tree.now.forest c.in-Some.child
+head t c = next_head c.args.tree.now.forest c.in-Some.child (next_is t c)
+
+pub find_natural_widths-requires : goal.find_natural_widths-requires
+find_natural_widths-requires t c =
+    let d = (goal.at.find_natural_widths-requires t c).In-Some in
+    let f = c.args.tree.now.forest in
+    let e = head t d in
+    let known = found e.part (distinct_once f c.requires.once) in
+    let small : size (Tree c.in-Some.child.0 e.children e.rest) < size (tree_at f c.args.h.0) = rw (c.in-Some.is, e.is) at c.loop-next.invariant.small in
+    let smaller : size (tree_at f c.in-Some.child.0) < size (tree_at f c.args.h.0) = rw known.tree (omega arith) in
+    let listed = subst (λ (ks : Listing). AreListed ks f) (sym c.loop-next.invariant.listed) c.requires.listed in
+    (search rules, (c.requires.once, (listed, (c.requires.few, has-part e.part c.in-Some.child.0 (here c.in-Some.child.0 e.children e.rest)))))
+
+goes : (t : ℕ) (c : After-next-next t) → GoesOn c.args.tree.now.forest c.in-Some.child c.next-next.result
+goes t c =
+    let f = c.args.tree.now.forest in
+    walk_goes_on f c.in-Some.child c.next-next.result (distinct_once f c.requires.once) (subst (IsNext f) c.in-Some.is c.loop-next.invariant.next_is) c.next-next.ensures
+
+now_is : (t : ℕ) (c : After-next-next t) → trees_from c.loop-next.next c.args.tree.now.forest ≡ Tree c.in-Some.child.0 (goes t c).children (goes t c).rest
+now_is t c = ap (λ (o : Option Handle). trees_from o c.args.tree.now.forest) c.in-Some.is ∙ (goes t c).is
+
+pub loop-next-smaller : goal.loop-next-smaller
+loop-next-smaller t c =
+    let d = (goal.at.loop-next-smaller t c).After-next-next in
+    rw (now_is t d, (goes t d).later) (omega arith)
+
+pub loop-next-preserved : goal.loop-next-preserved
+loop-next-preserved t c =
+    let d = (goal.at.loop-next-preserved t c).After-next-next in
+    let inv = c.loop-next.invariant in
+    let f = c.args.tree.now.forest in
+    let box = box_at c.args.boxes.now in
+    let distinct = distinct_once f c.requires.once in
+    let g = goes t d in
+    let h = c.in-Some.child.0 in
+    let a = (sizes_of c.loop-next.naturals) in
+    let b = (sizes_of c.find_natural_widths.new.naturals) in
+    let small : size (Tree h g.children g.rest) < size (tree_at f c.args.h.0) = rw (now_is t d) at inv.small in
+    let first : Finds box a b (Tree h g.children Empty) = record {
+      found = subst (HoldsNaturalWidths box b) g.tree c.find_natural_widths.ensures.found;
+      others = subst (KeepsOthers 0 a b) g.tree c.find_natural_widths.ensures.others;
+    } in
+    record {
+      next_is = g.next_is;
+      listed = c.find_natural_widths.ensures.listed ∙ inv.listed;
+      small = rw g.later (omega arith);
+      later = λ (u : List ℕ) rest.
+          inv.later u (subst (Finds box a u) (sym (now_is t d)) (finds_first box a b u h g.children g.rest (distinct-part g.part distinct) first (subst (Finds box b u) g.later rest)));
+    }
+
+all_found : (t : ℕ) (c : After-set_size t) → Finds (box_at c.args.boxes.now) (sizes_of c.args.naturals.now) (sizes_of c.set_size.new.sizes) (tree_at c.args.tree.now.forest c.args.h.0)
+all_found t c =
+    let f = c.args.tree.now.forest in
+    let h = c.args.h.0 in
+    let box = box_at c.args.boxes.now in
+    let distinct = distinct_once f c.requires.once in
+    let at = there f h c.requires.there in
+    let known = found at.part distinct in
+    let all = distinct-part at.part distinct in
+    let a = (sizes_of c.args.naturals.now) in
+    let b = (sizes_of c.loop-next.naturals) in
+    let n = c.natural_width-natural.result in
+    let none : trees_from c.loop-next.next f ≡ Empty = ap (λ (o : Option Handle). trees_from o f) c.in_default.is in
+    let below : Finds box a b at.children = subst (Finds box a b) known.children (c.loop-next.invariant.later b (subst (Finds box b b) (sym none) (finds_none box b))) in
+    let listed = subst (λ (ks : Listing). IsListed ks h) (sym c.loop-next.invariant.listed) (c.requires.listed h c.requires.there) in
+    let short = sizes_short c.loop-next.naturals h listed in
+    let is : n ≡ natural_width (record (box h) { handle = h }) (roots (widths_of box at.children)) =
+    c.natural_width-natural.ensures.value ∙ (ap (λ (t : Forest ℕ). natural_width (box h) (roots (widths_of box t))) known.children ∙ ap (λ (b : Box). natural_width b (roots (widths_of box at.children))) (sym (named c.args.boxes.now h))) in
+    subst (λ u. Finds box a u (tree_at f h)) (sym c.set_size.ensures.set) (subst (Finds box a (set b h n)) (sym known.tree) (finds_top box a b h n at.children all.1 short is below))
+
+pub returns-clause-found : goal.returns-clause-found
+returns-clause-found t c = (all_found t (goal.at.returns-clause-found t c).After-set_size).found
+
+pub returns-clause-others : goal.returns-clause-others
+returns-clause-others t c = (all_found t (goal.at.returns-clause-others t c).After-set_size).others
+
+pub set_size-requires-clause-listed : goal.set_size-requires-clause-listed
+set_size-requires-clause-listed t c = subst (λ (ks : Listing). IsListed ks c.args.h.0) (sym c.loop-next.invariant.listed) (c.requires.listed c.args.h.0 c.requires.there)

@@ -1,0 +1,24 @@
+use Rattle.std.proofs.Common.{ℕ, List, ◌<◌, ◌≡◌}
+use Rattle.gui_base.specs.Forest.{size, tree_at, children_of}
+use Rattle.gui_layout.specs.Tables.{sizes_of, listing_of}
+use Rattle.gui_layout.specs.Views.{box_at}
+use Rattle.gui_layout.proofs.Parts.{IsNext, trees_from}
+use Rattle.gui_layout.proofs.Finds.{Finds}
+use Rattle.gui_layout.proofs.natural.+find_natural_widths.Given as goal
+
+abbrev pub decreases-find_natural_widths : goal.decreases-find_natural_widths
+decreases-find_natural_widths l = size (tree_at l.tree.now.forest l.h.0)
+
+abbrev pub invariant-loop-next : goal.invariant-loop-next
+invariant-loop-next l =
+    let f = l.tree.forest in
+    let box = box_at l.boxes in
+    record {
+      next_is : IsNext f l.next;
+      listed : listing_of l.naturals ≡ listing_of l.fn.naturals;
+      small : size (trees_from l.next f) < size (tree_at f l.h.0);
+      later : (u : List ℕ) → Finds box (sizes_of l.naturals) u (trees_from l.next f) → Finds box (sizes_of l.fn.naturals) u (children_of f l.h.0);
+    }
+
+abbrev pub decreases-loop-next : goal.decreases-loop-next
+decreases-loop-next l = size (trees_from l.next l.tree.forest)

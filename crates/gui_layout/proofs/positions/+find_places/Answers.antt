@@ -1,0 +1,140 @@
+use Rattle.std.proofs.Common.{◌≡◌, ◌≤◌, ◌<◌, ◌+◌, ◌∙◌, [], ◌∷◌, sym, ap, subst, ℕ, List, Option, get_or, arith, rules}
+use Rattle.std.specs.List.{All}
+use Rattle.std.proofs.lemmas.List.Elements.{All-head, All-tail}
+use Rattle.gui_base.specs.Forest.{Forest, Empty, Tree, roots, size, height, tree_at}
+use Rattle.gui_base.specs.declared.Handle.{Handle}
+use Rattle.layout_defs.specs.Solving.{Slot, nowhere, kid_slots}
+use Rattle.layout_defs.specs.Tables.{KeepsOthers}
+use Rattle.gui_layout.specs.Tables.{Listing, sizes_of, AreListed}
+use Rattle.gui_layout.specs.Views.{box_at}
+use Rattle.gui_layout.specs.Slots.{slots_of, slot_at, at_roots, tall_at, talls, HoldsSlots, IsBelow}
+use Rattle.gui_layout.proofs.Parts.{distinct_once, distinct-part, has-part, here, IsHead, next_head, IsNext, GoesOn, trees_from, walk_begins, walk_goes_on, there, found}
+use Rattle.gui_layout.proofs.Stands.{Stands, stands_none, stands_first, stands_top, later_kept, room_below, room_fewer}
+use Rattle.gui_layout.proofs.positions.+find_places.Goals as goal
+use Rattle.gui_layout.proofs.positions.+find_places.Goals.{In-Some, In_default, After-next-next}
+
+pub set_kid_positions-requires-clause-room : goal.set_kid_positions-requires-clause-room
+set_kid_positions-requires-clause-room t c =
+    let f = c.args.tree.now.forest in
+    let h = c.args.h.0 in
+    let known = found (there f h c.requires.there).part (distinct_once f c.requires.once) in
+    let high : 1 ≤ height (tree_at f h) = rw known.tree (omega arith) in
+    room_fewer (slot_at (slots_of c.args.places.now) h) 1 (height (tree_at f h)) c.requires.room high
+
+pub loop-next-init : goal.loop-next-init
+loop-next-init t c =
+    let f = c.args.tree.now.forest in
+    let box = box_at c.args.boxes.now in
+    let distinct = distinct_once f c.requires.once in
+    let begins = walk_begins f c.args.h.0 c.first_child-next.result distinct c.first_child-next.ensures in
+    let at = there f c.args.h.0 c.requires.there in
+    let known = found at.part distinct in
+    record {
+      next_is = begins.next_is;
+      fewer = rw (begins.all, known.children, known.tree) (omega arith);
+      lower = rw (begins.all, known.children, known.tree) (omega arith);
+      listed = c.set_kid_positions.ensures.listed;
+      near = rw begins.all c.set_kid_positions.ensures.near;
+      capacity = c.set_kid_positions.ensures.capacity;
+      later = λ (u : List Slot) rest. subst (Stands box (sizes_of c.args.widths.now) (sizes_of c.args.naturals.now) (slots_of c.set_kid_positions.new.places) u) begins.all rest;
+    }
+
+head : (t : ℕ) (c : In-Some t) → IsHead c.args.tree.now.forest c.in-Some.child
+head t c = next_head c.args.tree.now.forest c.in-Some.child (subst (IsNext c.args.tree.now.forest) c.in-Some.is c.loop-next.invariant.next_is)
+
+pub find_places-requires : goal.find_places-requires
+find_places-requires t c =
+    let d = (goal.at.find_places-requires t c).In-Some in
+    let f = c.args.tree.now.forest in
+    let h = c.in-Some.child.0 in
+    let inv = c.loop-next.invariant in
+    let e = head t d in
+    let now : trees_from c.loop-next.next f ≡ Tree h e.children e.rest = ap (λ (o : Option Handle). trees_from o f) c.in-Some.is ∙ e.is in
+    let known = found e.part (distinct_once f c.requires.once) in
+    let fewer : size (Tree h e.children e.rest) < size (tree_at f c.args.h.0) = rw now at inv.fewer in
+    let smaller : size (tree_at f h) < size (tree_at f c.args.h.0) = rw known.tree (omega arith) in
+    let lower : height (Tree h e.children e.rest) + 1 ≤ height (tree_at f c.args.h.0) = rw now at inv.lower in
+    let low : height (tree_at f h) + 1 ≤ height (tree_at f c.args.h.0) = rw known.tree (omega arith) in
+    let parent = slot_at (slots_of c.args.places.now) c.args.h.0 in
+    let child = slot_at (slots_of c.loop-next.places) h in
+    let near : All (IsBelow parent) (at_roots (slots_of c.loop-next.places) (Tree h e.children e.rest)) = subst (λ (g : Forest ℕ). All (IsBelow parent) (at_roots (slots_of c.loop-next.places) g)) now inv.near in
+    let below : IsBelow parent child = All-head (IsBelow parent) child (at_roots (slots_of c.loop-next.places) e.rest) near in
+    let listed = subst (λ (ks : Listing). AreListed ks f) (sym inv.listed) c.requires.listed in
+    let capacity = inv.capacity in
+    let room = c.requires.capacity in
+    (search rules, (c.requires.once, (listed, (c.requires.few, (has-part e.part h (here h e.children e.rest), (omega arith, room_below parent child (height (tree_at f h)) (height (tree_at f c.args.h.0)) c.requires.room below low))))))
+
+goes : (t : ℕ) (c : After-next-next t) → GoesOn c.args.tree.now.forest c.in-Some.child c.next-next.result
+goes t c =
+    let f = c.args.tree.now.forest in
+    walk_goes_on f c.in-Some.child c.next-next.result (distinct_once f c.requires.once) (subst (IsNext f) c.in-Some.is c.loop-next.invariant.next_is) c.next-next.ensures
+
+now_is : (t : ℕ) (c : After-next-next t) → trees_from c.loop-next.next c.args.tree.now.forest ≡ Tree c.in-Some.child.0 (goes t c).children (goes t c).rest
+now_is t c = ap (λ (o : Option Handle). trees_from o c.args.tree.now.forest) c.in-Some.is ∙ (goes t c).is
+
+pub loop-next-smaller : goal.loop-next-smaller
+loop-next-smaller t c =
+    let d = (goal.at.loop-next-smaller t c).After-next-next in
+    rw (now_is t d, (goes t d).later) (omega arith)
+
+pub loop-next-preserved : goal.loop-next-preserved
+loop-next-preserved t c =
+    let d = (goal.at.loop-next-preserved t c).After-next-next in
+    let inv = c.loop-next.invariant in
+    let f = c.args.tree.now.forest in
+    let box = box_at c.args.boxes.now in
+    let w = (sizes_of c.args.widths.now) in
+    let n = (sizes_of c.args.naturals.now) in
+    let distinct = distinct_once f c.requires.once in
+    let g = goes t d in
+    let h = c.in-Some.child.0 in
+    let a = slots_of c.loop-next.places in
+    let b = slots_of c.find_places.new.places in
+    let parent = slot_at (slots_of c.args.places.now) c.args.h.0 in
+    let fewer : size (Tree h g.children g.rest) < size (tree_at f c.args.h.0) = rw (now_is t d) at inv.fewer in
+    let lower : height (Tree h g.children g.rest) + 1 ≤ height (tree_at f c.args.h.0) = rw (now_is t d) at inv.lower in
+    let near : All (IsBelow parent) (at_roots a (Tree h g.children g.rest)) = subst (λ (g : Forest ℕ). All (IsBelow parent) (at_roots a g)) (now_is t d) inv.near in
+    let first : Stands box w n a b (Tree h g.children Empty) = record {
+      found = subst (HoldsSlots box w n (get_or a h nowhere ∷ []) b) g.tree c.find_places.ensures.found;
+      others = subst (KeepsOthers nowhere a b) g.tree c.find_places.ensures.others;
+    } in
+    let all = distinct-part g.part distinct in
+    record {
+      next_is = g.next_is;
+      fewer = rw g.later (omega arith);
+      lower = rw g.later (omega arith);
+      listed = c.find_places.ensures.listed ∙ inv.listed;
+      near = rw (g.later, later_kept box w n a b h g.children g.rest all first.others) (All-tail (IsBelow parent) (get_or a h nowhere) (at_roots a g.rest) near);
+      capacity = c.find_places.ensures.capacity ∙ inv.capacity;
+      later = λ (u : List Slot) rest.
+          inv.later u (subst (Stands box w n a u) (sym (now_is t d)) (stands_first box w n a b u h g.children g.rest all first (subst (Stands box w n b u) g.later rest)));
+    }
+
+all_found : (t : ℕ) (c : In_default t) → Stands (box_at c.args.boxes.now) (sizes_of c.args.widths.now) (sizes_of c.args.naturals.now) (slots_of c.args.places.now) (slots_of c.loop-next.places) (tree_at c.args.tree.now.forest c.args.h.0)
+all_found t c =
+    let f = c.args.tree.now.forest in
+    let h = c.args.h.0 in
+    let box = box_at c.args.boxes.now in
+    let w = (sizes_of c.args.widths.now) in
+    let n = (sizes_of c.args.naturals.now) in
+    let distinct = distinct_once f c.requires.once in
+    let at = there f h c.requires.there in
+    let known = found at.part distinct in
+    let all = distinct-part at.part distinct in
+    let a = slots_of c.args.places.now in
+    let b = slots_of c.set_kid_positions.new.places in
+    let u = slots_of c.loop-next.places in
+    let none : trees_from c.loop-next.next f ≡ Empty = ap (λ (o : Option Handle). trees_from o f) c.in_default.is in
+    let lower : Stands box w n b u at.children = subst (Stands box w n b u) known.children (c.loop-next.invariant.later u (subst (Stands box w n u u) (sym none) (stands_none box w n u))) in
+    let kids : at_roots b at.children ≡ kid_slots (tall_at box w n h) (get_or a h nowhere) (roots (talls box w n at.children)) =
+    ap (at_roots b) (sym known.children) ∙ (c.set_kid_positions.ensures.kids ∙ ap (λ (t : Forest ℕ). kid_slots (tall_at box w n h) (get_or a h nowhere) (roots (talls box w n t))) known.children) in
+    subst (Stands box w n a u) (sym known.tree) (stands_top box w n a b u h at.children all.1 kids (subst (KeepsOthers nowhere a b) known.children c.set_kid_positions.ensures.others) lower)
+
+pub returns-clause-found : goal.returns-clause-found
+returns-clause-found t c =
+    let f = c.args.tree.now.forest in
+    let known = found (there f c.args.h.0 c.requires.there).part (distinct_once f c.requires.once) in
+    subst (λ ss. HoldsSlots (box_at c.args.boxes.now) (sizes_of c.args.widths.now) (sizes_of c.args.naturals.now) ss (slots_of c.loop-next.places) (tree_at f c.args.h.0)) (ap (at_roots (slots_of c.args.places.now)) known.tree) (all_found t (goal.at.returns-clause-found t c).In_default).found
+
+pub returns-clause-others : goal.returns-clause-others
+returns-clause-others t c = (all_found t (goal.at.returns-clause-others t c).In_default).others

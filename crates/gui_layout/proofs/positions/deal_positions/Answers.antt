@@ -1,0 +1,83 @@
+use Rattle.std.proofs.Common.{◌≡◌, ◌∙◌, sym, ap, subst, ℕ, List, Option, map, refl, drop, arith}
+use Rattle.gui_base.specs.Forest.{Forest, Empty, Tree, roots}
+use Rattle.gui_base.specs.declared.Handle.{Handle}
+use Rattle.layout_defs.specs.Solving.{Slot}
+use Rattle.gui_layout.proofs.Listed.{slots_short}
+use Rattle.gui_layout.specs.Tables.{Listing, IsListed, sizes_of}
+use Rattle.gui_layout.specs.Views.{box_at}
+use Rattle.gui_layout.specs.Slots.{talls, slot_of, slots_of, room_in, item_slot, Deals}
+use Rattle.gui_layout.proofs.Parts.{distinct_once, distinct-part, has-part, here, IsHead, next_head, IsNext, GoesOn, trees_from, walk_begins, walk_goes_on}
+use Rattle.gui_layout.proofs.Flows.{tall_is, slots_none, slots_first}
+use Rattle.gui_layout.proofs.positions.deal_positions.Goals as goal
+use Rattle.gui_layout.proofs.positions.deal_positions.Goals.{In-Some, After-next-next}
+
+goes : (c : After-next-next) → GoesOn c.args.tree.now.forest c.in-Some.child c.next-next.result
+goes c =
+    let f = c.args.tree.now.forest in
+    walk_goes_on f c.in-Some.child c.next-next.result (distinct_once f c.requires.once) (subst (IsNext f) c.in-Some.is c.loop-next.invariant.next_is) c.next-next.ensures
+
+now_is : (c : After-next-next) → trees_from c.loop-next.next c.args.tree.now.forest ≡ Tree c.in-Some.child.0 (goes c).children (goes c).rest
+now_is c = ap (λ (o : Option Handle). trees_from o c.args.tree.now.forest) c.in-Some.is ∙ (goes c).is
+
+pub loop-next-smaller : goal.loop-next-smaller
+loop-next-smaller c =
+    let d = (goal.at.loop-next-smaller c).After-next-next in
+    rw (now_is d, (goes d).later) (omega arith)
+
+pub loop-next-init : goal.loop-next-init
+loop-next-init c =
+    let f = c.args.tree.now.forest in
+    let begins = walk_begins f c.args.h.0 c.first_child-next.result (distinct_once f c.requires.once) c.first_child-next.ensures in
+    record {
+      next_is = begins.next_is;
+      listed = refl;
+      within = omega arith;
+      later = λ (u : List Slot) rest. subst (λ (t : Forest ℕ). Deals (box_at c.args.boxes.now) (sizes_of c.args.widths.now) (sizes_of c.args.naturals.now) (room_in c.args.inside) (slots_of c.args.places.now) u t (map (item_slot c.args.course (room_in c.args.inside)) c.args.items.now)) begins.all rest;
+    }
+
+pub loop-next-preserved : goal.loop-next-preserved
+loop-next-preserved c =
+    let d = (goal.at.loop-next-preserved c).After-next-next in
+    let inv = c.loop-next.invariant in
+    let f = c.args.tree.now.forest in
+    let box = box_at c.args.boxes.now in
+    let w = (sizes_of c.args.widths.now) in
+    let n = (sizes_of c.args.naturals.now) in
+    let room = room_in c.args.inside in
+    let made = item_slot c.args.course room in
+    let g = goes d in
+    let h = c.in-Some.child.0 in
+    let p = c.dealt_position-later.result.0 in
+    let a = slots_of c.loop-next.places in
+    let short = slots_short c.loop-next.places h (subst (λ (ks : Listing). IsListed ks h) (sym inv.listed) (c.requires.listed h (has-part g.part h (here h g.children g.rest)))) in
+    record {
+      next_is = g.next_is;
+      listed = c.set_position.ensures.listed ∙ inv.listed;
+      within = c.dealt_position-later.ensures.within;
+      later = λ (u : List Slot) rest.
+          inv.later u
+          (subst (λ (t : Forest ℕ). Deals box w n room a u t (map made (drop c.loop-next.i c.args.items.now))) (sym (now_is d))
+          (slots_first box w n room a u h (slot_of p) g.children g.rest _ (map made (drop c.loop-next.i c.args.items.now)) (map made (drop c.dealt_position-later.result.1 c.args.items.now))
+          (distinct-part g.part (distinct_once f c.requires.once)) short (tall_is c.args.boxes.now w n h _ _ c.box_at.result c.box_at.ensures c.size_at.ensures.value c.size_at-in-Some.ensures.value)
+          (c.dealt_position-later.ensures.value h (roots (talls box w n g.rest))) c.dealt_position-later.ensures.close
+          (subst (λ (t : List Slot). Deals box w n room t u g.rest (map made (drop c.dealt_position-later.result.1 c.args.items.now))) c.set_position.ensures.set
+          (subst (λ (t : Forest ℕ). Deals box w n room (slots_of c.set_position.new.places) u t (map made (drop c.dealt_position-later.result.1 c.args.items.now))) g.later rest))));
+    }
+
+pub returns-clause-deals : goal.returns-clause-deals
+returns-clause-deals c =
+    let f = c.args.tree.now.forest in
+    let room = room_in c.args.inside in
+    let t = slots_of c.loop-next.places in
+    let flow = map (item_slot c.args.course room) (drop c.loop-next.i c.args.items.now) in
+    let none : trees_from c.loop-next.next f ≡ Empty = ap (λ (o : Option Handle). trees_from o f) c.in_default.is in
+    c.loop-next.invariant.later t (subst (λ (g : Forest ℕ). Deals (box_at c.args.boxes.now) (sizes_of c.args.widths.now) (sizes_of c.args.naturals.now) room t t g flow) (sym none) (slots_none (box_at c.args.boxes.now) (sizes_of c.args.widths.now) (sizes_of c.args.naturals.now) room t flow))
+
+head : (c : In-Some) → IsHead c.args.tree.now.forest c.in-Some.child
+head c = next_head c.args.tree.now.forest c.in-Some.child (subst (IsNext c.args.tree.now.forest) c.in-Some.is c.loop-next.invariant.next_is)
+
+pub set_position-requires : goal.set_position-requires
+set_position-requires c =
+    let e = head (goal.at.set_position-requires c).In-Some in
+    let h = c.in-Some.child.0 in
+    subst (λ (ks : Listing). IsListed ks h) (sym c.loop-next.invariant.listed) (c.requires.listed h (has-part e.part h (here h e.children e.rest)))

@@ -1,0 +1,27 @@
+use Rattle.std.proofs.Common.{ℕ, List, ◌≡◌, ◌<◌, vec_capacity}
+use Rattle.gui_base.specs.Forest.{size, tree_at, children_of}
+use Rattle.gui_layout.specs.Tables.{sizes_of, listing_of}
+use Rattle.gui_layout.specs.Views.{box_at}
+use Rattle.gui_layout.specs.Found.{HoldsNaturalWidths}
+use Rattle.gui_layout.proofs.Parts.{IsNext, trees_from}
+use Rattle.gui_layout.proofs.Widens.{Widens}
+use Rattle.gui_layout.proofs.widths.+find_widths.Given as goal
+
+abbrev pub decreases-find_widths : goal.decreases-find_widths
+decreases-find_widths l = size (tree_at l.tree.now.forest l.h.0)
+
+abbrev pub invariant-loop-next : goal.invariant-loop-next
+invariant-loop-next l =
+    let f = l.tree.forest in
+    let box = box_at l.boxes in
+    record {
+      next_is : IsNext f l.next;
+      fewer : size (trees_from l.next f) < size (tree_at f l.fn.h.0);
+      holds : HoldsNaturalWidths box (sizes_of l.naturals) (trees_from l.next f);
+      listed : listing_of l.widths ≡ listing_of l.fn.widths;
+      capacity : vec_capacity l.items ≡ vec_capacity l.fn.items;
+      later : (u : List ℕ) → Widens box (sizes_of l.widths) u (trees_from l.next f) → Widens box (sizes_of l.initial.widths) u (children_of f l.fn.h.0);
+    }
+
+abbrev pub decreases-loop-next : goal.decreases-loop-next
+decreases-loop-next l = size (trees_from l.next l.tree.forest)

@@ -1,0 +1,75 @@
+use Rattle.std.proofs.Common.{◌≡◌, ◌∙◌, sym, ap, subst, ℕ, List, Option, set, refl, drop, arith}
+use Rattle.gui_base.specs.Forest.{Forest, Tree, roots}
+use Rattle.gui_base.specs.declared.Handle.{Handle}
+use Rattle.layout_defs.specs.Solving.{main_sizes}
+use Rattle.gui_flex.specs.Items.{items_of}
+use Rattle.gui_layout.proofs.Listed.{sizes_short}
+use Rattle.gui_layout.specs.Tables.{Listing, IsListed, sizes_of}
+use Rattle.gui_layout.specs.Views.{box_at}
+use Rattle.gui_layout.specs.Found.{HoldsNaturalWidths, widths_of}
+use Rattle.gui_layout.proofs.Parts.{distinct_once, distinct-part, has-part, here, IsHead, next_head, IsNext, GoesOn, trees_from, walk_begins, walk_goes_on}
+use Rattle.gui_layout.proofs.Kids.{kid_is}
+use Rattle.gui_layout.proofs.Dealt.{Deals, deals_first}
+use Rattle.gui_layout.proofs.widths.deal_widths.Goals as goal
+use Rattle.gui_layout.proofs.widths.deal_widths.Goals.{In-Some, After-next-next}
+
+goes : (c : After-next-next) → GoesOn c.args.tree.now.forest c.in-Some.child c.next-next.result
+goes c =
+    let f = c.args.tree.now.forest in
+    walk_goes_on f c.in-Some.child c.next-next.result (distinct_once f c.requires.once) (subst (IsNext f) c.in-Some.is c.loop-next.invariant.next_is) c.next-next.ensures
+
+now_is : (c : After-next-next) → trees_from c.loop-next.next c.args.tree.now.forest ≡ Tree c.in-Some.child.0 (goes c).children (goes c).rest
+now_is c = ap (λ (o : Option Handle). trees_from o c.args.tree.now.forest) c.in-Some.is ∙ (goes c).is
+
+pub loop-next-smaller : goal.loop-next-smaller
+loop-next-smaller c =
+    let d = (goal.at.loop-next-smaller c).After-next-next in
+    rw (now_is d, (goes d).later) (omega arith)
+
+pub loop-next-init : goal.loop-next-init
+loop-next-init c =
+    let f = c.args.tree.now.forest in
+    let box = box_at c.args.boxes.now in
+    let begins = walk_begins f c.args.h.0 c.first_child-next.result (distinct_once f c.requires.once) c.first_child-next.ensures in
+    record {
+      next_is = begins.next_is;
+      within = omega arith;
+      listed = refl;
+      holds = subst (HoldsNaturalWidths box (sizes_of c.args.naturals.now)) (sym begins.all) c.requires.found;
+      later = λ (u : List ℕ) rest. subst (λ (t : Forest ℕ). Deals box c.args.room (sizes_of c.args.widths.now) u t (main_sizes (items_of c.args.items.now))) begins.all rest;
+    }
+
+pub loop-next-preserved : goal.loop-next-preserved
+loop-next-preserved c =
+    let d = (goal.at.loop-next-preserved c).After-next-next in
+    let inv = c.loop-next.invariant in
+    let f = c.args.tree.now.forest in
+    let box = box_at c.args.boxes.now in
+    let g = goes d in
+    let h = c.in-Some.child.0 in
+    let holds : HoldsNaturalWidths box (sizes_of c.args.naturals.now) (Tree h g.children g.rest) = subst (HoldsNaturalWidths box (sizes_of c.args.naturals.now)) (now_is d) inv.holds in
+    let kids = roots (widths_of box g.rest) in
+    let kid = kid_is c.args.boxes.now h _ c.box_at.result g.children c.box_at.ensures (c.size_at.ensures.value ∙ holds.0) in
+    let short = sizes_short c.loop-next.widths h (subst (λ (ks : Listing). IsListed ks h) (sym inv.listed) (c.requires.listed h (has-part g.part h (here h g.children g.rest)))) in
+    record {
+      next_is = g.next_is;
+      within = c.dealt_width-width.ensures.within;
+      listed = c.set_size.ensures.listed ∙ inv.listed;
+      holds = subst (HoldsNaturalWidths box (sizes_of c.args.naturals.now)) (sym g.later) holds.2;
+      later = λ (u : List ℕ) rest.
+          inv.later u
+          (subst (λ (t : Forest ℕ). Deals box c.args.room (sizes_of c.loop-next.widths) u t (main_sizes (items_of (drop c.loop-next.i c.args.items.now)))) (sym (now_is d))
+          (deals_first box c.args.room (sizes_of c.loop-next.widths) u h c.dealt_width-width.result.0 g.children g.rest _ _ _ (distinct-part g.part (distinct_once f c.requires.once)) short kid
+          (c.dealt_width-width.ensures.value h kids)
+          (subst (λ (t : Forest ℕ). Deals box c.args.room (set (sizes_of c.loop-next.widths) h c.dealt_width-width.result.0) u t (main_sizes (items_of (drop c.dealt_width-width.result.1 c.args.items.now)))) g.later
+          (subst (λ (a : List ℕ). Deals box c.args.room a u (trees_from c.next-next.result f) (main_sizes (items_of (drop c.dealt_width-width.result.1 c.args.items.now)))) c.set_size.ensures.set rest))));
+    }
+
+head : (c : In-Some) → IsHead c.args.tree.now.forest c.in-Some.child
+head c = next_head c.args.tree.now.forest c.in-Some.child (subst (IsNext c.args.tree.now.forest) c.in-Some.is c.loop-next.invariant.next_is)
+
+pub set_size-requires-clause-listed : goal.set_size-requires-clause-listed
+set_size-requires-clause-listed c =
+    let e = head (goal.at.set_size-requires-clause-listed c).In-Some in
+    let h = c.in-Some.child.0 in
+    subst (λ (ks : Listing). IsListed ks h) (sym c.loop-next.invariant.listed) (c.requires.listed h (has-part e.part h (here h e.children e.rest)))

@@ -1,0 +1,65 @@
+use Rattle.std.proofs.Common.{◌≡◌, ◌≤◌, ◌+◌, ◌∙◌, ◌++◌, ◌∷◌, sym, ap, subst, refl, ℕ, Option, map, vec_len, append_assoc, arith}
+use Rattle.gui_base.specs.Forest.{Forest, Tree, roots, size}
+use Rattle.gui_base.specs.declared.Handle.{Handle}
+use Rattle.layout_defs.specs.Solving.{Wide, wide_box, taking_part, width_item}
+use Rattle.gui_flex.specs.Items.{items_of}
+use Rattle.gui_layout.specs.Tables.{sizes_of}
+use Rattle.gui_layout.specs.Views.{box_at}
+use Rattle.gui_layout.specs.Found.{HoldsNaturalWidths, widths_of}
+use Rattle.gui_layout.proofs.Parts.{distinct_once, IsNext, GoesOn, trees_from, walk_begins, walk_goes_on, part_children, size-part}
+use Rattle.gui_layout.proofs.Kids.{kid_is, part_taken}
+use Rattle.gui_layout.proofs.widths.fill_row.Goals as goal
+use Rattle.gui_layout.proofs.widths.fill_row.Goals.{After-next-next}
+
+goes : (c : After-next-next) → GoesOn c.args.tree.now.forest c.in-Some.child c.next-next.result
+goes c =
+    let f = c.args.tree.now.forest in
+    walk_goes_on f c.in-Some.child c.next-next.result (distinct_once f c.requires.once) (subst (IsNext f) c.in-Some.is c.loop-next.invariant.next_is) c.next-next.ensures
+
+now_is : (c : After-next-next) → trees_from c.loop-next.next c.args.tree.now.forest ≡ Tree c.in-Some.child.0 (goes c).children (goes c).rest
+now_is c = ap (λ (o : Option Handle). trees_from o c.args.tree.now.forest) c.in-Some.is ∙ (goes c).is
+
+pub loop-next-smaller : goal.loop-next-smaller
+loop-next-smaller c =
+    let d = (goal.at.loop-next-smaller c).After-next-next in
+    rw (now_is d, (goes d).later) (omega arith)
+
+pub loop-next-init : goal.loop-next-init
+loop-next-init c =
+    let f = c.args.tree.now.forest in
+    let box = box_at c.args.boxes.now in
+    let begins = walk_begins f c.args.h.0 c.first_child-next.result (distinct_once f c.requires.once) c.first_child-next.ensures in
+    let few = size-part (part_children f c.args.h.0) in
+    let small = c.requires.few in
+    let none = c.clear.ensures.len in
+    record {
+      next_is = begins.next_is;
+      few = rw begins.all (omega arith);
+      capacity = c.clear.ensures.capacity;
+      holds = subst (HoldsNaturalWidths box (sizes_of c.args.naturals.now)) (sym begins.all) c.requires.found;
+      left = rw (begins.all, c.clear.ensures.items) refl;
+    }
+
+pub loop-next-preserved : goal.loop-next-preserved
+loop-next-preserved c =
+    let d = (goal.at.loop-next-preserved c).After-next-next in
+    let inv = c.loop-next.invariant in
+    let box = box_at c.args.boxes.now in
+    let g = goes d in
+    let h = c.in-Some.child.0 in
+    let few : vec_len c.loop-next.items + size (Tree h g.children g.rest) ≤ size c.args.tree.now.forest = rw (now_is d) at inv.few in
+    let more = c.push_kid.ensures.len in
+    let holds : HoldsNaturalWidths box (sizes_of c.args.naturals.now) (Tree h g.children g.rest) = subst (HoldsNaturalWidths box (sizes_of c.args.naturals.now)) (now_is d) inv.holds in
+    let item = λ (w : Wide). width_item c.args.room w in
+    let kids = roots (widths_of box g.rest) in
+    let kid = kid_is c.args.boxes.now h _ c.box_at.result g.children c.box_at.ensures (c.size_at.ensures.value ∙ holds.0) in
+    record {
+      next_is = g.next_is;
+      few = rw g.later (omega arith);
+      capacity = c.push_kid.ensures.capacity ∙ inv.capacity;
+      holds = subst (HoldsNaturalWidths box (sizes_of c.args.naturals.now)) (sym g.later) holds.2;
+      left =
+          rw (g.later, c.push_kid.ensures.items h, append_assoc)
+          (ap (λ l. items_of c.loop-next.items.items ++ l) (part_taken c.args.room _ kids ∙ ap (λ (k : Wide). map (width_item c.args.room) (taking_part wide_box (k ∷ kids))) kid)
+          ∙ (ap (λ (t : Forest ℕ). items_of c.loop-next.items.items ++ map (width_item c.args.room) (taking_part wide_box (roots (widths_of box t)))) (sym (now_is d)) ∙ inv.left));
+    }

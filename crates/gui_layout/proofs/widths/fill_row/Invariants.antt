@@ -1,0 +1,25 @@
+use Rattle.std.proofs.Common.{◌≡◌, ◌≤◌, ◌+◌, ◌++◌, map, vec_len, vec_capacity}
+use Rattle.gui_base.specs.Forest.{roots, size, children_of}
+use Rattle.layout_defs.specs.Solving.{wide_box, taking_part, width_item}
+use Rattle.gui_flex.specs.Items.{items_of}
+use Rattle.gui_layout.specs.Tables.{sizes_of}
+use Rattle.gui_layout.specs.Views.{box_at}
+use Rattle.gui_layout.specs.Found.{HoldsNaturalWidths, widths_of}
+use Rattle.gui_layout.proofs.Parts.{IsNext, trees_from}
+use Rattle.gui_layout.proofs.widths.fill_row.Given as goal
+
+abbrev pub invariant-loop-next : goal.invariant-loop-next
+invariant-loop-next l =
+    let f = l.tree.forest in
+    let later = trees_from l.next f in
+    let box = box_at l.boxes in
+    record {
+      next_is : IsNext f l.next;
+      few : vec_len l.items + size later ≤ size f;
+      capacity : vec_capacity l.items ≡ vec_capacity l.fn.items;
+      holds : HoldsNaturalWidths box (sizes_of l.naturals) later;
+      left : items_of l.items.items ++ map (width_item l.room) (taking_part wide_box (roots (widths_of box later))) ≡ map (width_item l.room) (taking_part wide_box (roots (widths_of box (children_of f l.fn.h.0))));
+    }
+
+abbrev pub decreases-loop-next : goal.decreases-loop-next
+decreases-loop-next l = size (trees_from l.next l.tree.forest)

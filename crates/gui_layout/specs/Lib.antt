@@ -1,0 +1,14 @@
+pub mod Views
+pub mod Found
+pub mod Rows
+pub mod Reaches
+pub mod Slots
+pub mod Columns
+pub mod Talls
+pub mod Tables
+pub mod Listing
+pub mod Walks
+pub mod Scenes
+pub mod Kept
+pub mod Kids
+pub mod Solved

@@ -1,0 +1,28 @@
+-- What layout sees of the objects of a scene by handle, and what is shown of them.
+use Rattle.std.specs.Prelude.{◌≡◌, ℕ, Bool, ◌==◌, ◌||◌, if◌then◌else◌, Option, Some, None, IsSome}
+use Rattle.gui_base.specs.Area.{Rect}
+use Rattle.gui_pool.specs.Table.{Table, value_at}
+use Rattle.layout_defs.specs.Boxes.{Box}
+use Rattle.scene_defs.specs.Place.{panel_of, box_of}
+use Rattle.scene_defs.specs.Scene.{Object, Scene, object_at}
+use Rattle.gui_layout.specs.declared.layout_box.LayoutBox.{LayoutBox}
+use Rattle.gui_layout.specs.Views.{no_box, box_at}
+
+-- the box of h: one of no size where it is not there
+abbrev pub box_or_none : Scene → ℕ → Option Object → Box
+box_or_none scene h None = no_box h
+box_or_none scene h (Some object) = box_of scene object
+
+abbrev pub scene_box : Scene → ℕ → Box
+scene_box scene h = box_or_none scene h (object_at scene h)
+
+-- a table has the box of each object that it has a value for
+abbrev pub HoldsBoxes : Table LayoutBox → Scene → Type 0
+HoldsBoxes boxes scene = (h : ℕ) → IsSome (value_at boxes h) → box_at boxes h ≡ scene_box scene h
+
+-- the panel, where h is the active screen or a layer
+abbrev pub is_shown : Scene → ℕ → Bool
+is_shown scene h = h == scene.active || (h == 1 || h == 2)
+
+abbrev pub shown_panel : Scene → ℕ → Option Rect
+shown_panel scene h = if is_shown scene h then Some (panel_of scene) else None

@@ -1,0 +1,270 @@
+//! The places of the objects of a store.
+ghost use Rattle.std.specs.Prelude.{◌≡◌, ◌≤◌, ◌+ℤ◌, ◌-ℤ◌, pos, ℕ, [], false, None, IfOk, IfSome, option_map};
+ghost use Rattle.std.specs.Prelude.{vec_len, vec_capacity};
+ghost use Rattle.gui_base.specs.Area.{area_at, is_empty};
+ghost use Rattle.gui_base.specs.Bounded.{bounds_of};
+ghost use Rattle.gui_base.specs.Corners.{rect_of};
+ghost use Rattle.gui_base.specs.Forest.{preorder};
+ghost use Rattle.gui_tree.specs.Handles.{numbers};
+ghost use Rattle.layout_defs.specs.Reach.{IsNear, IsPlaced as IsPlaceNumber};
+ghost use Rattle.scene_defs.specs.Scene.{handles_of};
+ghost use Rattle.gui_store.specs.Views.{scene_of};
+ghost use Rattle.gui_layout.specs.Kept.{AreEntries};
+ghost use Rattle.scene_defs.specs.Visible.{some_area, met, visible};
+ghost use Rattle.gui_layout.specs.Reaches.{IsPlaced};
+ghost use Rattle.gui_layout.specs.Scenes.{HoldsBoxes, shown_panel};
+ghost use Rattle.gui_layout.specs.Listing.{HasThese};
+
+use crate::all::solve_trees;
+use crate::layout_box::LayoutBox;
+use crate::listing::{clear, fill, list_trees};
+use crate::objects::fill_boxes;
+use crate::position::{CORNER, Position};
+use crate::size::Size;
+use crate::tables::size_at;
+use gui_base::intervals::HANDLE;
+use gui_base::{Area, Flag, Handle, Limits, NoMemory};
+use gui_flex::FlexItem;
+use gui_pool::Table;
+use gui_store::Store;
+use std::alloc::Global;
+
+/// The layers that are shown above the active screen.
+const TOP_LAYER: Handle = Handle(1);
+
+const SYSTEM_LAYER: Handle = Handle(2);
+
+/// One more than the greatest handle.
+const HANDLES: u32 = HANDLE.high as u32 + 1;
+
+/// The places of the objects of a store that was opened with the same limits.
+///
+/// Natural sizes and places under one root depend on that root's tree alone.
+#[derive(Drop)]
+pub struct Places {
+    boxes: Table<LayoutBox>,
+    natural_widths: Table<Size>,
+    widths: Table<Size>,
+    natural_heights: Table<Size>,
+    positions: Table<Position>,
+    // The objects that have entries.
+    listed: Vec<Handle>,
+    // The children of one object that take part in its flow.
+    items: Vec<FlexItem>,
+    limits: Limits,
+    ghost kept: { AreEntries limits.objects (record {
+      boxes = boxes;
+      natural_widths = natural_widths;
+      widths = widths;
+      natural_heights = natural_heights;
+      positions = positions;
+    }) listed.items },
+    ghost list_room: { limits.objects ≤ vec_capacity listed },
+    ghost items_room: { limits.objects ≤ vec_capacity items },
+}
+
+/// A table with room for the entries of so many objects.
+fn open_table<T>(alloc: Global, objects: u32) -> Result<Table<T>, NoMemory>
+    ensures { IfOk result (λ table. HasThese objects table []) }
+{
+    match Table::open(alloc, HANDLES, objects) {
+        Ok(table) => Ok(table),
+        Err(_) => Err(NoMemory),
+    }
+}
+
+/// An empty list with room for so many.
+fn open_list<T>(alloc: Global, count: u32) -> Result<Vec<T>, NoMemory>
+    ensures empty { IfOk result (λ list. list.items ≡ []) }
+    ensures room { IfOk result (λ list. count ≤ vec_capacity list) }
+{
+    match Vec::with_capacity(alloc, count as usize) {
+        Ok(list) => Ok(list),
+        Err(_) => Err(NoMemory),
+    }
+}
+
+/// The area of an object that stands there and is so wide.
+fn area_of(position: &Position, width: u16) -> Area
+    requires { width ≤ 8191 }
+    ensures value { rect_of result ≡ area_at position.now.x position.now.y width position.now.height }
+    ensures near { IsNear (rect_of result) }
+{
+    Area {
+        x1: position.x,
+        y1: position.y,
+        x2: last(position.x, width),
+        y2: last(position.y, position.height),
+    }
+}
+
+/// The last coordinate of so many from the first.
+fn last(first: i32, count: u16) -> i32
+    requires first { IsPlaced first }
+    requires count { count ≤ 8191 }
+    ensures value { result ≡ (first +ℤ pos count) -ℤ pos 1 }
+    ensures fits { IsPlaceNumber result }
+{
+    first + i32::from(count) - 1
+}
+
+/// The pixels that both have, or None where there are none.
+fn met(clip: Option<Area>, place: Option<Area>) -> Option<Area>
+    ensures value { option_map rect_of result ≡ met (option_map rect_of clip) (option_map rect_of place) }
+    ensures pixels { IfSome result (λ area. is_empty (rect_of area) ≡ false) }
+{
+    let area = clip?.meet(place?);
+    if area.is_empty() { None } else { Some(area) }
+}
+
+/// The panel, where an object is a root that is shown.
+fn shown_panel(store: &Store, root: Handle) -> Option<Area>
+    ensures { option_map rect_of result ≡ shown_panel (scene_of store.now) root.0 }
+{
+    if root == store.active() || root == TOP_LAYER || root == SYSTEM_LAYER {
+        let limits = store.limits();
+        Some(Area::at(0, 0, limits.width, limits.height))
+    } else {
+        None
+    }
+}
+
+impl Places {
+    ghost use Rattle.gui_layout.specs.Solved.{limits_of, place_at, AreSolved};
+
+    /// No object has a place. It takes all the memory that solving will need, or answers NoMemory where there
+    /// is too little.
+    pub fn open(alloc: Global, limits: &Limits) -> Result<Places, NoMemory>
+        ensures limits { IfOk result (λ places. limits_of places ≡ bounds_of limits.now) }
+        ensures none { IfOk result (λ places. (h : ℕ) → place_at places h ≡ None) }
+    {
+        let objects = limits.objects;
+        let boxes = open_table(alloc, objects)?;
+        let natural_widths = open_table(alloc, objects)?;
+        let widths = open_table(alloc, objects)?;
+        let natural_heights = open_table(alloc, objects)?;
+        let positions = open_table(alloc, objects)?;
+        let listed = open_list(alloc, objects)?;
+        let items = open_list(alloc, objects)?;
+        Ok(Places {
+            boxes,
+            natural_widths,
+            widths,
+            natural_heights,
+            positions,
+            listed,
+            items,
+            limits: *limits,
+        })
+    }
+
+    /// Solves all places of a store anew.
+    pub fn solve_all(&mut self, store: &Store)
+        requires { limits_of self.old ≡ (scene_of store.now).limits }
+        ensures solved { AreSolved self.new (scene_of store.now) }
+        ensures limits { limits_of self.new ≡ limits_of self.old }
+    {
+        self.forget();
+        self.enter(store);
+        self.solve(store);
+    }
+
+    /// The place of an object, or None exactly where it was not there when the places were solved. It lies
+    /// within 1,000,000,000 pixels of the panel's corner.
+    pub fn place(&self, h: Handle) -> Option<Area>
+        ensures value { option_map rect_of result ≡ place_at self.now h.0 }
+        ensures near { IfSome result (λ area. IsNear (rect_of area)) }
+    {
+        match self.positions.get(h.0 as u32) {
+            Some(position) => Some(area_of(position, size_at(&self.widths, h))),
+            None => None,
+        }
+    }
+
+    /// What is seen of an object of a store for which the places were solved: its place met with those of all
+    /// above it and with the panel. It has no pixel where the object is not there, where it or one above it
+    /// is
+    /// hidden, and where its root is not shown.
+    pub fn visible(&self, store: &Store, h: Handle) -> Area
+        requires { AreSolved self.now (scene_of store.now) }
+        ensures { some_area (rect_of result) ≡ visible (scene_of store.now) h.0 }
+    {
+        match self.seen(store, h) {
+            Some(area) => area,
+            None => Area::default(),
+        }
+    }
+
+    /// What is seen of an object, or None where nothing is.
+    fn seen(&self, store: &Store, h: Handle) -> Option<Area>
+        requires { AreSolved self.now (scene_of store.now) }
+        ensures value { option_map rect_of result ≡ visible (scene_of store.now) h.0 }
+        ensures pixels { IfSome result (λ area. is_empty (rect_of area) ≡ false) }
+    {
+        let tree = store.tree();
+        let row = store.row(h)?;
+        if row.is_on(Flag::Hidden) {
+            return None;
+        }
+        match tree.parent(h) {
+            Some(parent) => met(self.seen(store, parent), self.place(h)),
+            None => met(shown_panel(store, h), self.place(h)),
+        }
+    }
+
+    /// Takes out the entries of all objects.
+    fn forget(&mut self)
+        ensures empty { self.new.listed.items ≡ [] }
+        ensures len { vec_len self.new.listed ≡ 0 }
+        ensures limits { limits_of self.new ≡ limits_of self.old }
+    {
+        let listed = self.listed.as_slice();
+        clear(&mut self.boxes, listed);
+        clear(&mut self.natural_widths, listed);
+        clear(&mut self.widths, listed);
+        clear(&mut self.natural_heights, listed);
+        clear(&mut self.positions, listed);
+        self.listed.clear();
+    }
+
+    /// Gives each object of a store an entry with its box.
+    fn enter(&mut self, store: &Store)
+        requires empty { self.old.listed.items ≡ [] }
+        requires len { vec_len self.old.listed ≡ 0 }
+        requires limits { limits_of self.old ≡ (scene_of store.now).limits }
+        ensures listed { numbers self.new.listed.items ≡ preorder (handles_of (scene_of store.now).trees) }
+        ensures boxes { HoldsBoxes self.new.boxes (scene_of store.now) }
+        ensures limits { limits_of self.new ≡ limits_of self.old }
+    {
+        let tree = store.tree();
+        list_trees(tree, &mut self.listed, tree.first_root());
+        let listed = self.listed.as_slice();
+        let none = Size { pixels: 0 };
+        fill_boxes(&mut self.boxes, listed, store);
+        fill(&mut self.natural_widths, listed, none);
+        fill(&mut self.widths, listed, none);
+        fill(&mut self.natural_heights, listed, none);
+        fill(&mut self.positions, listed, CORNER);
+    }
+
+    /// Solves the places of the objects of a store, each of which has an entry with its box.
+    fn solve(&mut self, store: &Store)
+        requires limits { limits_of self.old ≡ (scene_of store.now).limits }
+        requires listed { numbers self.old.listed.items ≡ preorder (handles_of (scene_of store.now).trees) }
+        requires boxes { HoldsBoxes self.old.boxes (scene_of store.now) }
+        ensures solved { AreSolved self.new (scene_of store.now) }
+        ensures limits { limits_of self.new ≡ limits_of self.old }
+    {
+        solve_trees(
+            store.tree(),
+            &self.boxes,
+            &mut self.natural_widths,
+            &mut self.widths,
+            &mut self.natural_heights,
+            &mut self.positions,
+            &mut self.items,
+            self.limits.width as u16,
+            self.limits.height as u16,
+        );
+    }
+}

@@ -1,0 +1,5 @@
+pub mod Agreement
+pub mod Owing
+pub mod Painting
+pub mod Progress
+pub mod Sums

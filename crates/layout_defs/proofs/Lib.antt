@@ -1,0 +1,9 @@
+pub mod Boxes
+pub mod Everywhere
+pub mod Near
+pub mod SameTracks
+pub mod Shares
+pub mod Small
+pub mod Solved
+pub mod Stands
+pub mod Tracks

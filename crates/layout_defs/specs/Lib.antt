@@ -1,0 +1,10 @@
+pub mod Boxes
+pub mod Examples
+pub mod Flex
+pub mod FlexLaws
+pub mod Laws
+pub mod MadeTrees
+pub mod Reach
+pub mod Sizes
+pub mod Solving
+pub mod Tables

@@ -1,0 +1,273 @@
+-- Where the boxes of a forest stand: natural widths upward, widths downward, natural heights upward, heights
+-- and places downward.
+use Rattle.std.specs.Prelude.{ℕ, ◌+◌, ◌/◌, max, Bool, ◌==◌, if◌then◌else◌, List, [], ◌∷◌, map, reverse}
+use Rattle.std.specs.Prelude.{ℤ, pos, negsuc, ◌+ℤ◌, ◌-ℤ◌}
+use Rattle.gui_base.specs.Area.{Rect, area_at, nat_of}
+use Rattle.gui_base.specs.Forest.{Forest, Empty, Tree, roots}
+use Rattle.gui_base.specs.declared.words.Length.{Length}
+use Rattle.gui_base.specs.declared.words.Length.TheVariants.{Pixels, Percent, Content}
+use Rattle.layout_defs.specs.Flex.{Item, Spot, greatest, spanned, tracks, thickness, shared, spots}
+use Rattle.layout_defs.specs.declared.Course.{Course}
+use Rattle.layout_defs.specs.declared.Course.TheVariants.{Free, Across, Down}
+use Rattle.layout_defs.specs.declared.Side.{Side}
+use Rattle.layout_defs.specs.declared.Side.TheVariants.{Near, Middle, Far}
+use Rattle.layout_defs.specs.Boxes.{Axis, Box, course_of, wraps, is_reversed, inset, inner, brought, size_in}
+
+-- Children that take part in their parent's sizes and in its flex.
+abbrev pub taking_part : {A : Type 0} → (A → Box) → List A → List A
+taking_part box [] = []
+taking_part box (kid ∷ kids) = if (box kid).hidden then taking_part box kids else kid ∷ taking_part box kids
+
+-- in the order of the flow
+abbrev pub in_order : {A : Type 0} → Bool → List A → List A
+in_order reversed xs = if reversed then reverse xs else xs
+
+-- the first to the first child that takes part, and so on; a hidden child has its own
+abbrev pub dealt : {A B : Type 0} → (A → Box) → (A → B) → List A → List B → List B
+dealt box own [] ys = []
+dealt box own (kid ∷ kids) [] = own kid ∷ dealt box own kids []
+dealt box own (kid ∷ kids) (y ∷ ys) =
+    if (box kid).hidden then own kid ∷ dealt box own kids (y ∷ ys) else y ∷ dealt box own kids ys
+
+-- a child's natural size in a sum along the flow
+abbrev pub flowing : Box → ℕ → ℕ
+flowing box natural = if box.grow == 0 then natural else 0
+
+-- how far a child reaches from its parent's near side, without flex
+abbrev pub reach : Side → ℤ → ℕ → ℕ
+reach Near wanted natural = nat_of (pos natural +ℤ wanted)
+reach Middle wanted natural = natural
+reach Far wanted natural = natural
+
+-- the natural size of an object that wants this size, with so much in border and pads and so much inside
+abbrev pub natural_size : Length → ℕ → ℕ → ℕ
+natural_size (Pixels n) inset inside = brought n
+natural_size (Percent n) inset inside = 0
+natural_size Content inset inside = brought (inset + inside)
+
+-- 1. Natural widths upward.
+pub record Wide : Type 0 where
+  pub box : Box
+  pub natural : ℕ
+
+abbrev pub wide_box : Wide → Box
+wide_box wide = wide.box
+
+-- how wide the children are that take part
+abbrev pub kids_width : Course → Box → List Wide → ℕ
+kids_width Free box kids =
+    greatest (map (λ (k : Wide). reach k.box.across.side k.box.across.wanted k.natural) kids)
+kids_width Across box kids = spanned box.across.gap (map (λ (k : Wide). flowing k.box k.natural) kids)
+kids_width Down box kids = greatest (map (λ (k : Wide). k.natural) kids)
+
+abbrev pub natural_width : Box → List Wide → ℕ
+natural_width box kids =
+    let inside = kids_width (course_of box.flow) box (taking_part wide_box kids) in
+    natural_size box.across.size (inset box.across) (max box.own_width inside)
+
+abbrev pub with_natural_widths : Forest Box → Forest Wide
+with_natural_widths Empty = Empty
+with_natural_widths (Tree box cs rest) =
+    let kids = with_natural_widths cs in
+    Tree (record { box = box; natural = natural_width box (roots kids) }) kids (with_natural_widths rest)
+
+-- 2. Widths downward.
+pub record Widened : Type 0 where
+  pub box : Box
+  pub width : ℕ
+
+abbrev pub widened_box : Widened → Box
+widened_box w = w.box
+
+-- the width of a child in a content area so wide, without flex
+abbrev pub width_in : ℕ → Wide → ℕ
+width_in room kid = size_in kid.box.across.size room kid.natural
+
+abbrev pub width_item : ℕ → Wide → Item
+width_item room kid = record { main = width_in room kid; cross = 0; grow = kid.box.grow }
+
+abbrev pub main_sizes : List Item → List ℕ
+main_sizes items = map (λ (item : Item). brought item.main) items
+
+-- the widths of the children of a row that take part, with its shares
+abbrev pub row_widths : Box → ℕ → List Wide → List ℕ
+row_widths box room kids =
+    let back = is_reversed box.flow in
+    let items = in_order back (map (width_item room) (taking_part wide_box kids)) in
+    in_order back (main_sizes (shared (wraps box.flow) room box.across.gap items))
+
+abbrev pub kid_widths_by : Course → Box → ℕ → List Wide → List ℕ
+kid_widths_by Free box room kids = map (width_in room) kids
+kid_widths_by Across box room kids = dealt wide_box (width_in room) kids (row_widths box room kids)
+kid_widths_by Down box room kids = map (width_in room) kids
+
+-- the widths of the children of an object that is so wide
+abbrev pub kid_widths : Box → ℕ → List Wide → List ℕ
+kid_widths box width kids = kid_widths_by (course_of box.flow) box (inner box.across width) kids
+
+-- the trees, whose roots get these widths
+abbrev pub with_widths : List ℕ → Forest Wide → Forest Widened
+with_widths ws Empty = Empty
+with_widths [] (Tree wide cs rest) =
+    Tree (record { box = wide.box; width = 0 }) (with_widths [] cs) (with_widths [] rest)
+with_widths (w ∷ ws) (Tree wide cs rest) =
+    Tree (record { box = wide.box; width = w }) (with_widths (kid_widths wide.box w (roots cs)) cs)
+    (with_widths ws rest)
+
+-- 3. Natural heights upward.
+pub record Tall : Type 0 where
+  pub box : Box
+  pub width : ℕ
+  pub natural_height : ℕ
+
+abbrev pub tall_box : Tall → Box
+tall_box tall = tall.box
+
+abbrev pub height_item : Tall → Item
+height_item kid = record { main = kid.width; cross = kid.natural_height; grow = kid.box.grow }
+
+-- how high the children are that take part, in a content area so wide; a row is as high as its tracks
+abbrev pub kids_height : Course → Box → ℕ → List Tall → ℕ
+kids_height Free box room kids =
+    greatest (map (λ (k : Tall). reach k.box.down.side k.box.down.wanted k.natural_height) kids)
+kids_height Across box room kids =
+    let items = in_order (is_reversed box.flow) (map height_item kids) in
+    spanned box.down.gap (map thickness (tracks (wraps box.flow) room box.across.gap items))
+kids_height Down box room kids =
+    spanned box.down.gap (map (λ (k : Tall). flowing k.box k.natural_height) kids)
+
+abbrev pub natural_height : Box → ℕ → List Tall → ℕ
+natural_height box width kids =
+    let room = inner box.across width in
+    let inside = kids_height (course_of box.flow) box room (taking_part tall_box kids) in
+    natural_size box.down.size (inset box.down) (max (box.own_height room) inside)
+
+abbrev pub with_natural_heights : Forest Widened → Forest Tall
+with_natural_heights Empty = Empty
+with_natural_heights (Tree w cs rest) =
+    let kids = with_natural_heights cs in
+    let natural = natural_height w.box w.width (roots kids) in
+    Tree (record { box = w.box; width = w.width; natural_height = natural }) kids (with_natural_heights rest)
+
+-- 4. Heights and places downward.
+-- an object's top left corner and its height
+pub record Slot : Type 0 where
+  pub x : ℤ
+  pub y : ℤ
+  pub height : ℕ
+
+pub record Placed : Type 0 where
+  pub tall : Tall
+  pub slot : Slot
+
+-- half of a number, rounded down
+abbrev pub half : ℤ → ℤ
+half (pos n) = pos (n / 2)
+half (negsuc n) = negsuc (n / 2)
+
+-- where its side puts an object that is so large in a content area
+abbrev pub side_at : Side → ℕ → ℕ → ℤ
+side_at Near room size = pos 0
+side_at Middle room size = half (pos room -ℤ pos size)
+side_at Far room size = pos room -ℤ pos size
+
+-- where an object stands in a content area, without flex
+abbrev pub aligned_at : Axis → ℕ → ℕ → ℤ
+aligned_at axis room size = side_at axis.side room size +ℤ axis.wanted
+
+-- a content area: its corner and its sizes
+pub record Room : Type 0 where
+  pub x : ℤ
+  pub y : ℤ
+  pub width : ℕ
+  pub height : ℕ
+
+abbrev pub room_of : Tall → Slot → Room
+room_of tall slot = record {
+  x = slot.x +ℤ pos tall.box.across.before;
+  y = slot.y +ℤ pos tall.box.down.before;
+  width = inner tall.box.across tall.width;
+  height = inner tall.box.down slot.height;
+}
+
+-- the height of a child in a content area so high, without flex
+abbrev pub height_in : ℕ → Tall → ℕ
+height_in room kid = size_in kid.box.down.size room kid.natural_height
+
+-- a child's slot without flex
+abbrev pub own_slot : Room → Tall → Slot
+own_slot room kid =
+    let height = height_in room.height kid in
+    record {
+      x = room.x +ℤ aligned_at kid.box.across room.width kid.width;
+      y = room.y +ℤ aligned_at kid.box.down room.height height;
+      height = height;
+    }
+
+-- the slots of the items of a row, and of a column
+abbrev pub row_slot : Room → Item → Spot → Slot
+row_slot room item spot =
+    record { x = room.x +ℤ spot.main_at; y = room.y +ℤ spot.cross_at; height = item.cross }
+
+abbrev pub column_slot : Room → Item → Spot → Slot
+column_slot room item spot =
+    record { x = room.x +ℤ spot.cross_at; y = room.y +ℤ spot.main_at; height = item.main }
+
+-- f of each two that stand at the same number
+abbrev pub paired : {A B C : Type 0} → (A → B → C) → List A → List B → List C
+paired f [] ys = []
+paired f (x ∷ xs) [] = []
+paired f (x ∷ xs) (y ∷ ys) = f x y ∷ paired f xs ys
+
+abbrev pub row_item : ℕ → Tall → Item
+row_item room kid = record { main = kid.width; cross = height_in room kid; grow = kid.box.grow }
+
+abbrev pub column_item : ℕ → Tall → Item
+column_item room kid = record { main = height_in room kid; cross = kid.width; grow = kid.box.grow }
+
+-- the slots of the children that take part in a flow, in its order
+abbrev pub ordered_slots : Course → Box → Room → List Tall → List Slot
+ordered_slots Free box room kids = []
+ordered_slots Across box room kids =
+    let items = map (row_item room.height) kids in
+    let at = spots box.places (wraps box.flow) room.width room.height box.across.gap box.down.gap items in
+    paired (row_slot room) items at
+ordered_slots Down box room kids =
+    let items = shared (wraps box.flow) room.height box.down.gap (map (column_item room.height) kids) in
+    let at = spots box.places (wraps box.flow) room.height room.width box.down.gap box.across.gap items in
+    paired (column_slot room) items at
+
+-- and in the order of the children
+abbrev pub flow_slots : Box → Room → List Tall → List Slot
+flow_slots box room kids =
+    let back = is_reversed box.flow in
+    in_order back (ordered_slots (course_of box.flow) box room (in_order back kids))
+
+-- the slots of the children of an object in its slot
+abbrev pub kid_slots : Tall → Slot → List Tall → List Slot
+kid_slots tall slot kids =
+    let room = room_of tall slot in
+    dealt tall_box (own_slot room) kids (flow_slots tall.box room (taking_part tall_box kids))
+
+abbrev pub nowhere : Slot
+nowhere = record { x = pos 0; y = pos 0; height = 0 }
+
+-- the trees, whose roots get these slots
+abbrev pub with_slots : List Slot → Forest Tall → Forest Placed
+with_slots slots Empty = Empty
+with_slots [] (Tree tall cs rest) =
+    Tree (record { tall = tall; slot = nowhere }) (with_slots [] cs) (with_slots [] rest)
+with_slots (slot ∷ slots) (Tree tall cs rest) =
+    Tree (record { tall = tall; slot = slot }) (with_slots (kid_slots tall slot (roots cs)) cs)
+    (with_slots slots rest)
+
+-- where an object stands
+abbrev pub place_of : Placed → Rect
+place_of p = area_at p.slot.x p.slot.y p.tall.width p.slot.height
+
+-- All four: the roots fill a panel of these sizes.
+abbrev pub solved : ℕ → ℕ → Forest Box → Forest Placed
+solved width height trees =
+    let wide = with_natural_widths trees in
+    let tall = with_natural_heights (with_widths (map (λ _. width) (roots wide)) wide) in
+    with_slots (map (λ _. record { x = pos 0; y = pos 0; height = height }) (roots tall)) tall

@@ -1,0 +1,67 @@
+//! What follows from the definitions. Each function does nothing: its contract is a law, which is proved.
+ghost use Rattle.layout_defs.specs.Examples.{PlacesAreWorked};
+ghost use Rattle.layout_defs.specs.FlexLaws.{ItemsKeepOrder, TracksHoldItems, OneTrack};
+ghost use Rattle.layout_defs.specs.FlexLaws.{TracksFit, TracksAreFull};
+ghost use Rattle.layout_defs.specs.FlexLaws.{SharesFillTracks, NothingShared, SharesKeepTracks};
+ghost use Rattle.layout_defs.specs.FlexLaws.{NeighboursApart, ItemsApart, TracksApart};
+ghost use Rattle.layout_defs.specs.FlexLaws.{LinesFit, ItemsInTracks};
+ghost use Rattle.layout_defs.specs.Laws.{SolvedKeepsBoxes, SolvedApart, SolvedByRoot};
+ghost use Rattle.layout_defs.specs.MadeTrees.{MadeTreesAreSolved};
+ghost use Rattle.layout_defs.specs.Reach.{NaturalWidthsAreSizes, SolvedAreSizes, PlacesAreNear};
+
+/// Each item of a container stands in exactly one track, and keeps its order. No track is empty, and without
+/// wrap there is one.
+pub fn items_keep_their_order()
+    ensures order { ItemsKeepOrder }
+    ensures some { TracksHoldItems }
+    ensures one { OneTrack }
+{}
+
+/// With wrap a track takes each next item that fits, and no other.
+pub fn tracks_are_filled_in_order()
+    ensures fit { TracksFit }
+    ensures full { TracksAreFull }
+{}
+
+/// Where an item grows, the shares and the other sizes fill the track, if those fit. Where none grows, all
+/// keep their sizes. What is shared stands in the same tracks as before.
+pub fn shares_fill_tracks()
+    ensures filled { SharesFillTracks }
+    ensures none { NothingShared }
+    ensures same { SharesKeepTracks }
+{}
+
+/// No two neighbours overlap, neither items of one track nor tracks, and what fits stands within the
+/// container. Across the flow each item stands within its track.
+pub fn neighbours_do_not_overlap()
+    ensures apart { NeighboursApart }
+    ensures items { ItemsApart }
+    ensures tracks { TracksApart }
+    ensures fit { LinesFit }
+    ensures inside { ItemsInTracks }
+{}
+
+/// Solving keeps the trees and their boxes, and each size that it finds lies between 0 and 8191.
+pub fn solved_sizes_are_small()
+    ensures boxes { SolvedKeepsBoxes }
+    ensures naturals { NaturalWidthsAreSizes }
+    ensures sizes { SolvedAreSizes }
+{}
+
+/// Each number of a place lies within 1,000,000,000 pixels of the panel's corner.
+pub fn places_are_near()
+    ensures { PlacesAreNear }
+{}
+
+/// Trees are solved one by one: what lies at a root and below it comes from its tree alone.
+pub fn solved_apart()
+    ensures trees { SolvedApart }
+    ensures roots { SolvedByRoot }
+{}
+
+/// Places that were worked out by hand, and places in trees made at random, as another implementation of the
+/// same rules finds them.
+pub fn worked_examples()
+    ensures by_hand { PlacesAreWorked }
+    ensures made { MadeTreesAreSolved }
+{}

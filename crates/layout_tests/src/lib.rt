@@ -1,0 +1,7 @@
+//! Tests over the public calls of layout.
+#![tactic(auto)]
+
+#[cfg(test)]
+mod flex;
+#[cfg(test)]
+mod places;

@@ -1,0 +1,18 @@
+use Rattle.std.proofs.Common.{◌∙◌, sym, refl, arith, length, map}
+use Rattle.gui_font.specs.Stores.{image_in}
+use Rattle.gui_font.proofs.Storing.{member_inside, size_is}
+use Rattle.gui_font.proofs.images.Images.size.Goals as goal
+
+pub returns-then-is_whole : goal.returns-then-is_whole
+returns-then-is_whole c =
+    let i = c.self.inside in
+    let s = c.in_ok-slot.slot in
+    let inside = member_inside i.slots.items (length i.bytes.items) s c.self.invariant.laid (rw c.as_slice.ensures.value at c.in_ok-slot.ensures.member) in
+    rw (← c.self.view_is) (sym (size_is (map (image_in i.bytes.items) i.slots.items) i.bytes.items c.args.id s (rw c.as_slice.ensures.value at (c.in_ok-slot.ensures.image i.bytes.items)) (omega arith) ∙ rw (sym c.is_whole.ensures ∙ c.if-is_whole.true) refl))
+
+pub returns-else-is_whole : goal.returns-else-is_whole
+returns-else-is_whole c =
+    let i = c.self.inside in
+    let s = c.in_ok-slot.slot in
+    let inside = member_inside i.slots.items (length i.bytes.items) s c.self.invariant.laid (rw c.as_slice.ensures.value at c.in_ok-slot.ensures.member) in
+    rw (← c.self.view_is) (sym (size_is (map (image_in i.bytes.items) i.slots.items) i.bytes.items c.args.id s (rw c.as_slice.ensures.value at (c.in_ok-slot.ensures.image i.bytes.items)) (omega arith) ∙ rw (sym c.is_whole.ensures ∙ c.if-is_whole.false) refl))

@@ -1,0 +1,11 @@
+pub mod Bits
+pub mod Building
+pub mod BuiltIn
+pub mod Examples
+pub mod Face
+pub mod Fonts
+pub mod Images
+pub mod Ink
+pub mod Laws
+pub mod Lines
+pub mod Reference

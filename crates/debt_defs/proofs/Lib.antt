@@ -1,0 +1,14 @@
+pub mod Concerned
+pub mod Free
+pub mod Inside
+pub mod Kept
+pub mod Looks
+pub mod Moved
+pub mod Orders
+pub mod Paths
+pub mod Roots
+pub mod SameRows
+pub mod SameTrees
+pub mod Samenesses
+pub mod Scenes
+pub mod Wins

@@ -1,0 +1,139 @@
+-- The laws of scenes and their debts.
+use Rattle.std.proofs.Common.{◌≡◌, ◌⊎◌, ◌∙◌, sym, ap, ℕ, Bool, true, false, ◌++◌, Option, Some, None, is_some, List, [], ◌∷◌, map, refl, inl, inr, ℤ}
+use Rattle.std.specs.Prelude.{if◌then◌else◌, pos}
+use Rattle.std.specs.List.{list_all, filter, flat_map, fold}
+use Rattle.std.proofs.lemmas.Bool.{cases_Bool, and_from, and_cases, not-false, false≢true}
+use Rattle.std.proofs.lemmas.Grind.{fold-append}
+use Rattle.std.proofs.lemmas.List.Folds.{fold-map, list_all-append}
+use Rattle.gui_base.specs.declared.color.Rgb565.{Rgb565}
+use Rattle.gui_base.specs.declared.refusal.Refusal.{Refusal}
+use Rattle.gui_base.specs.Area.{Rect, area_at, has, is_within}
+use Rattle.gui_base.specs.Color.{black}
+use Rattle.gui_base.specs.Limits.{Bounds}
+use Rattle.scene_defs.specs.Scene.{Scene}
+use Rattle.scene_defs.specs.Change.{answer_of, scene_after, scene_by}
+use Rattle.scene_defs.specs.Place.{panel_of, place}
+use Rattle.scene_defs.specs.Visible.{holds, visible, shown_trees}
+use Rattle.scene_defs.specs.Items.{Item, items}
+use Rattle.scene_defs.specs.Shown.{Seen, seen, order}
+use Rattle.scene_defs.specs.Picture.{paint_seen, paint}
+use Rattle.scene_defs.specs.Valid.{IsValid}
+use Rattle.scene_defs.specs.Walk.{IsShowable}
+use Rattle.scene_defs.proofs.Changes.{after_keeps}
+use Rattle.scene_defs.proofs.Validity.{change_keeps_valid, valid_is_showable}
+use Rattle.debt_defs.specs.Look.{laid_by, over}
+use Rattle.debt_defs.specs.Same.{same_visible, same_item}
+use Rattle.debt_defs.specs.Debt.{listed, owed_by, touched}
+use Rattle.debt_defs.specs.Named.{named}
+use Rattle.debt_defs.specs.Scenes.{dab_of, look_of, debt_by}
+use Rattle.debt_defs.specs.Frame.{covered, IsInside, KeepsOrder}
+use Rattle.debt_defs.specs.Orders.{is_shown, is_part_of, remains, KeepOrder}
+use Rattle.debt_defs.specs.Laws.{FrameOfScenes, PaintedByLook, RefusedOwesNothing, DebtWithinPanel}
+use Rattle.debt_defs.proofs.Samenesses.{items-lay}
+use Rattle.debt_defs.proofs.Looks.{frame_of_looks}
+use Rattle.debt_defs.proofs.Inside.{fits, visible_fits, visible-none, seen_inside_above, scene_is_look}
+use Rattle.debt_defs.proofs.Kept.{others_keep_order}
+
+-- The paint of a scene is that of its look.
+abbrev is_seen : Seen → Bool
+is_seen s = is_some s.visible
+
+module _ (x y : ℤ) where
+  one-painted : (v : Option Rect) (shown : List Item) (h : ℕ) (c : Rgb565) (more : List Seen) →
+      fold (paint_seen x y) c (filter is_seen (record { handle = h; visible = v; items = shown } ∷ more))
+      ≡ fold (paint_seen x y) (fold over c (if holds v x y then map (dab_of x y) shown else [])) (filter is_seen more)
+  one-painted None shown h c more = refl
+  one-painted (Some area) shown h c more = elim (cases_Bool (has area x y)) [
+    | inl inside ↦ rw inside (ap (λ d. fold (paint_seen x y) d (filter is_seen more)) (sym (fold-map over (dab_of x y) c shown)))
+    | inr outside ↦ rw outside refl
+  ]
+
+  painted : (scene : Scene) (ks : List ℕ) (c : Rgb565) → fold (paint_seen x y) c (filter is_seen (map (seen scene) ks)) ≡ fold over c (flat_map (laid_by (look_of scene) x y) ks)
+  painted scene [] c = refl
+  painted scene (k ∷ ks) c =
+      let laid = laid_by (look_of scene) x y in
+      one-painted (visible scene k) (items scene k) k c (map (seen scene) ks)
+      ∙ painted scene ks (fold over c (laid k))
+      ∙ sym (fold-append over c (laid k) (flat_map laid ks))
+
+pub painted_by_look : PaintedByLook
+painted_by_look scene x y = painted x y scene (order scene) black
+
+-- What does not remain is seen only inside the named object.
+part-inside : (scene : Scene) (n : Option ℕ) (k : ℕ) → IsShowable scene → is_part_of scene n k ≡ true → IsInside (look_of scene) n k
+part-inside scene None k showable part = absurd (false≢true part)
+part-inside scene (Some h) k showable part = seen_inside_above scene h k showable part
+
+unseen-inside : (scene : Scene) (n : Option ℕ) (k : ℕ) → is_shown scene k ≡ false → IsInside (look_of scene) n k
+unseen-inside scene n k out x y i =
+    let none = visible-none (place scene) (Some (panel_of scene)) (shown_trees scene) k out in
+    absurd (false≢true (ap (λ v. holds v x y) (sym none) ∙ i))
+
+others-inside : (n : Option ℕ) (before after : Scene) (k : ℕ) → IsShowable before → IsShowable after → remains n before after k ≡ false →
+    IsInside (look_of before) n k ⊎ IsInside (look_of after) n k
+others-inside n before after k b a off = elim (and_cases _ _ off) [
+  | inl unshown ↦ elim (and_cases _ _ unshown) [
+    | inl out ↦ inl (unseen-inside before n k out)
+    | inr out ↦ inr (unseen-inside after n k out)
+  ]
+  | inr parts ↦ elim (and_cases _ _ parts) [
+    | inl part ↦ inl (part-inside before n k b (not-false _ part))
+    | inr part ↦ inr (part-inside after n k a (not-false _ part))
+  ]
+]
+
+pub frame_of_scenes : FrameOfScenes
+frame_of_scenes scene change x y v c free =
+    by (answer_of scene change) (change_keeps_valid scene change v c) (others_keep_order scene change v c) free
+  where
+    by : (answer : Option Refusal) → IsValid (scene_by answer scene change) → KeepOrder (named change) scene (scene_by answer scene change) →
+        covered (debt_by answer scene change) x y ≡ false → paint (scene_by answer scene change) x y ≡ paint scene x y
+    by (Some refusal) w keeps out = refl
+    by None w keeps out =
+        let after = scene_after scene change in
+        let n = named change in
+        let kept : KeepsOrder n (look_of scene) (look_of after) (remains n scene after) =
+        record { order = keeps; others = λ k off. others-inside n scene after k (valid_is_showable scene v) (valid_is_showable after w) off } in
+        let laid = frame_of_looks same_item n (look_of scene) (look_of after) (remains n scene after) x y (scene_is_look scene) (scene_is_look after)
+        (λ k x y same. items-lay (items scene k) (items after k) x y same) kept out in
+        painted_by_look after x y ∙ ap (fold over black) laid ∙ sym (painted_by_look scene x y)
+
+-- What debts are.
+pub refused_owes_nothing : RefusedOwesNothing
+refused_owes_nothing scene change refused = by (answer_of scene change) refused where
+  by : (answer : Option Refusal) → is_some answer ≡ true → debt_by answer scene change ≡ []
+  by None e = absurd (false≢true e)
+  by (Some refusal) e = refl
+
+all-flat : {A B : Type 0} (p : B → Bool) (f : A → List B) → ((a : A) → list_all p (f a) ≡ true) → (as' : List A) → list_all p (flat_map f as') ≡ true
+all-flat p f each [] = refl
+all-flat p f each (a ∷ as') = list_all-append p (f a) (flat_map f as') ∙ and_from _ _ (each a) (all-flat p f each as')
+
+listed-within : (panel : Rect) (v : Option Rect) → fits panel v ≡ true → list_all (is_within panel) (listed v) ≡ true
+listed-within panel None fit = refl
+listed-within panel (Some area) fit = rw fit refl
+
+owed-within : (panel : Rect) (old new : Option Rect) → fits panel old ≡ true → fits panel new ≡ true →
+    list_all (is_within panel) (listed old ++ (if same_visible old new then [] else listed new)) ≡ true
+owed-within panel old new o n =
+    list_all-append (is_within panel) (listed old) (if same_visible old new then [] else listed new)
+    ∙ and_from _ _ (listed-within panel old o) (elim (cases_Bool (same_visible old new)) [
+      | inl same ↦ rw same refl
+      | inr other ↦ rw other (listed-within panel new n)
+    ])
+
+abbrev panel_by : Bounds → Rect
+panel_by limits = area_at (pos 0) (pos 0) limits.width limits.height
+
+pub debt_within_panel : DebtWithinPanel
+debt_within_panel scene change = by (answer_of scene change) where
+  by : (answer : Option Refusal) → list_all (is_within (panel_of scene)) (debt_by answer scene change) ≡ true
+  by (Some refusal) = refl
+  by None =
+      let after = scene_after scene change in
+      let old = look_of scene in
+      let new = look_of after in
+      let panel : panel_of after ≡ panel_of scene = ap panel_by (after_keeps scene change) in
+      all-flat (is_within (panel_of scene)) (owed_by old new)
+      (λ k. owed-within (panel_of scene) (visible scene k) (visible after k) (visible_fits scene k) (ap (λ p. fits p (visible after k)) (sym panel) ∙ visible_fits after k))
+      (touched same_item (named change) old new)

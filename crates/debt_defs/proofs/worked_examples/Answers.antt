@@ -1,0 +1,37 @@
+use Rattle.std.proofs.Common.{refl}
+use Rattle.gui_base.specs.Bits.{has_bit, with_bit}
+use Rattle.scene_defs.specs.Place.{place}
+use Rattle.debt_defs.proofs.worked_examples.Goals as goal
+
+pub returns : goal.returns
+unfolding place has_bit with_bit
+returns c = record {
+  debts = record {
+    moved = refl;
+    coloured = refl;
+    coloured_again = refl;
+    moved_along = refl;
+    both_touched = refl;
+    forty_in_four = refl;
+    to_front = refl;
+    to_front_again = refl;
+    followed = refl;
+    both_users = refl;
+    hidden = refl;
+    deleted = refl;
+    made = refl;
+    loaded = refl;
+    unseen = refl;
+    refused = refl;
+  };
+  concerned = record {
+    place = refl;
+    fill = refl;
+    text = refl;
+    state = refl;
+    style = refl;
+    order = refl;
+    parents = refl;
+    load = refl;
+  };
+}

@@ -1,0 +1,105 @@
+-- What a change concerns: the objects that may differ after it.
+use Rattle.std.specs.Prelude.{◌≡◌, ℕ, Bool, false, ◌||◌, ◌==◌, if◌then◌else◌, List, [], ◌∷◌, map}
+use Rattle.std.specs.List.{list_any}
+use Rattle.gui_base.specs.Forest.{children_by, roots}
+use Rattle.gui_base.specs.Props.{inherits}
+use Rattle.gui_base.specs.declared.words.Part.{Part}
+use Rattle.gui_base.specs.declared.props.Prop.{Prop}
+use Rattle.style_defs.specs.declared.Setting.{Setting}
+use Rattle.style_defs.specs.declared.Use.{Use}
+use Rattle.style_defs.specs.Cascade.{settings_of}
+use Rattle.style_defs.specs.Book.{Book, uses_of}
+use Rattle.scene_defs.specs.declared.Change.{Change}
+use Rattle.scene_defs.specs.declared.Change.TheVariants as change
+use Rattle.scene_defs.specs.Scene.{Object, Scene, handle_of, is_at, row_at, path_at, value}
+use Rattle.scene_defs.specs.Change.{changed}
+use Rattle.scene_defs.specs.Valid.{IsValid, IsChange}
+use Rattle.debt_defs.specs.Look.{is_among}
+
+-- the handles of the children of h
+abbrev pub children : Scene → ℕ → List ℕ
+children scene h = map handle_of (roots (children_by (is_at h) scene.trees))
+
+-- the first alone
+abbrev pub nearest : List Object → List Object
+nearest [] = []
+nearest (object ∷ above) = object ∷ []
+
+-- the objects that are asked for a value of the first: it alone, or all where the value is inherited
+abbrev pub asked : Bool → List Object → List Object
+asked inherited path = if inherited then path else nearest path
+
+-- whether a value of k is asked of h
+abbrev pub asks : Scene → Bool → ℕ → ℕ → Bool
+asks scene inherited h k = list_any (is_at h) (asked inherited (path_at scene k))
+
+-- whether k is h or lies below it
+abbrev pub lies_in : Scene → ℕ → ℕ → Bool
+lies_in scene h k = list_any (is_at h) (path_at scene k)
+
+abbrev pub is_of_style : ℕ → Use → Bool
+is_of_style number u = u.style == number
+
+-- whether an object uses a style
+abbrev pub uses_style : Book → ℕ → Object → Bool
+uses_style book number object = list_any (is_of_style number) (uses_of book object.handle)
+
+-- whether a value of k is asked of an object that uses a style
+abbrev pub asks_user : Scene → Bool → ℕ → ℕ → Bool
+asks_user scene inherited number k =
+    list_any (uses_style scene.book number) (asked inherited (path_at scene k))
+
+abbrev pub is_inherited : Setting → Bool
+is_inherited setting = inherits setting.prop
+
+-- whether a style sets a property that is inherited
+abbrev pub sets_inherited : Book → ℕ → Bool
+sets_inherited book number = list_any is_inherited (settings_of book.styles number)
+
+-- whether the tree at h goes away from k or from above it
+abbrev pub loses : Scene → ℕ → ℕ → Bool
+loses scene h k = lies_in scene h k || is_among (children scene k) h
+
+-- whether k is h or the parent of h
+abbrev pub holds_place : Scene → ℕ → ℕ → Bool
+holds_place scene h k = k == h || is_among (children scene k) h
+
+-- Whether a change of a scene concerns k. A setter concerns its object. A state, or what sets a property that
+-- is inherited, concerns all below it too, and a shared style all its users. A tree that goes away from its
+-- parent concerns both parents and all of the tree; among its siblings it concerns itself and the parent.
+abbrev pub concerns : Scene → Change → ℕ → Bool
+concerns scene (change.Screen n) k = k == n.0
+concerns scene (change.New n p kind) k = k == n.0 || k == p.0
+concerns scene (change.Delete h) k = loses scene h.0 k
+concerns scene (change.Parent h p) k = loses scene h.0 k || k == p.0
+concerns scene (change.Index h n) k = holds_place scene h.0 k
+concerns scene (change.Front h) k = holds_place scene h.0 k
+concerns scene (change.Back h) k = holds_place scene h.0 k
+concerns scene (change.Load h) k = k == h.0
+concerns scene (change.Flag h flag on) k = k == h.0
+concerns scene (change.Pos h x y) k = k == h.0
+concerns scene (change.Align h align x y) k = k == h.0
+concerns scene (change.Size h width height) k = k == h.0
+concerns scene (change.Flex h flow) k = k == h.0
+concerns scene (change.Places h main cross track) k = k == h.0
+concerns scene (change.Grow h n) k = k == h.0
+concerns scene (change.State h state on) k = k == h.0 || lies_in scene h.0 k
+concerns scene (change.Style s) k = false
+concerns scene (change.Set s prop value) k = asks_user scene (inherits prop) s k
+concerns scene (change.Unset s prop) k = asks_user scene (inherits prop) s k
+concerns scene (change.Use h s selector) k = asks scene (sets_inherited scene.book s) h.0 k
+concerns scene (change.Unuse h s selector) k = asks scene (sets_inherited scene.book s) h.0 k
+concerns scene (change.Local h selector prop value) k = asks scene (inherits prop) h.0 k
+concerns scene (change.Unlocal h selector prop) k = asks scene (inherits prop) h.0 k
+
+-- h is the same in both scenes: its row, its children, and all its values
+pub record IsSame (before after : Scene) (h : ℕ) : Type 0 where
+  pub row : row_at after h ≡ row_at before h
+  pub children : children after h ≡ children before h
+  pub values : (part : Part) (prop : Prop) → value after h part prop ≡ value before h part prop
+
+-- what a change does not concern is the same after it
+abbrev pub OthersAreSame : Type 0
+OthersAreSame =
+    (scene : Scene) (change : Change) (k : ℕ) → IsValid scene → IsChange change →
+    concerns scene change k ≡ false → IsSame scene (changed scene change) k

@@ -1,0 +1,11 @@
+pub mod Concerns
+pub mod Debt
+pub mod Examples
+pub mod Frame
+pub mod Laws
+pub mod Look
+pub mod Named
+pub mod Orders
+pub mod Same
+pub mod Scenes
+pub mod TooLittle

@@ -1,0 +1,42 @@
+-- What is seen of a scene, as far as frames are concerned, whatever its objects are.
+use Rattle.std.specs.Prelude.{◌≡◌, ℕ, Bool, false, ◌==◌, if◌then◌else◌, List, [], None, fold, ℤ}
+use Rattle.std.specs.declared.option.Option.{Option}
+use Rattle.std.specs.List.{list_any, flat_map}
+use Rattle.gui_base.specs.declared.color.Rgb565.{Rgb565}
+use Rattle.gui_base.specs.Area.{Rect}
+use Rattle.gui_base.specs.Coats.{Dab, laid}
+use Rattle.gui_base.specs.Color.{black}
+use Rattle.scene_defs.specs.Visible.{holds}
+
+-- the look of a scene whose objects show items of this type
+pub record Look (I : Type 0) : Type 0 where
+  -- the handles of what is shown, in paint order
+  pub order : List ℕ
+  -- where each object is seen, if something is seen of it
+  pub visible : ℕ → Option Rect
+  pub items : ℕ → List I
+  -- what the items of an object lay on a pixel, the lowest first
+  pub lays : ℕ → ℤ → ℤ → List (Option Dab)
+
+-- whether a handle is one of these
+abbrev pub is_among : List ℕ → ℕ → Bool
+is_among handles h = list_any (λ k. k == h) handles
+
+-- nothing is seen of what is not shown
+abbrev pub IsLook : {I : Type 0} → Look I → Type 0
+IsLook look = (h : ℕ) → is_among look.order h ≡ false → look.visible h ≡ None
+
+-- what an object lays on a pixel, where it is seen
+abbrev pub laid_by : {I : Type 0} → Look I → ℤ → ℤ → ℕ → List (Option Dab)
+laid_by look x y h = if holds (look.visible h) x y then look.lays h x y else []
+
+-- all that is laid on a pixel, back to front
+abbrev pub layers : {I : Type 0} → Look I → ℤ → ℤ → List (Option Dab)
+layers look x y = flat_map (laid_by look x y) look.order
+
+abbrev pub over : Rgb565 → Option Dab → Rgb565
+over under dab = laid dab under
+
+-- the colour of a pixel, over black
+abbrev pub color_at : {I : Type 0} → Look I → ℤ → ℤ → Rgb565
+color_at look x y = fold over black (layers look x y)

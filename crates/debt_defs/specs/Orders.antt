@@ -1,0 +1,60 @@
+-- What keeps its order in a change.
+use Rattle.std.specs.Prelude.{◌≡◌, ℕ, Bool, true, false, not, ◌&&◌, ◌||◌, Some, None, is_some, ℤ}
+use Rattle.std.specs.declared.option.Option.{Option}
+use Rattle.std.specs.List.{filter}
+use Rattle.gui_base.specs.Forest.{has_by, tree_by}
+use Rattle.scene_defs.specs.declared.Change.{Change}
+use Rattle.scene_defs.specs.Scene.{Scene, is_at}
+use Rattle.scene_defs.specs.Row.{row_set}
+use Rattle.scene_defs.specs.Styling.{styling_of}
+use Rattle.scene_defs.specs.Change.{changed}
+use Rattle.scene_defs.specs.Visible.{shown_trees, visible, holds}
+use Rattle.scene_defs.specs.Shown.{order}
+use Rattle.scene_defs.specs.Valid.{IsValid, IsChange}
+use Rattle.scene_defs.specs.Walk.{IsShowable}
+use Rattle.debt_defs.specs.Named.{named}
+
+-- whether h stands in a tree that is shown
+abbrev pub is_shown : Scene → ℕ → Bool
+is_shown scene h = has_by (is_at h) (shown_trees scene)
+
+-- whether k is h or lies below it, where h is shown
+abbrev pub is_part : Scene → ℕ → ℕ → Bool
+is_part scene h k = has_by (is_at k) (tree_by (is_at h) (shown_trees scene))
+
+-- the same for what a change names, if it names something
+abbrev pub is_part_of : Scene → Option ℕ → ℕ → Bool
+is_part_of scene None k = false
+is_part_of scene (Some h) k = is_part scene h k
+
+-- whether k is shown before and after a change, and neither what it names nor below that
+abbrev pub remains : Option ℕ → Scene → Scene → ℕ → Bool
+remains named before after k =
+    (is_shown before k && is_shown after k)
+    && (not (is_part_of before named k) && not (is_part_of after named k))
+
+-- what remains is painted in the same order
+abbrev pub KeepOrder : Option ℕ → Scene → Scene → Type 0
+KeepOrder named before after =
+    filter (remains named before after) (order before) ≡ filter (remains named before after) (order after)
+
+abbrev pub OthersKeepOrder : Type 0
+OthersKeepOrder =
+    (scene : Scene) (change : Change) → IsValid scene → IsChange change →
+    KeepOrder (named change) scene (changed scene change)
+
+-- whether a change sets a row or styles, and so leaves the trees
+abbrev pub leaves_trees : Scene → Change → Bool
+leaves_trees scene change = is_some (row_set change) || is_some (styling_of scene.book change)
+
+-- then all is painted in the same order
+abbrev pub SettersKeepOrder : Type 0
+SettersKeepOrder =
+    (scene : Scene) (change : Change) → leaves_trees scene change ≡ true →
+    order (changed scene change) ≡ order scene
+
+-- an object is seen only inside of what is seen of those above it
+abbrev pub SeenInsideAbove : Type 0
+SeenInsideAbove =
+    (scene : Scene) (h k : ℕ) → IsShowable scene → is_part scene h k ≡ true →
+    (x y : ℤ) → holds (visible scene k) x y ≡ true → holds (visible scene h) x y ≡ true

@@ -1,0 +1,47 @@
+-- The looks of scenes, and the debts of their changes.
+use Rattle.std.specs.Prelude.{ℕ, Some, None, List, [], map, ℤ}
+use Rattle.std.specs.declared.option.Option.{Option}
+use Rattle.gui_base.specs.declared.refusal.Refusal.{Refusal}
+use Rattle.gui_base.specs.Area.{Rect}
+use Rattle.gui_base.specs.Coats.{Dab}
+use Rattle.scene_defs.specs.declared.Change.{Change}
+use Rattle.scene_defs.specs.Scene.{Scene}
+use Rattle.scene_defs.specs.Change.{answer_of, scene_after}
+use Rattle.scene_defs.specs.Visible.{visible}
+use Rattle.scene_defs.specs.Items.{Item, items, coat_of}
+use Rattle.scene_defs.specs.Shown.{order}
+use Rattle.debt_defs.specs.Look.{Look}
+use Rattle.debt_defs.specs.Same.{same_item}
+use Rattle.debt_defs.specs.Debt.{touched, debt}
+use Rattle.debt_defs.specs.Named.{named}
+
+-- what an item lays on a pixel
+abbrev pub dab_of : ℤ → ℤ → Item → Option Dab
+dab_of x y item = coat_of item.area item.paint x y
+
+abbrev pub look_of : Scene → Look Item
+look_of scene = record {
+  order = order scene;
+  visible = visible scene;
+  items = items scene;
+  lays = λ h x y. map (dab_of x y) (items scene h);
+}
+
+-- the objects that a change with this answer touches: a refused one touches none
+abbrev pub touched_by : Option Refusal → Scene → Change → List ℕ
+touched_by (Some refusal) scene change = []
+touched_by None scene change =
+    touched same_item (named change) (look_of scene) (look_of (scene_after scene change))
+
+abbrev pub touched_of : Scene → Change → List ℕ
+touched_of scene change = touched_by (answer_of scene change) scene change
+
+-- the debt of a change with this answer: a refused one owes nothing
+abbrev pub debt_by : Option Refusal → Scene → Change → List Rect
+debt_by (Some refusal) scene change = []
+debt_by None scene change =
+    debt same_item (named change) (look_of scene) (look_of (scene_after scene change))
+
+-- the areas that a change of a scene owes
+abbrev pub debt_of : Scene → Change → List Rect
+debt_of scene change = debt_by (answer_of scene change) scene change

@@ -1,0 +1,52 @@
+//! What a change of a scene owes: the areas that are to be painted anew, and why no other pixel changes.
+//! There is no code here: each function does nothing, and its contract is a law, which is proved.
+#![tactic(auto)]
+
+ghost use Rattle.debt_defs.specs.Concerns.{OthersAreSame};
+ghost use Rattle.debt_defs.specs.Examples.{DebtsAreWorked, ConcernsAreWorked};
+ghost use Rattle.debt_defs.specs.Frame.{FrameOfLooks};
+ghost use Rattle.debt_defs.specs.Laws.{FrameOfScenes, PaintedByLook, RefusedOwesNothing, DebtWithinPanel};
+ghost use Rattle.debt_defs.specs.Orders.{OthersKeepOrder, SettersKeepOrder, SeenInsideAbove};
+ghost use Rattle.debt_defs.specs.TooLittle.{TooLittleIsOwed};
+ghost use Rattle.scene_defs.specs.Items.{Item};
+
+/// A pixel that no area of the debt of a change has keeps its paint. It holds for any look of scenes whose
+/// objects keep their order but for what is seen inside the named one.
+pub fn debt_holds_all_that_changes()
+    ensures scenes { FrameOfScenes }
+    ensures looks { FrameOfLooks Item }
+    ensures painted { PaintedByLook }
+{}
+
+/// What a change neither names nor moves along with it keeps its order in the paint. Where a change leaves
+/// the trees, all does. An object is seen only inside of what is seen of those above it.
+pub fn others_keep_their_order()
+    ensures others { OthersKeepOrder }
+    ensures setters { SettersKeepOrder }
+    ensures inside { SeenInsideAbove }
+{}
+
+/// A refused change owes nothing. Each area of a debt has a pixel, and lies in the panel.
+pub fn debts_lie_in_the_panel()
+    ensures refused { RefusedOwesNothing }
+    ensures within { DebtWithinPanel }
+{}
+
+/// Debts, and what changes concern, worked out by hand.
+pub fn worked_examples()
+    ensures debts { DebtsAreWorked }
+    ensures concerned { ConcernsAreWorked }
+{}
+
+/// Why no part of a debt may be left out. Each of these debts would miss a pixel that a change paints: that
+/// of the new places alone, of the named object alone, of one user of a style, and of objects that differ
+/// alone.
+pub fn less_is_too_little()
+    ensures { TooLittleIsOwed }
+{}
+
+/// What a change does not concern is the same after it: its row, its children, and all values of its
+/// properties. So only what it concerns has to be looked at again.
+pub fn others_stay_the_same()
+    ensures { OthersAreSame }
+{}

@@ -1,0 +1,8 @@
+use Rattle.std.proofs.Common.{rules, not, ◌==◌}
+use Rattle.std.proofs.lemmas.Fn.{filter_same}
+use Rattle.gui_anim.proofs.Lists.{as_seen}
+use Rattle.gui_anim.proofs.anims.Anims.forget.Goals as goal
+
+pub returns : goal.returns
+returns c =
+    rw (← c.self.view_is) (as_seen (λ anim. not (anim.spec.h.0 == c.args.h.0)) _ _ _ (filter_same _ _ _ (λ x b f' k. search rules) _ _ c.retain.ensures.filtered))

@@ -1,0 +1,2 @@
+pub mod Anims
+pub mod Kept

@@ -1,0 +1,7 @@
+pub mod Canvas
+pub mod Handles
+pub mod Items
+pub mod Looks
+pub mod Owed
+pub mod Seen
+pub mod Sights

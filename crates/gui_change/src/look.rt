@@ -1,0 +1,105 @@
+//! What is seen of a scene.
+ghost use Rattle.std.specs.Prelude.{◌≡◌, ◌≤◌, ◌<◌, ℕ, [], None, IfOk, length};
+ghost use Rattle.scene_defs.specs.Scene.{Scene};
+ghost use Rattle.scene_defs.specs.Valid.{IsValid};
+ghost use Rattle.gui_change.specs.Sights.{AreSeen};
+ghost use Rattle.gui_pool.specs.Table.{value_at, value_inserted};
+ghost use Rattle.gui_tree.specs.Handles.{numbers};
+ghost use Rattle.scene_defs.specs.Shown.{order};
+ghost use Rattle.gui_layout.specs.Listing.{HasThese};
+ghost use Rattle.gui_layout.specs.Solved.{AreSolved};
+ghost use Rattle.gui_store.specs.Views.{scene_of};
+
+use crate::seen::{Seen, see};
+use crate::shown::list_shown;
+use gui_base::intervals::HANDLE;
+use gui_base::{Handle, Limits, NoMemory};
+use gui_layout::Places;
+use gui_pool::Table;
+use gui_store::Store;
+use std::alloc::Global;
+
+/// One more than the greatest handle.
+const HANDLES: u32 = HANDLE.high as u32 + 1;
+
+/// What is seen of the objects of the trees that are shown, or nothing.
+#[derive(Drop)]
+pub(crate) struct Look {
+    // In paint order.
+    pub(crate) order: Vec<Handle>,
+    // Of these objects alone.
+    pub(crate) seen: Table<Seen>,
+}
+
+/// Gives a value to an object that has none.
+fn put(table: &mut Table<Seen>, h: Handle, value: Seen)
+    requires within { h.0 < length table.old.values }
+    requires vacant { value_at table.old h.0 ≡ None }
+    requires room { 0 < table.old.spare }
+    ensures { table.new ≡ value_inserted table.old h.0 value }
+{
+    let Ok(()) = table.insert(h.0 as u32, value) else {
+        unreachable!()
+    };
+}
+
+/// Sees each of the objects that are shown. The table has none.
+fn see_all(table: &mut Table<Seen>, listed: &[Handle], store: &Store, places: &Places)
+    requires solved { AreSolved places.now (scene_of store.now) }
+    requires valid { IsValid (scene_of store.now) }
+    requires order { numbers listed.now ≡ order (scene_of store.now) }
+    requires blank { HasThese table.old.spare table.old [] }
+    requires few { length listed.now ≤ table.old.spare }
+    ensures these { HasThese table.old.spare table.new listed.now }
+    ensures seen { AreSeen table.new (scene_of store.now) }
+{
+    for h in listed {
+        put(table, *h, see(store, places, *h));
+    }
+}
+
+/// Takes the values of all listed objects out.
+fn forget_all(table: &mut Table<Seen>, listed: &[Handle])
+    ensures { (objects : ℕ) → HasThese objects table.old listed.now → HasThese objects table.new [] }
+{
+    for h in listed {
+        let _ = table.remove(h.0 as u32);
+    }
+}
+
+impl Look {
+    ghost use Rattle.gui_change.specs.Looks.{IsBlank, Shows};
+
+    /// A look of nothing. It takes all the memory that seeing so many objects will need, or answers NoMemory
+    /// where there is too little.
+    pub(crate) fn open(alloc: Global, objects: u32) -> Result<Look, NoMemory>
+        ensures { IfOk result (λ look. IsBlank objects look) }
+    {
+        let Ok(order) = Vec::with_capacity(alloc, objects as usize) else {
+            return Err(NoMemory);
+        };
+        let Ok(seen) = Table::open(alloc, HANDLES, objects) else {
+            return Err(NoMemory);
+        };
+        Ok(Look { order, seen })
+    }
+
+    /// Sees what is shown of a store. Before, nothing is seen.
+    pub(crate) fn take(&mut self, store: &Store, places: &Places)
+        requires solved { AreSolved places.now (scene_of store.now) }
+        requires blank { IsBlank (scene_of store.now).limits.objects self.old }
+        ensures { Shows (scene_of store.now).limits.objects self.new (scene_of store.now) }
+    {
+        let _tree = store.tree();
+        list_shown(store, &mut self.order);
+        see_all(&mut self.seen, self.order.as_slice(), store, places);
+    }
+
+    /// Forgets all.
+    pub(crate) fn forget(&mut self)
+        ensures { (objects : ℕ) (scene : Scene) → Shows objects self.old scene → IsBlank objects self.new }
+    {
+        forget_all(&mut self.seen, self.order.as_slice());
+        self.order.clear();
+    }
+}

@@ -1,0 +1,8 @@
+use Rattle.std.proofs.Common.{refl}
+use Rattle.gui_base.specs.Bits.{has_bit, with_bit}
+use Rattle.scene_defs.specs.Place.{place}
+use Rattle.run_debts.proofs.worked_examples.Goals as goal
+
+pub returns : goal.returns
+unfolding place has_bit with_bit
+returns c = refl

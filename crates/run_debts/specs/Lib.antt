@@ -1,0 +1,4 @@
+pub mod Accounts
+pub mod Examples
+pub mod Laws
+pub mod Owing

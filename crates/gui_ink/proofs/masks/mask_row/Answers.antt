@@ -1,0 +1,14 @@
+use Rattle.gui_ink.proofs.Common.{◌∙◌, ap, arith, Bool, get_or, black, masked}
+use Rattle.gui_ink.proofs.Changing.{changed_none, changed_more}
+use Rattle.gui_ink.proofs.masks.mask_row.Goals as goal
+
+pub loop-i-init : goal.loop-i-init
+loop-i-init c = changed_none _ _
+
+pub loop-i-preserved : goal.loop-i-preserved
+loop-i-preserved c =
+    changed_more _ c.loop-i.i _ c.loop-i.row c.masked.result c.loop-i.invariant (omega arith)
+    (c.masked.ensures ∙ ap (λ (t : Bool). masked t c.args.fg c.args.opa (get_or c.loop-i.row c.loop-i.i black)) c.is_set.ensures)
+
+pub returns : goal.returns
+returns c = λ k h. c.loop-i.invariant.done k (omega arith)

@@ -17,8 +17,7 @@ use std::marker::Model;
 /// Focus groups and their members. An object is in one group at most.
 ///
 /// A contract sees the groups in the order of making, the members of all groups in the order of joining, and
-/// how many groups and members fit in all. A group takes 8 bytes and a member 4. A call takes time by the
-/// number of groups and members.
+/// how many groups and members fit in all. A call takes time by the number of groups and members.
 #[derive(Drop)]
 pub struct Groups {
     groups: Vec<Group>,

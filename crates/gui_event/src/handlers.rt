@@ -18,8 +18,8 @@ const HANDLES: u32 = 65_536;
 /// A contract sees them by handle, and how many fit in all. Any handle may be given: an object to which none
 /// was added has none.
 ///
-/// A handler takes 44 to 48 bytes, and a handle without handlers none. A call takes time by the number of
-/// handlers of its object, and of objects that share a bucket with it.
+/// A handle without handlers takes no memory. A call takes time by the number of handlers of its object, and
+/// of objects that share a bucket with it; `drop_kind` takes so much for each handler that it drops.
 #[derive(Drop)]
 pub struct Handlers {
     // By handle.

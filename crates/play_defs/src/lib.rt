@@ -118,7 +118,7 @@ pub enum InputEvent {
     Prev,
 }
 
-/// What an object does at an event. It takes 24 bytes.
+/// What an object does at an event.
 #[derive(Clone, Copy, Debug, Drop)]
 pub struct Handler {
     pub kind: EventKind,

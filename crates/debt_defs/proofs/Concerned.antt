@@ -100,6 +100,11 @@ module _ (scene : Scene) (v : IsValid scene) (k : ℕ) where
   differs-not (change.Unlocal h selector p) t w off =
       book-same scene _ k (λ prop object. is_at h.0 object && same_prop p prop) (λ prop object stays. local-unset scene.book prop h.0 selector p object stays)
       (λ prop. unasked (is_at h.0) (same_prop p prop) (inherits p) (inherits prop) (path_at scene k) (inherits-same p prop) off)
+  differs-not (change.Font f height advance) t w off = record { row = refl; children = refl; values = λ part prop. refl }
+  differs-not (change.Glyph f code shape bytes) t w off = record { row = refl; children = refl; values = λ part prop. refl }
+  differs-not (change.EndFont f) t w off = record { row = refl; children = refl; values = λ part prop. refl }
+  differs-not (change.Image i format width height) t w off = record { row = refl; children = refl; values = λ part prop. refl }
+  differs-not (change.ImageRow i y bytes) t w off = record { row = refl; children = refl; values = λ part prop. refl }
   differs-not (change.Flag h flag on) t w off = set-same scene h.0 k _ off (λ row. refl) true (λ e row. refl) (λ e. absurd (false≢true (sym e)))
   differs-not (change.Pos h x y) t w off = set-same scene h.0 k _ off (λ row. refl) true (λ e row. refl) (λ e. absurd (false≢true (sym e)))
   differs-not (change.Align h align x y) t w off = set-same scene h.0 k _ off (λ row. refl) true (λ e row. refl) (λ e. absurd (false≢true (sym e)))

@@ -11,8 +11,9 @@ use Rattle.scene_defs.specs.declared.Change.TheVariants as change
 use Rattle.scene_defs.specs.declared.Row.{Row}
 use Rattle.scene_defs.specs.Scene.{Object, Scene, handle_of, is_at, new_object}
 use Rattle.scene_defs.specs.Row.{Setter, setter_of}
-use Rattle.scene_defs.specs.Styling.{Styling, styling_of}
-use Rattle.scene_defs.specs.Change.{answer_of, after_by, scene_after, scene_by, over_row, parent_object, last_below, at_index_below}
+use Rattle.scene_defs.specs.Assets.{AssetChange}
+use Rattle.scene_defs.specs.Styling.{Styling}
+use Rattle.scene_defs.specs.Change.{answer_of, after_by, styling_in, asset_change_in, scene_after, scene_by, over_row, parent_object, last_below, at_index_below}
 use Rattle.scene_defs.specs.Visible.{root_tree}
 use Rattle.scene_defs.specs.Shown.{order}
 use Rattle.scene_defs.specs.Valid.{IsValid}
@@ -45,16 +46,17 @@ module _ (h : ℕ) (f : Row → Row) where
   order-set : (g : Forest Object) (a : ℕ) → handles_in (three (set g) a) ≡ handles_in (three g a)
   order-set g a = simp (handles-then, root-set)
 
-pub after-order : (scene : Scene) (change : Change) (setter : Option Setter) (styling : Option Styling) →
-    (is_some (option_map (λ (s : Setter). s.handle) setter) || is_some styling) ≡ true → order (after_by setter styling scene change) ≡ order scene
-after-order scene change (Some setter) styling leaves = order-set setter.handle.0 setter.after scene.trees scene.active
-after-order scene change None (Some styling) leaves = refl
-after-order scene change None None leaves = absurd (false≢true leaves)
+pub after-order : (scene : Scene) (change : Change) (setter : Option Setter) (styling : Option Styling) (assets : Option AssetChange) →
+    (is_some (option_map (λ (s : Setter). s.handle) setter) || (is_some styling || is_some assets)) ≡ true → order (after_by setter styling assets scene change) ≡ order scene
+after-order scene change (Some setter) styling assets leaves = order-set setter.handle.0 setter.after scene.trees scene.active
+after-order scene change None (Some styling) assets leaves = refl
+after-order scene change None None (Some assets) leaves = refl
+after-order scene change None None None leaves = absurd (false≢true leaves)
 
 pub setters_keep_order : SettersKeepOrder
 setters_keep_order scene change leaves = by (answer_of scene change) where
   by : (answer : Option Refusal) → order (scene_by answer scene change) ≡ order scene
-  by None = after-order scene change (setter_of change) (styling_of scene.book change) leaves
+  by None = after-order scene change (setter_of change) (styling_in scene change) (asset_change_in scene change) leaves
   by (Some refusal) = refl
 
 -- Changes of the trees.
@@ -96,7 +98,7 @@ keeps scene (change.Index h n) v w = edited scene _ scene.book h.0 v w (moved-to
 keeps scene (change.Front h) v w = edited scene _ scene.book h.0 v w (moved-last (parent_object scene h.0) scene.trees h.0)
 keeps scene (change.Back h) v w = edited scene _ scene.book h.0 v w (moved-to (parent_object scene h.0) scene.trees h.0 0)
 keeps scene (change.Load h) v w = loaded scene h.0 v w
-keeps scene change v w = ap (filter (remains (named change) scene (scene_after scene change))) (sym (after-order scene change (setter_of change) (styling_of scene.book change) refl))
+keeps scene change v w = ap (filter (remains (named change) scene (scene_after scene change))) (sym (after-order scene change (setter_of change) (styling_in scene change) (asset_change_in scene change) refl))
 
 pub others_keep_order : OthersKeepOrder
 others_keep_order scene change v c = by (answer_of scene change) (change_keeps_valid scene change v c) where

@@ -91,6 +91,11 @@ concerns scene (change.Use h s selector) k = asks scene (sets_inherited scene.bo
 concerns scene (change.Unuse h s selector) k = asks scene (sets_inherited scene.book s) h.0 k
 concerns scene (change.Local h selector prop value) k = asks scene (inherits prop) h.0 k
 concerns scene (change.Unlocal h selector prop) k = asks scene (inherits prop) h.0 k
+concerns scene (change.Font f height advance) k = false
+concerns scene (change.Glyph f code shape bytes) k = false
+concerns scene (change.EndFont f) k = false
+concerns scene (change.Image i format width height) k = false
+concerns scene (change.ImageRow i y bytes) k = false
 
 -- h is the same in both scenes: its row, its children, and all its values
 pub record IsSame (before after : Scene) (h : ℕ) : Type 0 where

@@ -52,6 +52,8 @@ scene width height objects locals = record {
       (Tree (new_object 2 Layer) Empty (Tree (new_object 3 Screen) objects Empty));
   active = 3;
   book = book locals;
+  fonts = [];
+  images = [];
   limits = with_sizes width height 1;
 }
 

@@ -4,7 +4,7 @@ use Rattle.std.specs.declared.option.Option.{Option}
 use Rattle.scene_defs.specs.declared.Change.{Change}
 use Rattle.scene_defs.specs.declared.Change.TheVariants as change
 
--- Its handle, or none for a change of a shared style. What is made is named before its parent.
+-- Its handle, or none for a change of a shared style, a font or an image. What is made is named before its parent.
 abbrev pub named : Change → Option ℕ
 named (change.Screen n) = Some n.0
 named (change.New n p kind) = Some n.0
@@ -29,3 +29,8 @@ named (change.Use h s selector) = Some h.0
 named (change.Unuse h s selector) = Some h.0
 named (change.Local h selector prop value) = Some h.0
 named (change.Unlocal h selector prop) = Some h.0
+named (change.Font f height advance) = None
+named (change.Glyph f code shape bytes) = None
+named (change.EndFont f) = None
+named (change.Image i format width height) = None
+named (change.ImageRow i y bytes) = None

@@ -6,8 +6,7 @@ use Rattle.gui_base.specs.Forest.{has_by, tree_by}
 use Rattle.scene_defs.specs.declared.Change.{Change}
 use Rattle.scene_defs.specs.Scene.{Scene, is_at}
 use Rattle.scene_defs.specs.Row.{row_set}
-use Rattle.scene_defs.specs.Styling.{styling_of}
-use Rattle.scene_defs.specs.Change.{changed}
+use Rattle.scene_defs.specs.Change.{changed, styling_in, asset_change_in}
 use Rattle.scene_defs.specs.Visible.{shown_trees, visible, holds}
 use Rattle.scene_defs.specs.Shown.{order}
 use Rattle.scene_defs.specs.Valid.{IsValid, IsChange}
@@ -43,9 +42,11 @@ OthersKeepOrder =
     (scene : Scene) (change : Change) → IsValid scene → IsChange change →
     KeepOrder (named change) scene (changed scene change)
 
--- whether a change sets a row or styles, and so leaves the trees
+-- whether a change sets a row, styles, fonts or images, and so leaves the trees
 abbrev pub leaves_trees : Scene → Change → Bool
-leaves_trees scene change = is_some (row_set change) || is_some (styling_of scene.book change)
+leaves_trees scene change =
+    is_some (row_set change)
+    || (is_some (styling_in scene change) || is_some (asset_change_in scene change))
 
 -- then all is painted in the same order
 abbrev pub SettersKeepOrder : Type 0

@@ -15,8 +15,8 @@ use std::marker::Model;
 
 /// The animations that run, in the order of starting. There is at most one for each variable of an object.
 ///
-/// A contract sees them, and how many fit in all. `spare` and `at` take constant time, and other calls time by
-/// the number of animations.
+/// A contract sees them, and how many fit in all. `spare` and `at` take constant time, and other calls time
+/// by the number of animations.
 #[derive(Drop)]
 pub struct Anims {
     running: Vec<Running>,

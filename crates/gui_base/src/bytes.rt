@@ -5,8 +5,8 @@ ghost use Rattle.gui_base.specs.Bytes.{bytes_of, kept, room};
 /// How many bytes are kept.
 pub const ROOM: usize = 1000;
 
-/// Bytes of a line, and how many they are. Of more than [`ROOM`] the first alone are kept: no text, and no row
-/// of an image or of a glyph, has so many.
+/// Bytes of a line, and how many they are. Of more than [`ROOM`] the first alone are kept: no text, and no
+/// row of an image or of a glyph, has so many.
 #[derive(Clone, Copy)]
 pub struct Bytes {
     /// How many they are.

@@ -19,5 +19,7 @@ pub(crate) fn named_by(change: &Change) -> Option<Handle>
         Change::Use(h, _, _) | Change::Unuse(h, _, _) => Some(h),
         Change::Local(h, _, _, _) | Change::Unlocal(h, _, _) => Some(h),
         Change::Style(_) | Change::Set(_, _, _) | Change::Unset(_, _) => None,
+        Change::Font(_, _, _) | Change::Glyph(_, _, _, _) | Change::EndFont(_) => None,
+        Change::Image(_, _, _, _) | Change::ImageRow(_, _, _) => None,
     }
 }

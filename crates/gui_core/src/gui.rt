@@ -76,8 +76,8 @@ impl Gui {
             (step (machine_of self.old) command.now).lines) }
         ensures cause { HasCause (S.state log.old).faults (S.state log.new).faults result }
     {
-        match *command {
-            Command::Change(change) => Ok(self.change(&change)),
+        match command {
+            Command::Change(change) => Ok(self.change(change)),
         }
     }
 

@@ -1,5 +1,5 @@
 -- What calls of `Styles` leave.
-use Rattle.gui_store.proofs.Common.{◌≡◌, ◌∙◌, sym, subst, ℕ, ◌+◌, Bool, true, false, cond, not, Entries, nat_tests, List, [], ◌∷◌, length, slice_set, slice_index_or, Ok, Err, inl, inr, refl, arith, get_or_past, OnOk, OnErr, Handle, first_of, result_of, numbers, Answer, Styles, Styling, entries_in, uses_in, IsStyled, IsAnswered, full_for, of_entries, one_unless, set_past, forgotten, all_forgotten}
+use Rattle.gui_store.proofs.Common.{None, Some, Test, Refusal, first-then, first-some, ◌≡◌, ◌∙◌, sym, subst, ℕ, ◌+◌, Bool, true, false, cond, not, Entries, nat_tests, List, [], ◌∷◌, length, slice_set, slice_index_or, Ok, Err, inl, inr, refl, arith, get_or_past, OnOk, OnErr, Handle, first_of, result_of, numbers, Answer, Styles, Styling, entries_in, uses_in, IsStyled, IsAnswered, full_for, of_entries, one_unless, set_past, forgotten, all_forgotten}
 use Rattle.std.specs.List.{sum_by}
 use Rattle.gui_base.specs.Refusing.{Unknown}
 use Rattle.gui_style.specs.Styles.{full_answer}
@@ -16,11 +16,19 @@ answered s t u styling (Ok v) a is ok err answer styled =
 answered s t u styling (Err x) a is ok err answer styled = record { answer_is = is ∙ answer; done = tt; refused = err }
 
 -- a call for a property of a style, whose font is there
-pub prop-told : (s : Styles) (has set font : Bool) → font ≡ false →
+pub prop-told : (s : Styles) (has set : Bool) (fonts : List Test) → first_of fonts None ≡ None →
     cond (not has) (Err refusal.Unknown) (cond set (Ok tt) (full_answer s.spare_entries Entries))
-    ≡ result_of (first_of ((not has, Unknown) ∷ (font, Unknown) ∷ []) (full_for s (of_entries (one_unless set))))
-prop-told s has set false e = grind (arith, nat_tests)
-prop-told s has set true e = cc
+    ≡ result_of (first_of ((not has, Unknown) ∷ fonts) (full_for s (of_entries (one_unless set))))
+prop-told s has set fonts e = rw (first-then fonts (full_for s (of_entries (one_unless set))) e) (grind (arith, nat_tests))
+
+-- a call for a local property, likewise
+pub local-told : (s : Styles) (set : Bool) (fonts : List Test) → first_of fonts None ≡ None →
+    cond set (Ok tt) (full_answer s.spare_entries Entries) ≡ result_of (first_of fonts (full_for s (of_entries (one_unless set))))
+local-told s set fonts e = rw (first-then fonts (full_for s (of_entries (one_unless set))) e) (grind (arith, nat_tests))
+
+-- a change that one of its tests refuses
+pub refused : (s : Styles) (styling : Styling) (why : Refusal) → first_of styling.tests None ≡ Some why → IsAnswered s s styling (Err why)
+refused s styling why e = record { answer_is = rw (first-some styling.tests (full_for s styling.need) why e) refl; done = tt; refused = refl }
 
 -- an object's list is emptied
 cleared : {A : Type 0} (lists : List (List A)) (h : ℕ) → sum_by length (slice_set lists h []) + length (slice_index_or lists h []) ≡ sum_by length lists

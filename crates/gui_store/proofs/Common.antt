@@ -12,7 +12,11 @@ pub use Rattle.gui_base.specs.Limits.{Bounds}
 pub use Rattle.gui_base.specs.Refusing.{Test, first_of, result_of, root_tests, child_tests, removal_tests, move_tests, parent_tests, Place, refusal_of}
 pub use Rattle.gui_base.specs.declared.Handle.{Handle}
 pub use Rattle.gui_base.specs.declared.intervals.TheConstants.{HANDLE, NEW_HANDLE}
-pub use Rattle.gui_base.specs.declared.limits.Pool.TheVariants.{Objects, Styles as StyleSlots, Entries, Uses}
+pub use Rattle.gui_base.specs.declared.limits.Pool.TheVariants.{Objects, Styles as StyleSlots, Entries, Uses, Fonts as FontSlots, Glyphs, Ink, Images as ImageSlots, Pixels}
+pub use Rattle.gui_font.specs.ImageSets.{ImageSet, no_images}
+pub use Rattle.gui_font.specs.Sets.{FontSet, no_fonts}
+pub use Rattle.scene_defs.specs.Assets.{AssetChange, asset_change_of}
+pub use Rattle.gui_store.specs.Assets.{AreSlots as AreAssetSlots, IsBuilt, IsAnswered as AreAnswered, AreBuilt, full_for as full_for_assets}
 pub use Rattle.gui_base.specs.declared.pools.TheConstants.{POOLS}
 pub use Rattle.gui_base.specs.declared.refusal.Refusal.{Refusal}
 pub use Rattle.gui_base.specs.declared.refusal.Refusal.TheVariants.{Full, Unknown, Kind as WrongKind}

@@ -1,5 +1,5 @@
 -- The parts of a store after each change that is done.
-use Rattle.gui_store.proofs.Common.{Ok, ◌≡◌, ◌<◌, ◌≤◌, ◌∙◌, sym, ap, subst, ℕ, zero, suc, ◌+◌, ◌-◌, Bool, true, false, length, slice_set, List, Option, Some, None, is_some, option_map, refl, arith, length-set, nat_eq, eqb-true, ◌++◌, [], ◌∷◌, cond, eqb, if◌then◌else◌, OnOk, OnErr, nat_tests, get_or-set_same, POOLS, Handle, Objects, StyleSlots, Entries, Uses, Full, Refusal, Forest, Empty, Tree, and_then, leaf, put_at, has, size, count, preorder, cut, cut_by, tree_at, parent_of, with_children_by, Bounds, Test, first_of, result_of, root_tests, child_tests, removal_tests, move_tests, parent_tests, map-and_then, map-size, map-cut_by, map-tree_by, map-parent_by, map-added_by, map-moved_by, map-moved_last_by, count-has, Table, value_at, value_inserted, value_replaced, numbers, Answer, full_answer, Trees, opened, add_root_answer, add_answer, remove_answer, move_answer, set_parent_answer, with_root, with_child, at_index, below, moved_below, without_tree, Change, is_in_range, is_there, Object, Scene, is_at, handles_of, spare, new_row, new_object, first_scene, is_screen_kind, answer_in_range, tests, first_short, scene_after, tree_below, all_below, parent_object, at_index_below, last_below, row_after, over_row, row_set, setter_of, need_of, freed_by, IsValid, IsChange, is_root_at, tests-fail, room_in_range, none_short, first-then, first-some, sets_row_alone, total, total-cut, total-parts, one, one_at, size-total, added_sum, removed_sum, first_is_valid, set_sums, Row, row_in, object_in, HaveRows, rows_without, removed_after, Styles, Styling, styling_of, AreSlots, IsStyled, full_for, Book, entries_in, uses_in, Parts, scene_in, AreKept, on_ok_weaker, on_err_weaker, locals_of, uses_of, no_lists, empty_book, ext_get_or, all_forgotten, book_without, object_tests, need_by, freed_by_styling, named_by, IsRestyled, Place, refusal_of}
+use Rattle.gui_store.proofs.Common.{Ok, Err, ◌≡◌, ◌<◌, ◌≤◌, ◌∙◌, sym, ap, subst, ℕ, zero, suc, ◌+◌, ◌-◌, Bool, true, false, length, slice_set, List, Option, Some, None, is_some, option_map, refl, arith, length-set, nat_eq, eqb-true, ◌++◌, [], ◌∷◌, cond, eqb, if◌then◌else◌, OnOk, OnErr, nat_tests, get_or-set_same, POOLS, Handle, Objects, StyleSlots, Entries, Uses, AreAssetSlots, IsBuilt, AreBuilt, full_for_assets, AssetChange, asset_change_of, FontSet, ImageSet, no_fonts, no_images, FontSlots, Glyphs, Ink, ImageSlots, Pixels, Full, Refusal, Forest, Empty, Tree, and_then, leaf, put_at, has, size, count, preorder, cut, cut_by, tree_at, parent_of, with_children_by, Bounds, Test, first_of, result_of, root_tests, child_tests, removal_tests, move_tests, parent_tests, map-and_then, map-size, map-cut_by, map-tree_by, map-parent_by, map-added_by, map-moved_by, map-moved_last_by, count-has, Table, value_at, value_inserted, value_replaced, numbers, Answer, full_answer, Trees, opened, add_root_answer, add_answer, remove_answer, move_answer, set_parent_answer, with_root, with_child, at_index, below, moved_below, without_tree, Change, is_in_range, is_there, Object, Scene, is_at, handles_of, spare, new_row, new_object, first_scene, is_screen_kind, answer_in_range, tests, first_short, scene_after, tree_below, all_below, parent_object, at_index_below, last_below, row_after, over_row, row_set, setter_of, need_of, freed_by, IsValid, IsChange, is_root_at, tests-fail, room_in_range, none_short, first-then, first-some, sets_row_alone, total, total-cut, total-parts, one, one_at, size-total, added_sum, removed_sum, first_is_valid, set_sums, Row, row_in, object_in, HaveRows, rows_without, removed_after, Styles, Styling, styling_of, AreSlots, IsStyled, full_for, Book, entries_in, uses_in, Parts, scene_in, AreKept, on_ok_weaker, on_err_weaker, locals_of, uses_of, no_lists, empty_book, ext_get_or, all_forgotten, book_without, object_tests, need_by, freed_by_styling, named_by, IsRestyled, Place, refusal_of}
 use Rattle.gui_base.specs.declared.limits.Pool.{Pool}
 use Rattle.style_defs.specs.Book as book
 use Rattle.style_defs.proofs.Empty.{empty_in_order, empty_bare, no_entries, no_uses}
@@ -19,6 +19,15 @@ use Rattle.gui_store.proofs.Kept.{read-on, read-off, Left, answered, done, there
 -- where no slots are taken and none are freed
 stay : (s : Styles) (need freed : Pool → ℕ) → ((q : Pool) → (need q ≡ 0) × (freed q ≡ 0)) → AreSlots s s need freed
 stay s need freed none = record { styles = omega (arith, none StyleSlots); entries = omega (arith, none Entries); uses = omega (arith, none Uses) }
+
+assets_stay : (fonts : FontSet) (images : ImageSet) (need freed : Pool → ℕ) → ((q : Pool) → (need q ≡ 0) × (freed q ≡ 0)) → AreAssetSlots fonts fonts images images need freed
+assets_stay fonts images need freed none = record {
+  fonts_left = omega (arith, none FontSlots);
+  glyphs_left = omega (arith, none Glyphs);
+  ink_left = omega (arith, none Ink);
+  images_left = omega (arith, none ImageSlots);
+  pixels_left = omega (arith, none Pixels);
+}
 
 -- the first test that holds of some and then others
 first-both : (ts us : List Test) (later : Option Refusal) → first_of (ts ++ us) later ≡ first_of ts (first_of us later)
@@ -83,9 +92,10 @@ module _ (p : Parts) (k : AreKept p) where
       ((w : Object → ℕ) → added_sum (scene_in p) change w ≡ w (new_object n kind) + removed_sum (scene_in p) change w) →
       need_of (scene_in p) change Objects ≡ freed_by (scene_in p) change Objects + 1 →
       AreSlots p.styles p.styles (need_of (scene_in p) change) (freed_by (scene_in p) change) →
+      AreAssetSlots p.fonts p.fonts p.images p.images (need_of (scene_in p) change) (freed_by (scene_in p) change) →
       p.tree.removed ≡ removed_after p.tree.removed (scene_in p) change →
       Fine p change (record p { tree = record p.tree { forest = g; spare = p.tree.spare - 1 }; rows = value_inserted p.rows n row })
-  grown_by change n row kind g e fits is absent shows sums objects styles removed =
+  grown_by change n row kind g e fits is absent shows sums objects styles assets removed =
       let off = sym (there-is p n) ∙ absent in
       let within : n < length p.rows.values = omega (arith, fits, k.handles) in
       let new : object_in (value_inserted p.rows n row) n ≡ new_object n kind = grind (arith, is, get_or-set_same p.rows.values n (Some row) None within) in
@@ -96,6 +106,7 @@ module _ (p : Parts) (k : AreKept p) where
         room = omega (arith, k.room);
         objects = omega (arith, objects, room_in_range (scene_in p) change Objects e, k.objects);
         styles = styles;
+        assets = assets;
         removed = removed;
       }
 
@@ -106,7 +117,7 @@ module _ (p : Parts) (k : AreKept p) where
       let t = tests-fail (tests (scene_in p) (change.Screen n)) (first_short (scene_in p) (change.Screen n) POOLS) e in
       let shows = λ (rows : Table Row). map-and_then (object_in rows) p.tree.forest (leaf n.0) in
       grown_by (change.Screen n) n.0 row Screen (with_root p.tree n.0).forest e fits is t.0
-      (λ rows same new. rw (shows rows, same, new) refl) (λ w. omega arith) refl (record { styles = refl; entries = refl; uses = refl }) refl
+      (λ rows same new. rw (shows rows, same, new) refl) (λ w. omega arith) refl (record { styles = refl; entries = refl; uses = refl }) (record { fonts_left = refl; glyphs_left = refl; ink_left = refl; images_left = refl; pixels_left = refl }) refl
 
   pub fine-object : (n q : Handle) (kind : Kind) (row : Row) → n.0 < 10000 → row ≡ new_row kind →
       answer_in_range (scene_in p) (change.New n q kind) ≡ None →
@@ -115,7 +126,7 @@ module _ (p : Parts) (k : AreKept p) where
       let t = tests-fail (tests (scene_in p) (change.New n q kind)) (first_short (scene_in p) (change.New n q kind) POOLS) e in
       let shows = λ (rows : Table Row). map-added_by (object_in rows) (is_at q.0) (is_at q.0) n.0 p.tree.forest in
       grown_by (change.New n q kind) n.0 row kind (with_child p.tree q.0 n.0).forest e fits is t.1.0
-      (λ rows same new. rw (shows rows, same, new) refl) (λ w. omega arith) refl (record { styles = refl; entries = refl; uses = refl }) refl
+      (λ rows same new. rw (shows rows, same, new) refl) (λ w. omega arith) refl (record { styles = refl; entries = refl; uses = refl }) (record { fonts_left = refl; glyphs_left = refl; ink_left = refl; images_left = refl; pixels_left = refl }) refl
 
   tree-is : (h : ℕ) → shown p.rows (tree_at p.tree.forest h) ≡ tree_below (scene_in p) h
   tree-is h = map-tree_by (object_in p.rows) (is_at h) p.tree.forest
@@ -159,6 +170,7 @@ module _ (p : Parts) (k : AreKept p) where
             entries = omega (arith, f.entries, ap entries_in left, fewer.entries_left);
             uses = omega (arith, f.uses, ap uses_in left, fewer.uses_left);
           };
+          assets = record { fonts_left = refl; glyphs_left = refl; ink_left = refl; images_left = refl; pixels_left = refl };
           removed = sym listed ∙ listed-below;
         }
 
@@ -194,6 +206,7 @@ module _ (p : Parts) (k : AreKept p) where
           room = k.room;
           objects = omega (arith, none Objects);
           styles = stay p.styles _ _ none;
+          assets = assets_stay p.fonts p.images _ _ none;
           removed = removed;
         } in
         answered p k change fits plain (record p { tree = t }) r same
@@ -217,7 +230,7 @@ module _ (p : Parts) (k : AreKept p) where
   last-after h n few = with_trees (last-shows h.0 n few (parent_object (scene_in p) h.0))
 
   pub fine-load : (h : Handle) → Fine p (change.Load h) (record p { active = h.0 })
-  fine-load h = record { shows = refl; handles = k.handles; rows = λ j. omega arith; room = k.room; objects = refl; styles = (record { styles = refl; entries = refl; uses = refl }); removed = refl }
+  fine-load h = record { shows = refl; handles = k.handles; rows = λ j. omega arith; room = k.room; objects = refl; styles = (record { styles = refl; entries = refl; uses = refl }); assets = record { fonts_left = refl; glyphs_left = refl; ink_left = refl; images_left = refl; pixels_left = refl }; removed = refl }
 
   -- what is not there is unknown
   pub row-absent : (change : Change) (h : Handle) → row_set change ≡ Some h → is_there (scene_in p) h.0 ≡ false →
@@ -246,6 +259,7 @@ module _ (p : Parts) (k : AreKept p) where
       room = k.room;
       objects = omega (arith, none-set change h set Objects);
       styles = stay p.styles _ _ (none-set change h set);
+      assets = assets_stay p.fonts p.images _ _ (none-set change h set);
       removed = grind (arith, set);
     }))
 
@@ -255,15 +269,17 @@ module _ (p : Parts) (k : AreKept p) where
     sums : (w : Object → ℕ) → (added_sum (scene_in p) change w ≡ 0) × (removed_sum (scene_in p) change w ≡ 0)
     objects : (need_of (scene_in p) change Objects ≡ 0) × (freed_by (scene_in p) change Objects ≡ 0)
     full : option_map Full (first_short (scene_in p) change POOLS) ≡ full_for p.styles styling.need
+    assets : AreAssetSlots p.fonts p.fonts p.images p.images (need_of (scene_in p) change) (freed_by (scene_in p) change)
     removed : p.tree.removed ≡ removed_after p.tree.removed (scene_in p) change
 
-  quiet : (change : Change) (styling : Styling) → styling_of p.styles.book change ≡ Some styling → IsQuiet change styling
+  quiet : (change : Change) (styling : Styling) → styling_of p.fonts.fonts p.styles.book change ≡ Some styling → IsQuiet change styling
   quiet (change.Screen n) styling e = absurd (cc)
   quiet change styling e = record {
     setter = cc;
     sums = λ w. (cc, cc);
     objects = (cc, cc);
     full = grind (arith, nat_tests, e, k.styles, k.entries, k.uses);
+    assets = record { fonts_left = cc; glyphs_left = cc; ink_left = cc; images_left = cc; pixels_left = cc };
     removed = cc;
   }
 
@@ -271,7 +287,7 @@ module _ (p : Parts) (k : AreKept p) where
   abbrev pub named_test : Option Styling → Option Refusal
   named_test o = first_of (object_tests (handles_of (scene_in p).trees) (named_by o)) None
 
-  pub unnamed : (change : Change) (o : Option Styling) → styling_of p.styles.book change ≡ o → is_some o ≡ true → named_test o ≡ Some refusal.Unknown →
+  pub unnamed : (change : Change) (o : Option Styling) → styling_of p.fonts.fonts p.styles.book change ≡ o → is_some o ≡ true → named_test o ≡ Some refusal.Unknown →
       answer_in_range (scene_in p) change ≡ Some refusal.Unknown
   unnamed change None is some absent = cc
   unnamed change (Some styling) is some absent =
@@ -279,7 +295,7 @@ module _ (p : Parts) (k : AreKept p) where
       let named = object_tests (handles_of (scene_in p).trees) styling.object in rw (s.setter, is) (first-both named styling.tests _ ∙ first-some named _ refusal.Unknown absent)
 
   -- as the call of the styles does it
-  pub restyled : (change : Change) (t : Styles) (r : Answer) (o : Option Styling) → is_in_range change ≡ true → IsChange change → styling_of p.styles.book change ≡ o → is_some o ≡ true →
+  pub restyled : (change : Change) (t : Styles) (r : Answer) (o : Option Styling) → is_in_range change ≡ true → IsChange change → styling_of p.fonts.fonts p.styles.book change ≡ o → is_some o ≡ true →
       named_test o ≡ None → IsRestyled p.styles t o r → Left p change (record p { styles = t }) r
   restyled change t r None fits plain is some there a = cc
   restyled change t r (Some styling) fits plain is some there a =
@@ -292,10 +308,70 @@ module _ (p : Parts) (k : AreKept p) where
         rows = λ h. omega (arith, s.sums (one_at h));
         room = k.room;
         objects = omega (arith, s.objects);
-        styles = subst (λ (o : Option Styling). AreSlots p.styles t (need_by o change) (freed_by_styling o (scene_in p) change)) (sym is) done.slots;
+        styles = subst (λ (o : Option Styling). AreSlots p.styles t (need_by o (asset_change_of p.fonts.fonts p.images.images change) change) (freed_by_styling o (scene_in p) change)) (sym is) done.slots;
+        assets = s.assets;
         removed = s.removed;
       } in
       answered p k change fits plain (record p { styles = t }) r (ap result_of answer ∙ sym a.answer_is) (on_ok_weaker r fine a.done) (on_err_weaker r (λ same. ap (λ (x : Styles). record p { styles = x }) same) a.refused)
+
+  -- A change of fonts and images adds and removes no object, and takes slots of their pools alone.
+  record IsAside (change : Change) (assets : AssetChange) : Type 0 where
+    answer : answer_in_range (scene_in p) change ≡ first_of assets.tests (full_for_assets p.fonts p.images assets.need)
+    after : scene_after (scene_in p) change ≡ record (scene_in p) { fonts = assets.fonts; images = assets.images }
+    sums : (w : Object → ℕ) → (added_sum (scene_in p) change w ≡ 0) × (removed_sum (scene_in p) change w ≡ 0)
+    need : (q : Pool) → need_of (scene_in p) change q ≡ assets.need q
+    freed : (q : Pool) → freed_by (scene_in p) change q ≡ 0
+    objects : need_of (scene_in p) change Objects ≡ 0
+    styles : (need_of (scene_in p) change StyleSlots ≡ 0) × (need_of (scene_in p) change Entries ≡ 0) × (need_of (scene_in p) change Uses ≡ 0)
+    removed : p.tree.removed ≡ removed_after p.tree.removed (scene_in p) change
+
+  needs : (change : Change) (assets : AssetChange) → asset_change_of p.fonts.fonts p.images.images change ≡ Some assets → (q : Pool) → need_of (scene_in p) change q ≡ assets.need q
+  needs (change.EndFont f) assets e q = ap (λ (o : Option AssetChange). need_by None o (change.EndFont f) q) e
+  needs (change.ImageRow i y bytes) assets e q = ap (λ (o : Option AssetChange). need_by None o (change.ImageRow i y bytes) q) e
+  needs change assets e q = cc
+
+  apart : (change : Change) (assets : AssetChange) → asset_change_of p.fonts.fonts p.images.images change ≡ Some assets → IsAside change assets
+  apart (change.Screen n) assets e = absurd (cc)
+  apart change assets e = record {
+    answer = grind (arith, nat_tests, e, k.fonts, k.glyphs, k.ink, k.images, k.pixels);
+    after = cc;
+    sums = λ w. (cc, cc);
+    need = needs change assets e;
+    freed = λ q. cc;
+    objects = cc;
+    styles = (cc, cc, cc);
+    removed = cc;
+  }
+
+  -- as the calls of the fonts and the images do it
+  pub built : (change : Change) (t : FontSet) (u : ImageSet) (r : Answer) (o : Option AssetChange) → is_in_range change ≡ true → IsChange change →
+      asset_change_of p.fonts.fonts p.images.images change ≡ o → is_some o ≡ true → AreBuilt p.fonts t p.images u o r →
+      Left p change (record p { fonts = t; images = u }) r
+  built change t u r None fits plain is some a = cc
+  built change t u r (Some assets) fits plain is some a =
+      let s = apart change assets is in
+      let fine : IsBuilt p.fonts t p.images u assets → answer_in_range (scene_in p) change ≡ None → Fine p change (record p { fonts = t; images = u }) = λ done none. record {
+        shows = rw (done.fonts_are, done.images_are) (sym s.after);
+        handles = k.handles;
+        rows = λ h. omega (arith, s.sums (one_at h));
+        room = k.room;
+        objects = omega (arith, s.freed Objects, s.objects);
+        styles = record { styles = omega (arith, s.freed StyleSlots, s.styles); entries = omega (arith, s.freed Entries, s.styles); uses = omega (arith, s.freed Uses, s.styles) };
+        assets = record {
+          fonts_left = omega (arith, s.need FontSlots, s.freed FontSlots, done.slots.fonts_left);
+          glyphs_left = omega (arith, s.need Glyphs, s.freed Glyphs, done.slots.glyphs_left);
+          ink_left = omega (arith, s.need Ink, s.freed Ink, done.slots.ink_left);
+          images_left = omega (arith, s.need ImageSlots, s.freed ImageSlots, done.slots.images_left);
+          pixels_left = omega (arith, s.need Pixels, s.freed Pixels, done.slots.pixels_left);
+        };
+        removed = s.removed;
+      } in
+      same p k change fits plain t u r (ap result_of s.answer ∙ sym a.answer_is) (on_ok_weaker r fine a.done) a.same_fonts a.same_images where
+        same : (p : Parts) (k : AreKept p) (change : Change) (fits : is_in_range change ≡ true) (plain : IsChange change) (t : FontSet) (u : ImageSet) (r : Answer) →
+            result_of (answer_in_range (scene_in p) change) ≡ r → OnOk r (answer_in_range (scene_in p) change ≡ None → Fine p change (record p { fonts = t; images = u })) →
+            OnErr r (t ≡ p.fonts) → OnErr r (u ≡ p.images) → Left p change (record p { fonts = t; images = u }) r
+        same p k change fits plain t u (Ok v) a ok err other = answered p k change fits plain (record p { fonts = t; images = u }) (Ok v) a ok tt
+        same p k change fits plain t u (Err x) a ok err other = answered p k change fits plain (record p { fonts = t; images = u }) (Err x) a tt (rw (err, other) refl)
 
 -- What `Styles` opens: nothing is set, in a place for each number.
 pub record AreNew (s : Styles) (limits : Bounds) : Type 0 where
@@ -309,12 +385,12 @@ pub record AreNew (s : Styles) (limits : Bounds) : Type 0 where
   pub uses : length s.book.uses ≡ 65536
 
 -- The first rows.
-module _ (tree : Trees) (limits : Bounds) (room : 3 ≤ limits.objects) (new : tree ≡ opened limits.objects) (t : Table Row) (keys : length t.values ≡ 10000) (empty : (h : ℕ) → value_at t h ≡ None) (free : t.spare ≡ limits.objects) (a b c : Row) (top : a ≡ new_row Layer) (system : b ≡ new_row Layer) (screen : c ≡ new_row Screen) (styles : Styles) (bare : AreNew styles limits) where
+module _ (tree : Trees) (limits : Bounds) (room : 3 ≤ limits.objects) (new : tree ≡ opened limits.objects) (t : Table Row) (keys : length t.values ≡ 10000) (empty : (h : ℕ) → value_at t h ≡ None) (free : t.spare ≡ limits.objects) (a b c : Row) (top : a ≡ new_row Layer) (system : b ≡ new_row Layer) (screen : c ≡ new_row Screen) (styles : Styles) (bare : AreNew styles limits) (fonts : FontSet) (images : ImageSet) (letters : fonts ≡ no_fonts limits.fonts limits.glyphs limits.ink) (pictures : images ≡ no_images limits.images limits.pixels) where
   abbrev first_rows : Table Row
   first_rows = value_inserted (value_inserted (value_inserted t 1 a) 2 b) 3 c
 
   abbrev first_parts : Parts
-  first_parts = record { tree = tree; rows = first_rows; styles = styles; active = 3; limits = limits }
+  first_parts = record { tree = tree; rows = first_rows; styles = styles; fonts = fonts; images = images; active = 3; limits = limits }
 
   first-value : (h : ℕ) → value_at first_rows h ≡ cond (eqb 3 h) (Some c) (cond (eqb 2 h) (Some b) (cond (eqb 1 h) (Some a) None))
   first-value h =
@@ -331,7 +407,7 @@ module _ (tree : Trees) (limits : Bounds) (room : 3 ≤ limits.objects) (new : t
       λ i. record { styles = bare.no_styles i; locals = locals i; uses = uses i }
 
   first-shows : scene_in first_parts ≡ first_scene limits
-  first-shows = rw (new, first-value 1, first-value 2, first-value 3, top, system, screen, first-book) refl
+  first-shows = rw (new, first-value 1, first-value 2, first-value 3, top, system, screen, first-book, letters, pictures) refl
 
   first-spare : (pool : Pool) → spare (scene_in first_parts) pool ≡ spare (first_scene limits) pool
   first-spare pool = ap (λ (s : Scene). spare s pool) first-shows
@@ -347,6 +423,11 @@ module _ (tree : Trees) (limits : Bounds) (room : 3 ≤ limits.objects) (new : t
       styles = omega (arith, first-spare StyleSlots, bare.spare_styles);
       entries = omega (arith, first-spare Entries, bare.spare_entries, no_entries);
       uses = omega (arith, first-spare Uses, bare.spare_uses, no_uses);
+      fonts = let e : fonts.spare_fonts ≡ limits.fonts = ap (λ (s : FontSet). s.spare_fonts) letters in omega (arith, e, first-spare FontSlots);
+      glyphs = let e : fonts.spare_glyphs ≡ limits.glyphs = ap (λ (s : FontSet). s.spare_glyphs) letters in omega (arith, e, first-spare Glyphs);
+      ink = let e : fonts.spare_ink ≡ limits.ink = ap (λ (s : FontSet). s.spare_ink) letters in omega (arith, e, first-spare Ink);
+      images = let e : images.spare_images ≡ limits.images = ap (λ (s : ImageSet). s.spare_images) pictures in omega (arith, e, first-spare ImageSlots);
+      pixels = let e : images.spare_pixels ≡ limits.pixels = ap (λ (s : ImageSet). s.spare_pixels) pictures in omega (arith, e, first-spare Pixels);
     },
     first-shows,
   )

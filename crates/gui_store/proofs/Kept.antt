@@ -1,5 +1,5 @@
 -- What the parts of a store answer, and that a change keeps them in order.
-use Rattle.gui_store.proofs.Common.{◌≡◌, ◌<◌, ◌∙◌, sym, ap, subst, ℕ, ◌+◌, true, false, length, Option, unwrap_or, Some, None, is_some, option_map, Ok, Err, List, refl, arith, OnOk, OnErr, IsErrAnd, err_from_is_err_and, POOLS, HANDLE, Objects, StyleSlots, Entries, Uses, Refusal, Full, Forest, has, count, Test, first_of, result_of, Table, value_at, Trees, Answer, Change, is_in_range, Scene, is_there, handles_of, object_at, row_at, spare, answer_in_range, answer_of, scene_after, scene_by, tests, first_short, need_of, freed_by, IsValid, IsChange, IsRow, in_intervals, one_at, added_sum, removed_sum, after_leaves, after_valid, slots_add_up, Row, Styles, AreSlots, Parts, scene_in, AreKept, removed_after, new_row, row_in, object_in, StandsOnce}
+use Rattle.gui_store.proofs.Common.{◌≡◌, ◌<◌, ◌∙◌, sym, ap, subst, ℕ, ◌+◌, true, false, length, Option, unwrap_or, Some, None, is_some, option_map, Ok, Err, List, refl, arith, OnOk, OnErr, IsErrAnd, err_from_is_err_and, POOLS, HANDLE, Objects, StyleSlots, Entries, Uses, FontSlots, Glyphs, Ink, ImageSlots, Pixels, AreAssetSlots, Refusal, Full, Forest, has, count, Test, first_of, result_of, Table, value_at, Trees, Answer, Change, is_in_range, Scene, is_there, handles_of, object_at, row_at, spare, answer_in_range, answer_of, scene_after, scene_by, tests, first_short, need_of, freed_by, IsValid, IsChange, IsRow, in_intervals, one_at, added_sum, removed_sum, after_leaves, after_valid, slots_add_up, Row, Styles, AreSlots, Parts, scene_in, AreKept, removed_after, new_row, row_in, object_in, StandsOnce}
 use Rattle.std.proofs.lemmas.Bool.{and_parts}
 use Rattle.gui_base.specs.declared.limits.Pool.{Pool}
 use Rattle.gui_base.specs.Intervals.{is_counted}
@@ -72,6 +72,7 @@ pub record Fine (p : Parts) (change : Change) (q : Parts) : Type 0 where
   pub room : q.rows.spare ≡ q.tree.spare
   pub objects : q.tree.spare + need_of (scene_in p) change Objects ≡ p.tree.spare + freed_by (scene_in p) change Objects
   pub styles : AreSlots p.styles q.styles (need_of (scene_in p) change) (freed_by (scene_in p) change)
+  pub assets : AreAssetSlots p.fonts q.fonts p.images q.images (need_of (scene_in p) change) (freed_by (scene_in p) change)
   pub removed : q.tree.removed ≡ removed_after p.tree.removed (scene_in p) change
 
 -- the parts are in order after a change, or as they were where it is refused
@@ -115,6 +116,11 @@ module _ (p : Parts) (k : AreKept p) (change : Change) where
             styles = omega (arith, slots StyleSlots, fine.styles.styles, k.styles);
             entries = omega (arith, slots Entries, fine.styles.entries, k.entries);
             uses = omega (arith, slots Uses, fine.styles.uses, k.uses);
+            fonts = omega (arith, slots FontSlots, fine.assets.fonts_left, k.fonts);
+            glyphs = omega (arith, slots Glyphs, fine.assets.glyphs_left, k.glyphs);
+            ink = omega (arith, slots Ink, fine.assets.ink_left, k.ink);
+            images = omega (arith, slots ImageSlots, fine.assets.images_left, k.images);
+            pixels = omega (arith, slots Pixels, fine.assets.pixels_left, k.pixels);
           };
           is = record { answer_is = rw e refl; scene = rw e fine.shows; removed = rw e fine.removed };
         }

@@ -1,3 +1,4 @@
+pub mod Assets
 pub mod Changed
 pub mod Parts
 pub mod Removed

@@ -13,6 +13,8 @@ parts_of store = record {
   tree = store.tree;
   rows = store.rows;
   styles = store.styles;
+  fonts = store.fonts;
+  images = store.images;
   active = store.active.0;
   limits = bounds_of store.limits;
 }

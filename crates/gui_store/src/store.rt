@@ -9,8 +9,7 @@ ghost use Rattle.gui_base.specs.Props.{is_value};
 ghost use Rattle.gui_base.specs.Refusing.{first_of, result_of, move_tests};
 ghost use Rattle.scene_defs.specs.Row.{setter_of};
 ghost use Rattle.scene_defs.specs.Scene.{handles_of, is_there, row_at, value, first_scene};
-ghost use Rattle.scene_defs.specs.Styling.{styling_of};
-ghost use Rattle.scene_defs.specs.Change.{answer_of, changed, tests};
+ghost use Rattle.scene_defs.specs.Change.{answer_of, changed, tests, styling_in, asset_change_in};
 ghost use Rattle.scene_defs.specs.Ranges.{is_in_range};
 ghost use Rattle.scene_defs.specs.Valid.{IsValid, IsChange, IsRow};
 ghost use Rattle.gui_pool.specs.Table.{value_at, value_inserted};
@@ -20,11 +19,13 @@ ghost use Rattle.gui_store.specs.Rows.{HaveRows, rows_without};
 ghost use Rattle.gui_store.specs.Setters.{asked_of};
 ghost use Rattle.gui_store.specs.Values.{won_at, inherited_at, given_at};
 
+use crate::assets::build;
 use crate::range::is_in_range;
 use crate::row::{Setter, new_row, set_row, setter_of};
 use crate::styling::{named_by, restyle};
 use gui_base::intervals::HANDLE;
 use gui_base::{Handle, Kind, Limits, NoMemory, Part, Prop, Refusal};
+use gui_font::{Fonts, Images};
 use gui_pool::Table;
 use gui_style::Styles;
 use gui_tree::Tree;
@@ -43,19 +44,24 @@ const SYSTEM_LAYER: Handle = Handle(2);
 /// The screen that is shown at first.
 const FIRST_SCREEN: Handle = Handle(3);
 
-/// A scene: the tree of its objects, a row for each, their styles, the active screen and the limits.
+/// A scene: the tree of its objects, a row for each, their styles, the fonts and images, the active screen and
+/// the limits.
 #[derive(Drop)]
 pub struct Store {
     tree: Tree,
     // Those of the objects of the tree, by handle.
     rows: Table<Row>,
     styles: Styles,
+    fonts: Fonts,
+    images: Images,
     active: Handle,
     limits: Limits,
     ghost kept: { AreKept (record {
       tree = tree;
       rows = rows;
       styles = styles;
+      fonts = fonts;
+      images = images;
       active = active.0;
       limits = bounds_of limits;
     }) },
@@ -96,6 +102,8 @@ impl Store {
             return Err(NoMemory);
         };
         let styles = Styles::open(alloc, limits.styles, limits.entries, limits.uses)?;
+        let fonts = Fonts::with_capacity(alloc, limits.fonts, limits.glyphs, limits.ink)?;
+        let images = Images::with_capacity(alloc, limits.images, limits.pixels)?;
         insert_row(&mut rows, TOP_LAYER, new_row(Kind::Layer));
         insert_row(&mut rows, SYSTEM_LAYER, new_row(Kind::Layer));
         insert_row(&mut rows, FIRST_SCREEN, new_row(Kind::Screen));
@@ -103,6 +111,8 @@ impl Store {
             tree,
             rows,
             styles,
+            fonts,
+            images,
             active: FIRST_SCREEN,
             limits: *limits,
         })
@@ -132,6 +142,20 @@ impl Store {
         ensures valid { IsValid (scene_of self.now) }
     {
         &self.tree
+    }
+
+    /// The fonts beside the built-in one.
+    pub fn fonts(&self) -> &Fonts
+        ensures { result.now.fonts ≡ (scene_of self.now).fonts }
+    {
+        &self.fonts
+    }
+
+    /// The images.
+    pub fn images(&self) -> &Images
+        ensures { result.now.images ≡ (scene_of self.now).images }
+    {
+        &self.images
     }
 
     /// The screen that is shown.
@@ -235,6 +259,10 @@ impl Store {
             }
             Change::Use(_, _, _) | Change::Unuse(_, _, _) => self.change_styles(change),
             Change::Local(_, _, _, _) | Change::Unlocal(_, _, _) => self.change_styles(change),
+            Change::Font(_, _, _) | Change::Glyph(_, _, _, _) | Change::EndFont(_) => {
+                self.change_assets(change)
+            }
+            Change::Image(_, _, _, _) | Change::ImageRow(_, _, _) => self.change_assets(change),
             _ => self.change_row(change),
         }
     }
@@ -333,14 +361,24 @@ impl Store {
 
     /// Changes the styles alone.
     fn change_styles(&mut self, change: &Change) -> Result<(), Refusal>
-        requires styling { is_some (styling_of (scene_of self.old).book change.now) ≡ true }
+        requires styling { is_some (styling_in (scene_of self.old) change.now) ≡ true }
         requires in_range { is_in_range change.now ≡ true }
         requires plain { IsChange change.now }
         ensures { Changes self.old self.new change.now result }
     {
         match named_by(change) {
             Some(h) if !self.tree.has(h) => Err(Refusal::Unknown),
-            _ => restyle(&mut self.styles, change),
+            _ => restyle(&mut self.styles, &self.fonts, change),
         }
+    }
+
+    /// Changes the fonts or the images alone.
+    fn change_assets(&mut self, change: &Change) -> Result<(), Refusal>
+        requires assets { is_some (asset_change_in (scene_of self.old) change.now) ≡ true }
+        requires in_range { is_in_range change.now ≡ true }
+        requires plain { IsChange change.now }
+        ensures { Changes self.old self.new change.now result }
+    {
+        build(&mut self.fonts, &mut self.images, change)
     }
 }

@@ -1,16 +1,20 @@
 //! The changes of styles.
-ghost use Rattle.std.specs.Prelude.{◌≡◌, ℕ};
+ghost use Rattle.std.specs.Prelude.{◌≡◌, true, List};
 ghost use Rattle.style_defs.specs.Book.{Book};
-ghost use Rattle.scene_defs.specs.Styling.{styling_of, unknown_font};
+ghost use Rattle.text_defs.specs.Fonts.{Font};
+ghost use Rattle.scene_defs.specs.Ranges.{is_in_range};
+ghost use Rattle.scene_defs.specs.Styling.{styling_of};
 ghost use Rattle.gui_store.specs.Styling.{named_by, IsRestyled};
 
-use gui_base::{Handle, Prop, Refusal};
+use crate::assets::font_fault;
+use gui_base::{Handle, Refusal};
+use gui_font::Fonts;
 use gui_style::Styles;
 use scene_defs::Change;
 
 /// The object that a change of styles names.
 pub(crate) fn named_by(change: &Change) -> Option<Handle>
-    ensures { (book : Book) → result ≡ named_by (styling_of book change.now) }
+    ensures { (fonts : List Font) (book : Book) → result ≡ named_by (styling_of fonts book change.now) }
 {
     match *change {
         Change::Use(h, _, _) | Change::Unuse(h, _, _) => Some(h),
@@ -19,22 +23,19 @@ pub(crate) fn named_by(change: &Change) -> Option<Handle>
     }
 }
 
-/// The only font is the built-in one.
-fn is_unknown_font(prop: Prop, value: i32) -> bool
-    ensures { result ≡ (unknown_font prop value).0 }
-{
-    prop == Prop::TextFont && value > 0
-}
-
 /// Carries out a change of styles, of an object that is there if it names one. Any other change is unknown.
-pub(crate) fn restyle(styles: &mut Styles, change: &Change) -> Result<(), Refusal>
-    ensures { IsRestyled styles.old styles.new (styling_of styles.old.book change.now) result }
+pub(crate) fn restyle(styles: &mut Styles, fonts: &Fonts, change: &Change) -> Result<(), Refusal>
+    requires { is_in_range change.now ≡ true }
+    ensures { IsRestyled styles.old styles.new (styling_of fonts.now.fonts styles.old.book change.now) result }
 {
     match *change {
         Change::Style(s) => styles.style(s),
         Change::Set(s, prop, value) => {
-            if is_unknown_font(prop, value) {
+            if !styles.has_style(s) {
                 return Err(Refusal::Unknown);
+            }
+            if let Some(refusal) = font_fault(fonts, prop, value) {
+                return Err(refusal);
             }
             styles.style_prop(s, prop, value)
         }
@@ -42,8 +43,8 @@ pub(crate) fn restyle(styles: &mut Styles, change: &Change) -> Result<(), Refusa
         Change::Use(h, s, selector) => styles.add_style(h, s, selector),
         Change::Unuse(h, s, selector) => styles.remove_style(h, s, selector),
         Change::Local(h, selector, prop, value) => {
-            if is_unknown_font(prop, value) {
-                return Err(Refusal::Unknown);
+            if let Some(refusal) = font_fault(fonts, prop, value) {
+                return Err(refusal);
             }
             styles.set_local(h, selector, prop, value)
         }

@@ -19,6 +19,22 @@ fn two_slices_of_a_white_frame(rt: HostRuntime) -> Result<(), Fail> {
     refresh_white::<Brand>(&rt, rt.alloc(), Blank::new(1))
 }
 
+/// A panel of five by three pixels that takes slices of two lines.
+fn opened_panel(alloc: Global) -> Result<SimPanel<MemSink>, Fail>
+    ensures { IfOk result (λ panel. HasSizes (SimPanel.state panel) (with_sizes 5 3 2)) }
+{
+    let frames = MemSink::with_capacity(alloc, 0, Vec::new(alloc))?;
+    let plan = SimPlan {
+        fail_open: false,
+        fail_flush: Vec::new(alloc),
+    };
+    let mut panel = SimPanel::new(frames, plan);
+    match panel.open(alloc, 5, 3, 10) {
+        Ok(()) => Ok(panel),
+        Err(fault) => Err(Fail::from(fault)),
+    }
+}
+
 /// Refreshes a panel of five by three pixels in slices of two lines.
 fn refresh_white<L: Ledger>(rt: &impl Abort, alloc: Global, blank: Blank) -> Result<(), Fail>
     requires name { blank.name ≡ L.name }
@@ -27,17 +43,8 @@ fn refresh_white<L: Ledger>(rt: &impl Abort, alloc: Global, blank: Blank) -> Res
 {
     let (book, all) = blank.open::<L>();
     let mut steps = Steps::new(book, all);
+    let mut panel = opened_panel(alloc)?;
     let mut gui = Gui::open(alloc, &Limits::with_sizes(5, 3, 2))?;
-    let frames = MemSink::with_capacity(alloc, 0, Vec::new(alloc))?;
-    let plan = SimPlan {
-        fail_open: false,
-        fail_flush: Vec::new(alloc),
-    };
-    let mut panel = SimPanel::new(frames, plan);
-    match panel.open(alloc, 5, 3, 10) {
-        Ok(()) => {}
-        Err(fault) => return Err(Fail::from(fault)),
-    }
     assert_eq!(rt; gui.refresh(&mut panel, &mut steps), Refreshed::Done);
     assert_eq!(rt; panel.sent(), 15);
     for y in 0..3 {
@@ -58,8 +65,8 @@ fn reply(gui: &mut Gui, log: &mut MemSink, change: Change) -> Option<Reply>
 #[test]
 fn replies_to_changes_and_lends_the_scene(rt: HostRuntime) -> Result<(), Fail> {
     let alloc = rt.alloc();
-    let mut gui = Gui::open(alloc, &Limits::with_sizes(4, 2, 1))?;
     let mut log = MemSink::with_capacity(alloc, 0, Vec::new(alloc))?;
+    let mut gui = Gui::open(alloc, &Limits::with_sizes(4, 2, 1))?;
     let (h, done) = (Handle(10), Some(Reply::Ok { noted: false }));
     let range = Some(Reply::Refused(Refusal::Range));
     assert_eq!(rt;

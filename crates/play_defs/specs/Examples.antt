@@ -90,7 +90,8 @@ pub record PressesAreWorked : Type 0 where
       told pointer_fed None (touch true 7 ∷ tick 407 ∷ touch false 407 ∷ [])
       ≡ Press ∷ Long ∷ Release true ∷ []
   pub repeats :
-      told pointer_fed None (touch true 0 ∷ tick 400 ∷ tick 499 ∷ tick 500 ∷ tick 599 ∷ tick 601 ∷ tick 700 ∷ [])
+      told pointer_fed None
+      (touch true 0 ∷ tick 400 ∷ tick 499 ∷ tick 500 ∷ tick 599 ∷ tick 601 ∷ tick 700 ∷ [])
       ≡ Press ∷ Long ∷ Repeat ∷ Repeat ∷ []
   -- a late tick makes one event, and the next repeat is 100 ms after it
   pub late :
@@ -103,7 +104,8 @@ key name down now = (Some (record { key = name; down = down }), now)
 
 pub record KeysAreWorked : Type 0 where
   pub enter :
-      told keypad_fed None (key Enter true 0 ∷ key Enter true 9 ∷ tick 400 ∷ tick 500 ∷ key Enter false 501 ∷ [])
+      told keypad_fed None
+      (key Enter true 0 ∷ key Enter true 9 ∷ tick 400 ∷ tick 500 ∷ key Enter false 501 ∷ [])
       ≡ Press ∷ Long ∷ Repeat ∷ Release true ∷ []
   -- a second key lets go of Enter; a key that is not held is not let go of
   pub second :

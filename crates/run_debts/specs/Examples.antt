@@ -25,6 +25,8 @@ machine = record {
         (Tree (new_object 2 Layer) Empty (Tree (new_object 3 Screen) Empty Empty));
     active = 3;
     book = record { styles = []; locals = replicate 12 []; uses = replicate 12 [] };
+    fonts = [];
+    images = [];
     limits = with_sizes 120 60 4;
   };
 }

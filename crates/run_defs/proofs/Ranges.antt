@@ -12,13 +12,15 @@ use Rattle.gui_base.specs.Intervals.{is_counted, is_within}
 use Rattle.gui_base.specs.Names.{table, named}
 use Rattle.gui_base.specs.declared.intervals.Count.{Count}
 use Rattle.gui_base.specs.declared.intervals.Interval.{Interval}
-use Rattle.gui_base.specs.declared.intervals.TheConstants.{HANDLE, NEW_HANDLE, INDEX, EXTENT, PERCENT, COORDINATE, GROW, COLOR, STYLE, TEXT_ALIGN}
+use Rattle.gui_base.specs.declared.intervals.TheConstants.{HANDLE, NEW_HANDLE, INDEX, EXTENT, PERCENT, COORDINATE, GROW, COLOR, STYLE, TEXT_ALIGN, FONT, FONT_HEIGHT, ADVANCE, CODE, GLYPH_WIDTH, GLYPH_HEIGHT, GLYPH_OFFSET, IMAGE, IMAGE_SIDE, IMAGE_ROW}
 use Rattle.gui_base.specs.declared.words.Kind.TheVariants.{Obj}
 use Rattle.gui_base.specs.declared.words.TextAlign.{TextAlign}
 use Rattle.gui_base.specs.declared.props.Prop.{Prop}
 use Rattle.gui_base.specs.declared.props.Prop.TheVariants as prop
 use Rattle.gui_base.specs.Props.{is_value, values_of}
 use Rattle.scene_defs.specs.Row.{is_size, is_cross}
+use Rattle.run_defs.specs.declared.names.AssetName.{AssetName}
+use Rattle.run_defs.specs.declared.names.AssetName.TheVariants as asset
 use Rattle.run_defs.specs.declared.names.Name.{Name}
 use Rattle.run_defs.specs.declared.names.Name.TheVariants as name
 use Rattle.run_defs.specs.declared.names.RowName.{RowName}
@@ -28,13 +30,13 @@ use Rattle.run_defs.specs.declared.names.StyleName.TheVariants as style
 use Rattle.run_defs.specs.declared.names.TreeName.{TreeName}
 use Rattle.run_defs.specs.declared.names.TreeName.TheVariants as tree
 use Rattle.run_defs.specs.declared.names.TheConstants.{COMMANDS}
-use Rattle.run_defs.specs.Commands.{handle, new_handle, index, extent, coordinate, cross_placing, grow, kind, style_number, color_value, align_number, value_for}
-use Rattle.run_defs.specs.Commands.{tree_fields, row_fields, style_fields, change_line, line_fields, named_says, command_says}
+use Rattle.run_defs.specs.Commands.{handle, new_handle, index, extent, coordinate, cross_placing, grow, kind, style_number, color_value, align_number, value_for, code, glyph_offset}
+use Rattle.run_defs.specs.Commands.{tree_fields, row_fields, style_fields, asset_fields, change_line, line_fields, named_says, command_says}
 use Rattle.run_defs.specs.Fields.{Progress, number_in, count_in, value, start}
-use Rattle.run_defs.specs.Language.{Word, mapped, words_of}
+use Rattle.run_defs.specs.Language.{Word, Reading, mapped, words_of}
 use Rattle.run_defs.specs.Lengths.{before_percent, length_by, length_said}
 use Rattle.run_defs.specs.Laws.{IsInRange, SaysInRange}
-use Rattle.run_defs.specs.Numbers.{within, number, number_of, natural, color_from, color}
+use Rattle.run_defs.specs.Numbers.{within, number, number_of, natural, color_from, color, code_from, code_said}
 use Rattle.run_defs.specs.Script.{line_says, words_say}
 use Rattle.run_defs.proofs.Fields.{value-over, value-is}
 
@@ -123,7 +125,46 @@ value-in prop.TextColor at = color_value-in at
 value-in prop.TextAlign at = rw value-over (align-in _)
 value-in prop at = number-in (values_of prop) refl at
 
+font-in : (at : Progress) → is_counted FONT (value (count_in FONT) at) ≡ true
+font-in at = count-in FONT refl at
+
+font_height-in : (at : Progress) → is_counted FONT_HEIGHT (value (count_in FONT_HEIGHT) at) ≡ true
+font_height-in at = count-in FONT_HEIGHT refl at
+
+advance-in : (at : Progress) → is_counted ADVANCE (value (count_in ADVANCE) at) ≡ true
+advance-in at = count-in ADVANCE refl at
+
+glyph_width-in : (at : Progress) → is_counted GLYPH_WIDTH (value (count_in GLYPH_WIDTH) at) ≡ true
+glyph_width-in at = count-in GLYPH_WIDTH refl at
+
+glyph_height-in : (at : Progress) → is_counted GLYPH_HEIGHT (value (count_in GLYPH_HEIGHT) at) ≡ true
+glyph_height-in at = count-in GLYPH_HEIGHT refl at
+
+glyph_offset-in : (at : Progress) → is_within GLYPH_OFFSET (value glyph_offset at) ≡ true
+glyph_offset-in at = number-in GLYPH_OFFSET refl at
+
+image-in : (at : Progress) → is_counted IMAGE (value (count_in IMAGE) at) ≡ true
+image-in at = count-in IMAGE refl at
+
+image_side-in : (at : Progress) → is_counted IMAGE_SIDE (value (count_in IMAGE_SIDE) at) ≡ true
+image_side-in at = count-in IMAGE_SIDE refl at
+
+image_row-in : (at : Progress) → is_counted IMAGE_ROW (value (count_in IMAGE_ROW) at) ≡ true
+image_row-in at = count-in IMAGE_ROW refl at
+
+code-ok : (word : Word) → IfOk (code_said word) (λ n. is_within CODE (pos n) ≡ true)
+unfolding code_said
+code-ok word = by (natural (unsigned_abs CODE.low) (unsigned_abs CODE.high) word) (natural-ok (unsigned_abs CODE.low) (unsigned_abs CODE.high) word) where
+  by : (r : Reading ℕ) → IfOk r (λ n. (nat_le (unsigned_abs CODE.low) n && nat_le n (unsigned_abs CODE.high)) ≡ true) → IfOk (code_from r) (λ n. is_within CODE (pos n) ≡ true)
+  by (Err fault) is = tt
+  by (Ok n) is = grind (arith, ints, nat_tests, is)
+
+code-in : (at : Progress) → is_within CODE (pos (value code at)) ≡ true
+code-in at = value-is code (λ n. is_within CODE (pos n)) refl code-ok at
+
 ruleset inside = (handle-in, new_handle-in, index-in, extent-in, coordinate-in, cross-in, grow-in, style_number-in, value-in)
+
+ruleset asset_inside = (font-in, font_height-in, advance-in, glyph_width-in, glyph_height-in, glyph_offset-in, code-in, image-in, image_side-in, image_row-in)
 
 -- a command makes no kind that only roots have
 kind-is : (at : Progress) → value kind at ≡ Obj
@@ -142,11 +183,16 @@ style-in : (name : StyleName) (at : Progress) → IsInRange (Ok (change_line (st
 style-in style.Style at = (simp inside, tt)
 style-in name at = (simp inside, tt)
 
+asset-in : (name : AssetName) (at : Progress) → IsInRange (Ok (change_line (asset_fields name at)).made)
+asset-in asset.Font at = (simp asset_inside, tt)
+asset-in name at = (simp asset_inside, tt)
+
 line-in : (name : Name) (at : Progress) → IsInRange (Ok (line_fields name at).made)
 line-in name.Frame at = tt
 line-in (name.Tree n) at = tree-in n at
 line-in (name.Row n) at = row-in n at
 line-in (name.Style n) at = style-in n at
+line-in (name.Asset n) at = asset-in n at
 
 words-in : (words : List Word) → IsInRange (words_say words)
 unfolding command_says

@@ -2,6 +2,8 @@
 use Rattle.std.proofs.Common.{◌≡◌, refl, true, false, [], ◌∷◌, map}
 use Rattle.std.specs.Prelude.{codes, Ok, Err, pos, neg_ℤ}
 use Rattle.hex.specs.Hex.{decode_pairs}
+use Rattle.gui_base.specs.Bytes.{bytes_of}
+use Rattle.gui_base.specs.declared.words.Format.TheVariants.{Rgb565Alpha}
 use Rattle.gui_base.specs.Bits.{with_bit}
 use Rattle.gui_base.specs.Names.{named}
 use Rattle.gui_base.specs.declared.words.Flag.TheVariants.{Bubble}
@@ -20,7 +22,7 @@ use Rattle.run_defs.specs.declared.LineFault.TheVariants.{Syntax, Range}
 use Rattle.run_defs.specs.Commands.{command_says, state, property, align, flow}
 use Rattle.run_defs.specs.Lengths.{length_said}
 use Rattle.run_defs.specs.Fields.{over, value, past}
-use Rattle.run_defs.specs.Numbers.{number, natural, color}
+use Rattle.run_defs.specs.Numbers.{number, natural, color, code_said, bytes_said}
 use Rattle.run_defs.specs.Selectors.{selector_named, state_named}
 use Rattle.run_defs.specs.Script.{Said, line_says, parse}
 
@@ -44,6 +46,11 @@ worked : map (λ line. parse line) (
     ∷ codes "use 12 7 knob:pressed+checked"
     ∷ codes "unuse 12 7 main:user4+user4"
     ∷ codes "set 7 text_align right"
+    ∷ codes "font 1 10 6"
+    ∷ codes "glyph 1 65 7 3 2 -1 64 a0Ff"
+    ∷ codes "endfont 99"
+    ∷ codes "image 999 565a 256 1"
+    ∷ codes "row 999 255 -"
     ∷ []) ≡
     Ok Frame
     ∷ Ok Blank
@@ -61,8 +68,13 @@ worked : map (λ line. parse line) (
     ∷ asks (change.Use (record { 0 = 12 }) 7 (record { part = Knob; states = 33 }))
     ∷ asks (change.Unuse (record { 0 = 12 }) 7 (record { part = Main; states = 32768 }))
     ∷ asks (change.Set 7 TextAlign (pos 2))
+    ∷ asks (change.Font 1 10 6)
+    ∷ asks (change.Glyph 1 65 (record { advance = 7; w = 3; h = 2; ox = neg_ℤ (pos 1); oy = pos 64 }) (bytes_of (160 ∷ 255 ∷ [])))
+    ∷ asks (change.EndFont 99)
+    ∷ asks (change.Image 999 Rgb565Alpha 256 1)
+    ∷ asks (change.ImageRow 999 255 (bytes_of []))
     ∷ []
-unfolding line_says command_says named value past over number natural color decode_pairs state property align flow length_said selector_named state_named with_bit
+unfolding line_says command_says named value past over number natural color code_said bytes_said decode_pairs state property align flow length_said selector_named state_named with_bit
 worked = refl
 
 -- the form of the whole line comes before the intervals of its numbers, and what a value may be depends on the property
@@ -81,6 +93,17 @@ faults : map (λ line. parse line) (
     ∷ codes "set 7 pad_rows 1001"
     ∷ codes "use 12 1000 main:"
     ∷ codes "use 12 1000 main:pressed"
-    ∷ []) ≡ Err Range ∷ Err Syntax ∷ Err Syntax ∷ Err Syntax ∷ Err Range ∷ Err Syntax ∷ Err Syntax ∷ Err Range ∷ Err Range ∷ Err Syntax ∷ Err Range ∷ Err Syntax ∷ Err Syntax ∷ Err Range ∷ []
-unfolding line_says command_says named value past over number natural color decode_pairs state property align flow length_said selector_named state_named with_bit
+    ∷ codes "font 0 10 6"
+    ∷ codes "glyph 1 31 0 0 0 0 0 -"
+    ∷ codes "glyph 1 55296 0 0 0 0 0 -"
+    ∷ codes "glyph 1 1114112 0 0 0 0 0 -"
+    ∷ codes "glyph 1 31 0 0 0 0 0 abc"
+    ∷ codes "glyph 1 65 0 0 0 0 0"
+    ∷ codes "image 1 rgb 1 1"
+    ∷ codes "image 1 565 0 1"
+    ∷ codes "row 1 256 00"
+    ∷ codes "row 1 0 0g"
+    ∷ []) ≡ Err Range ∷ Err Syntax ∷ Err Syntax ∷ Err Syntax ∷ Err Range ∷ Err Syntax ∷ Err Syntax ∷ Err Range ∷ Err Range ∷ Err Syntax ∷ Err Range ∷ Err Syntax ∷ Err Syntax ∷ Err Range ∷
+    Err Range ∷ Err Range ∷ Err Range ∷ Err Range ∷ Err Syntax ∷ Err Syntax ∷ Err Syntax ∷ Err Range ∷ Err Range ∷ Err Syntax ∷ []
+unfolding line_says command_says named value past over number natural color code_said bytes_said decode_pairs state property align flow length_said selector_named state_named with_bit
 faults = refl

@@ -1,17 +1,22 @@
 -- The commands, each by its fields in their order.
-use Rattle.std.specs.Prelude.{ℕ, ℤ, pos, Bool, false, List, Some, None, Err}
+use Rattle.std.specs.Prelude.{ℕ, ℤ, pos, Bool, false, List, [], Some, None, Err}
 use Rattle.std.specs.declared.option.Option.{Option}
 use Rattle.gui_base.specs.declared.Handle.{Handle}
 use Rattle.gui_base.specs.declared.intervals.TheConstants.{HANDLE, NEW_HANDLE, INDEX, COORDINATE, GROW}
-use Rattle.gui_base.specs.declared.intervals.TheConstants.{STYLE}
+use Rattle.gui_base.specs.declared.intervals.TheConstants.{STYLE, FONT, FONT_HEIGHT, ADVANCE, GLYPH_WIDTH}
+use Rattle.gui_base.specs.declared.intervals.TheConstants.{GLYPH_HEIGHT, GLYPH_OFFSET, IMAGE, IMAGE_SIDE}
+use Rattle.gui_base.specs.declared.intervals.TheConstants.{IMAGE_ROW}
 use Rattle.gui_base.specs.declared.words.TheConstants.{KINDS, FLAGS, ON_OFF, STATES, TEXT_ALIGNS, ALIGNS}
-use Rattle.gui_base.specs.declared.words.TheConstants.{FLOWS, PLACINGS, CROSS_PLACINGS}
+use Rattle.gui_base.specs.declared.words.TheConstants.{FLOWS, PLACINGS, CROSS_PLACINGS, FORMATS}
+use Rattle.gui_base.specs.declared.bytes.Bytes.{Bytes}
 use Rattle.gui_base.specs.declared.words.Align.{Align}
 use Rattle.gui_base.specs.declared.words.Align.TheVariants.{TopLeft}
 use Rattle.gui_base.specs.declared.words.Flag.{Flag}
 use Rattle.gui_base.specs.declared.words.Flag.TheVariants.{Hidden}
 use Rattle.gui_base.specs.declared.words.Flow.{Flow}
 use Rattle.gui_base.specs.declared.words.Flow.TheVariants.{Free}
+use Rattle.gui_base.specs.declared.words.Format.{Format}
+use Rattle.gui_base.specs.declared.words.Format.TheVariants.{Rgb565}
 use Rattle.gui_base.specs.declared.words.Kind.{Kind}
 use Rattle.gui_base.specs.declared.words.Kind.TheVariants.{Obj}
 use Rattle.gui_base.specs.declared.words.Length.{Length}
@@ -27,14 +32,18 @@ use Rattle.gui_base.specs.declared.words.TextAlign.TheVariants.{Left, Center, Ri
 use Rattle.gui_base.specs.declared.props.Prop.{Prop}
 use Rattle.gui_base.specs.declared.props.Prop.TheVariants as prop
 use Rattle.gui_base.specs.declared.props.TheConstants.{PROPS}
+use Rattle.gui_base.specs.Bytes.{bytes_of}
 use Rattle.gui_base.specs.Names.{table, named}
 use Rattle.gui_base.specs.Props.{values_of}
+use Rattle.text_defs.specs.declared.GlyphBox.{GlyphBox}
 use Rattle.scene_defs.specs.declared.Change.{Change}
 use Rattle.scene_defs.specs.declared.Change.TheVariants as change
 use Rattle.run_defs.specs.declared.Command.TheVariants.{Change as CommandOf}
 use Rattle.run_defs.specs.declared.Line.{Line}
 use Rattle.run_defs.specs.declared.Line.TheVariants.{Frame, Make}
 use Rattle.run_defs.specs.declared.LineFault.TheVariants.{Syntax}
+use Rattle.run_defs.specs.declared.names.AssetName.{AssetName}
+use Rattle.run_defs.specs.declared.names.AssetName.TheVariants as asset
 use Rattle.run_defs.specs.declared.names.Name.{Name}
 use Rattle.run_defs.specs.declared.names.Name.TheVariants as name
 use Rattle.run_defs.specs.declared.names.RowName.{RowName}
@@ -48,7 +57,7 @@ use Rattle.run_defs.specs.Fields.{Field, Progress, Made, number_in, count_in, ov
 use Rattle.run_defs.specs.Fields.{or_syntax, with_two, start, ended}
 use Rattle.run_defs.specs.Language.{Word, Reading}
 use Rattle.run_defs.specs.Lengths.{length_said}
-use Rattle.run_defs.specs.Numbers.{color}
+use Rattle.run_defs.specs.Numbers.{color, code_said, bytes_said}
 use Rattle.run_defs.specs.Selectors.{selector_named}
 
 abbrev pub handle : Field Handle
@@ -131,6 +140,23 @@ value_for prop.TextColor = color_value
 value_for prop.TextAlign = align_value
 value_for prop = number_in (values_of prop)
 
+-- the code of a character
+abbrev pub code : Field ℕ
+code = record { says = code_said; stand_in = 32 }
+
+-- where the box of a glyph stands in its cell
+abbrev pub glyph_offset : Field ℤ
+glyph_offset = number_in GLYPH_OFFSET
+
+abbrev pub format : Field Format
+format = name_in (table {A = Format} FORMATS) Rgb565
+
+abbrev pub image_side : Field ℕ
+image_side = count_in IMAGE_SIDE
+
+abbrev pub bytes : Field Bytes
+bytes = record { says = bytes_said; stand_in = bytes_of [] }
+
 -- the changes of the trees
 abbrev pub tree_fields : TreeName → Progress → Made Change
 tree_fields tree.Screen at = fields change.Screen at ▹ new_handle
@@ -163,6 +189,23 @@ style_fields style.Unuse at = fields change.Unuse at ▹ handle ▹ style_number
 style_fields style.Local at = with_two (fields change.Local at ▹ handle ▹ selector) property value_for
 style_fields style.Unlocal at = fields change.Unlocal at ▹ handle ▹ selector ▹ property
 
+abbrev pub box_of : ℕ → ℕ → ℕ → ℤ → ℤ → GlyphBox
+box_of advance w h ox oy = record { advance = advance; w = w; h = h; ox = ox; oy = oy }
+
+abbrev pub glyph_change : ℕ → ℕ → ℕ → ℕ → ℕ → ℤ → ℤ → Bytes → Change
+glyph_change font code advance w h ox oy rows = change.Glyph font code (box_of advance w h ox oy) rows
+
+-- the changes of the fonts and the images
+abbrev pub asset_fields : AssetName → Progress → Made Change
+asset_fields asset.Font at =
+    fields change.Font at ▹ count_in FONT ▹ count_in FONT_HEIGHT ▹ count_in ADVANCE
+asset_fields asset.Glyph at =
+    fields glyph_change at ▹ count_in FONT ▹ code ▹ count_in ADVANCE ▹ count_in GLYPH_WIDTH
+    ▹ count_in GLYPH_HEIGHT ▹ glyph_offset ▹ glyph_offset ▹ bytes
+asset_fields asset.EndFont at = fields change.EndFont at ▹ count_in FONT
+asset_fields asset.Image at = fields change.Image at ▹ count_in IMAGE ▹ format ▹ image_side ▹ image_side
+asset_fields asset.ImageRow at = fields change.ImageRow at ▹ count_in IMAGE ▹ count_in IMAGE_ROW ▹ bytes
+
 -- the line of a change
 abbrev pub change_line : Made Change → Made Line
 change_line m = record { made = Make (CommandOf m.made); at = m.at }
@@ -172,6 +215,7 @@ line_fields name.Frame at = fields Frame at
 line_fields (name.Tree n) at = change_line (tree_fields n at)
 line_fields (name.Row n) at = change_line (row_fields n at)
 line_fields (name.Style n) at = change_line (style_fields n at)
+line_fields (name.Asset n) at = change_line (asset_fields n at)
 
 abbrev pub named_says : Option Name → List Word → Reading Line
 named_says None words = Err Syntax

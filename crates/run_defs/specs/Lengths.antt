@@ -1,4 +1,5 @@
--- What a word says as a wanted width or height: a number of pixels, a number and a percent sign, or `content`.
+-- What a word says as a wanted width or height: a number of pixels, a number and a percent sign, or
+-- `content`.
 use Rattle.std.specs.Prelude.{ℕ, ◌-◌, ◌==◌, List, length, take, codes, bytes_eq, if◌then◌else◌, Some, None}
 use Rattle.std.specs.Prelude.{Ok, get_or}
 use Rattle.std.specs.declared.option.Option.{Option}

@@ -1,11 +1,15 @@
--- Numbers and colours.
+-- Numbers, colours, codes of characters, and bytes.
 use Rattle.std.specs.Prelude.{ℕ, ◌+◌, ◌-◌, ◌*◌, Bool, false, ◌==◌, ◌&&◌, nat_lt, nat_le, if◌then◌else◌, List}
 use Rattle.std.specs.Prelude.{[], ◌∷◌, fold, ℤ, pos, neg_ℤ, int_le, unsigned_abs, Some, None, Ok, Err}
+use Rattle.std.specs.Prelude.{codes, bytes_eq, length}
 use Rattle.std.specs.List.{list_all}
 use Rattle.std.specs.declared.option.Option.{Option}
 use Rattle.std.specs.declared.result.Result.{Result}
-use Rattle.hex.specs.Hex.{decode_sized}
+use Rattle.hex.specs.Hex.{decode_sized, decode_of}
 use Rattle.hex.specs.declared.error.FromHexError.{FromHexError}
+use Rattle.gui_base.specs.Bytes.{bytes_of}
+use Rattle.gui_base.specs.declared.bytes.Bytes.{Bytes}
+use Rattle.gui_base.specs.declared.intervals.TheConstants.{CODE}
 use Rattle.run_defs.specs.declared.LineFault.TheVariants.{Syntax, Range}
 use Rattle.run_defs.specs.Language.{Word, Reading, mapped}
 
@@ -52,3 +56,30 @@ color_from (Err e) = Err Syntax
 unfoldable pub color : Word → Reading ℤ
 color [] = Err Syntax
 color (mark ∷ digits) = if mark == 35 then color_from (decode_sized digits 3) else Err Syntax
+
+-- a number that Unicode gives to no character of its own
+abbrev pub is_surrogate : ℕ → Bool
+is_surrogate n = nat_le 55296 n && nat_le n 57343
+
+abbrev pub code_from : Reading ℕ → Reading ℕ
+code_from (Ok n) = if is_surrogate n then Err Range else Ok n
+code_from (Err fault) = Err fault
+
+-- the code of a character that may have a glyph
+unfoldable pub code_said : Word → Reading ℕ
+code_said word = code_from (natural (unsigned_abs CODE.low) (unsigned_abs CODE.high) word)
+
+abbrev pub bytes_from : Result (List ℕ) FromHexError → Reading Bytes
+bytes_from (Ok bytes) = Ok (bytes_of bytes)
+bytes_from (Err e) = Err Syntax
+
+-- the most digits that a word can have: those of the longest line
+abbrev pub most_digits : ℕ
+most_digits = 4096
+
+-- bytes: an even number of hexadecimal digits of either case, or a dash for none
+unfoldable pub bytes_said : Word → Reading Bytes
+bytes_said [] = Err Syntax
+bytes_said (b ∷ bs) =
+    if bytes_eq (b ∷ bs) (codes "-") then Ok (bytes_of [])
+    else if nat_lt most_digits (length (b ∷ bs)) then Err Syntax else bytes_from (decode_of (b ∷ bs))

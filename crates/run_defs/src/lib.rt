@@ -9,7 +9,7 @@ ghost use Rattle.run_defs.specs.Laws.{SameWordsSaySame};
 mod names;
 
 use gui_base::Refusal;
-pub use names::{COMMANDS, Name, RowName, StyleName, TreeName};
+pub use names::{AssetName, COMMANDS, Name, RowName, StyleName, TreeName};
 use scene_defs::Change;
 use thiserror::Error;
 

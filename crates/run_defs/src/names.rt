@@ -38,6 +38,16 @@ pub enum StyleName {
     Unlocal,
 }
 
+/// A change of the fonts or the images.
+#[derive(Clone, Copy)]
+pub enum AssetName {
+    Font,
+    Glyph,
+    EndFont,
+    Image,
+    ImageRow,
+}
+
 /// The first word of a line that is neither blank nor a comment.
 #[derive(Clone, Copy)]
 pub enum Name {
@@ -45,10 +55,11 @@ pub enum Name {
     Tree(TreeName),
     Row(RowName),
     Style(StyleName),
+    Asset(AssetName),
 }
 
 /// The names of all commands.
-pub const COMMANDS: [(&'static str, Name); 24] = [
+pub const COMMANDS: [(&'static str, Name); 29] = [
     ("frame", Name::Frame),
     ("screen", Name::Tree(TreeName::Screen)),
     ("new", Name::Tree(TreeName::New)),
@@ -73,4 +84,9 @@ pub const COMMANDS: [(&'static str, Name); 24] = [
     ("unuse", Name::Style(StyleName::Unuse)),
     ("local", Name::Style(StyleName::Local)),
     ("unlocal", Name::Style(StyleName::Unlocal)),
+    ("font", Name::Asset(AssetName::Font)),
+    ("glyph", Name::Asset(AssetName::Glyph)),
+    ("endfont", Name::Asset(AssetName::EndFont)),
+    ("image", Name::Asset(AssetName::Image)),
+    ("row", Name::Asset(AssetName::ImageRow)),
 ];

@@ -1,3 +1,4 @@
+pub mod Assets
 pub mod Changes
 pub mod Distinct
 pub mod Handles

@@ -1,15 +1,16 @@
 -- A change keeps a scene in order, and its slots add up.
-use Rattle.std.proofs.Common.{◌≡◌, ◌<◌, ◌≤◌, ◌≢◌, ◌∙◌, sym, ap, subst, ℕ, List, length, ◌+◌, ◌-◌, zero, suc, Bool, true, false, cond, eqb, Option, Some, None, is_some, refl, arith, rules, inl, inr}
-use Rattle.std.specs.List.{list_any}
+use Rattle.std.proofs.Common.{◌≡◌, ◌<◌, ◌≤◌, ◌≢◌, ◌∙◌, sym, ap, subst, ℕ, List, [], ◌∷◌, length, length-append, sum_by, ◌+◌, ◌-◌, zero, suc, Bool, true, false, cond, eqb, Option, Some, None, is_some, refl, arith, rules, inl, inr}
+use Rattle.std.specs.List.{list_any, list_all}
 use Rattle.std.specs.Prelude.{if◌then◌else◌, not, ◌&&◌, ◌||◌, ◌==◌, nat_le}
 use Rattle.std.proofs.lemmas.Bool.{cases_Bool, eqb-true, not-false, ltb-false, and_parts, false≢true}
 use Rattle.std.proofs.lemmas.List.Folds.{list_any-append}
 use Rattle.std.proofs.lemmas.Bool.Decides.{nat_tests}
+use Rattle.std.proofs.lemmas.List.Sums.{sum_by_push}
 use Rattle.gui_base.specs.declared.pools.TheConstants.{POOLS}
 use Rattle.gui_base.specs.declared.Handle.{Handle}
 use Rattle.gui_base.specs.declared.intervals.TheConstants.{HANDLE, NEW_HANDLE, MAX_DEPTH}
 use Rattle.gui_base.specs.declared.limits.Pool.{Pool}
-use Rattle.gui_base.specs.declared.limits.Pool.TheVariants.{Objects, Styles, Entries, Uses}
+use Rattle.gui_base.specs.declared.limits.Pool.TheVariants.{Objects, Styles, Entries, Uses, Fonts, Glyphs, Ink, Images, Pixels}
 use Rattle.gui_base.specs.declared.refusal.Refusal.{Refusal}
 use Rattle.gui_base.specs.declared.words.Kind.{Kind}
 use Rattle.gui_base.specs.declared.words.Kind.TheVariants.{Screen, Obj}
@@ -21,21 +22,25 @@ use Rattle.scene_defs.specs.declared.Change.{Change}
 use Rattle.scene_defs.specs.declared.Change.TheVariants as change
 use Rattle.scene_defs.specs.declared.Row.{Row}
 use Rattle.scene_defs.specs.Row.{is_row, row_after, row_set}
-use Rattle.scene_defs.specs.Scene.{Object, Scene, is_at, handles_of, first_scene, is_there, object_at, object_by, spare, new_object}
+use Rattle.scene_defs.specs.Scene.{Object, Scene, is_at, handles_of, first_scene, is_there, object_at, object_by, spare, new_object, glyph_count, ink_count, pixel_count}
 use Rattle.scene_defs.specs.Change.{first_short, tests, answer_of, answer_in_range, need_of, freed_by, scene_after, tree_below, below, parent_object, is_screen, over_row, with_screen, with_object, without, last_below, at_index_below, with_row}
+use Rattle.text_defs.specs.Building.{new_font, with_font, with_glyph, with_finished}
+use Rattle.text_defs.specs.Fonts.{Font}
+use Rattle.text_defs.specs.Images.{Image, with_image, with_row as with_image_row}
+use Rattle.scene_defs.specs.Assets.{rows_of, glyph_in}
 use Rattle.scene_defs.specs.Laws.{SlotsAddUp}
 use Rattle.scene_defs.specs.Ranges.{is_in_range}
-use Rattle.scene_defs.specs.Styling.{styling_of}
 use Rattle.style_defs.specs.Book.{Book, entries_in, uses_in, a_setting, a_use, an_entry}
 use Rattle.style_defs.specs.Cascade.{Style}
 use Rattle.style_defs.specs.InOrder.{IsBook, IsBare}
 use Rattle.style_defs.proofs.Empty.{empty_in_order, empty_bare, no_entries, no_uses}
 use Rattle.style_defs.proofs.Changing.{Becomes, nobody, style_becomes, prop_becomes, unset_becomes, use_becomes, unuse_becomes, local_becomes, unlocal_becomes, all_forgets}
-use Rattle.scene_defs.specs.Valid.{is_root_object, is_plain, is_root_at, AreTrees, AreRows, FitPools, IsValid, IsChange, FirstIsValid, ChangeKeepsValid, ValidIsShowable}
+use Rattle.scene_defs.specs.Valid.{is_root_object, is_plain, is_root_at, AreTrees, AreRows, AreAssets, is_among, stand_once, is_font, is_image, font_names, image_names, FitPools, IsValid, IsChange, FirstIsValid, ChangeKeepsValid, ValidIsShowable}
 use Rattle.scene_defs.proofs.Changes.{Fail, tests-fail, range_done, room_in_range, after_keeps}
 use Rattle.scene_defs.proofs.Distinct.{there, IsDistinct, distinct_once, count-off}
 use Rattle.scene_defs.proofs.Handles.{has-handles, depth-handles, parent-handles, below-handles, height-handles}
 use Rattle.scene_defs.proofs.InRange.{row_in_range}
+use Rattle.scene_defs.proofs.Assets.{once-append, all-append, font-among, image-among, names-append, image_names-append, names-given, length-given, fonts-given, glyphs-given, ink-given, are_done, are_rowed}
 use Rattle.scene_defs.proofs.RowKinds.{is_top, fault, faults, root_at, roots-weight, roots-tree, too_low, low-height, screen_root, depth-height, depth-there, depth-below, depth-cut, parent-depth, there-cut, parent-left}
 use Rattle.scene_defs.proofs.Totals.{total, total-cut, one, one_at, size-total, count-total, Weighing, weight, Joins, weight-total, weight-below, weight-and_then, weight-put_at, weight-cut, weight-with_children, weight-with_row}
 
@@ -241,6 +246,17 @@ book_alone scene change v book need freed rows = record {
   handles = λ k. omega (arith, rows (one_at k));
 }
 
+-- a change of the fonts and images leaves them too
+assets_alone : (scene : Scene) (change : Change) → IsValid scene → (fonts : List Font) (images : List Image) → need_of scene change Objects ≡ 0 →
+    freed_by scene change Objects ≡ 0 → ((w : Object → ℕ) → added_sum scene change w ≡ removed_sum scene change w) →
+    Leaves scene change (record scene { fonts = fonts; images = images })
+assets_alone scene change v fonts images need freed rows = record {
+  trees = v.trees;
+  rows = v.rows;
+  objects = omega (arith, need, freed);
+  handles = λ k. omega (arith, rows (one_at k));
+}
+
 leaves : (scene : Scene) (change : Change) → IsValid scene → is_in_range change ≡ true → IsChange change → Fail (tests scene change) →
     Leaves scene change (scene_after scene change)
 leaves scene (change.Screen n) v fits c t =
@@ -285,6 +301,11 @@ leaves scene (change.Use h s selector) v fits c t = book_alone scene (change.Use
 leaves scene (change.Unuse h s selector) v fits c t = book_alone scene (change.Unuse h s selector) v _ refl refl (λ w. refl)
 leaves scene (change.Local h selector prop value) v fits c t = book_alone scene (change.Local h selector prop value) v _ refl refl (λ w. refl)
 leaves scene (change.Unlocal h selector prop) v fits c t = book_alone scene (change.Unlocal h selector prop) v _ refl refl (λ w. refl)
+leaves scene (change.Font f height advance) v fits c t = assets_alone scene (change.Font f height advance) v _ _ refl refl (λ w. refl)
+leaves scene (change.Glyph f code shape bytes) v fits c t = assets_alone scene (change.Glyph f code shape bytes) v _ _ refl refl (λ w. refl)
+leaves scene (change.EndFont f) v fits c t = assets_alone scene (change.EndFont f) v _ _ refl refl (λ w. refl)
+leaves scene (change.Image i format w h) v fits c t = assets_alone scene (change.Image i format w h) v _ _ refl refl (λ w. refl)
+leaves scene (change.ImageRow i y bytes) v fits c t = assets_alone scene (change.ImageRow i y bytes) v _ _ refl refl (λ w. refl)
 leaves scene change v fits c t =
     row_left scene change (handle_in (row_set change)) v refl (sym (has-handles scene.trees (handle_in (row_set change)).0) ∙ not-false _ t.0) fits
 
@@ -392,23 +413,122 @@ pub after_book : (scene : Scene) (change : Change) → is_in_range change ≡ tr
 after_book scene change fits c e v =
     leaves_book scene change v fits (tests-fail (tests scene change) (first_short scene change POOLS) e) (after_leaves scene change fits c e v)
 
+-- The fonts and images of a scene that a change leaves, and the slots that it takes of their pools.
+pub record LeavesAssets (scene : Scene) (change : Change) (after : Scene) : Type 0 where
+  pub assets : AreAssets after.fonts after.images
+  pub fonts : length after.fonts + freed_by scene change Fonts ≡ need_of scene change Fonts + length scene.fonts
+  pub glyphs : sum_by glyph_count after.fonts + freed_by scene change Glyphs ≡ need_of scene change Glyphs + sum_by glyph_count scene.fonts
+  pub ink : sum_by ink_count after.fonts + freed_by scene change Ink ≡ need_of scene change Ink + sum_by ink_count scene.fonts
+  pub images : length after.images + freed_by scene change Images ≡ need_of scene change Images + length scene.images
+  pub pixels : sum_by pixel_count after.images + freed_by scene change Pixels ≡ need_of scene change Pixels + sum_by pixel_count scene.images
+
+-- those of a change of fonts, and of one of images
+fonts_become : (scene : Scene) (change : Change) (l : AreAssets scene.fonts scene.images) (fonts : List Font) → list_all is_font fonts ≡ true →
+    stand_once (font_names fonts) ≡ true → length fonts + freed_by scene change Fonts ≡ need_of scene change Fonts + length scene.fonts →
+    sum_by glyph_count fonts + freed_by scene change Glyphs ≡ need_of scene change Glyphs + sum_by glyph_count scene.fonts →
+    sum_by ink_count fonts + freed_by scene change Ink ≡ need_of scene change Ink + sum_by ink_count scene.fonts →
+    (need_of scene change Images ≡ freed_by scene change Images) × (need_of scene change Pixels ≡ freed_by scene change Pixels) →
+    LeavesAssets scene change (record scene { fonts = fonts })
+fonts_become scene change l fonts fit once count glyphs ink others = record {
+  assets = record { fonts_fit = fit; fonts_once = once; images_fit = l.images_fit; images_once = l.images_once };
+  fonts = count;
+  glyphs = glyphs;
+  ink = ink;
+  images = omega (arith, others);
+  pixels = omega (arith, others);
+}
+
+images_become : (scene : Scene) (change : Change) (l : AreAssets scene.fonts scene.images) (images : List Image) → list_all is_image images ≡ true →
+    stand_once (image_names images) ≡ true → length images + freed_by scene change Images ≡ need_of scene change Images + length scene.images →
+    sum_by pixel_count images + freed_by scene change Pixels ≡ need_of scene change Pixels + sum_by pixel_count scene.images →
+    (need_of scene change Fonts ≡ freed_by scene change Fonts) × (need_of scene change Glyphs ≡ freed_by scene change Glyphs) × (need_of scene change Ink ≡ freed_by scene change Ink) →
+    LeavesAssets scene change (record scene { images = images })
+images_become scene change l images fit once count pixels others = record {
+  assets = record { fonts_fit = l.fonts_fit; fonts_once = l.fonts_once; images_fit = fit; images_once = once };
+  fonts = omega (arith, others);
+  glyphs = omega (arith, others);
+  ink = omega (arith, others);
+  images = count;
+  pixels = pixels;
+}
+
+-- a change that leaves them
+assets_stay : (scene after : Scene) (change : Change) → AreAssets scene.fonts scene.images → after.fonts ≡ scene.fonts → after.images ≡ scene.images →
+    (need_of scene change Fonts ≡ freed_by scene change Fonts) × (need_of scene change Glyphs ≡ freed_by scene change Glyphs) × (need_of scene change Ink ≡ freed_by scene change Ink) ×
+    (need_of scene change Images ≡ freed_by scene change Images) × (need_of scene change Pixels ≡ freed_by scene change Pixels) →
+    LeavesAssets scene change after
+assets_stay scene after change l same alike others = record {
+  assets = rw (same, alike) l;
+  fonts = omega (arith, others, ap (λ (fs : List Font). length fs) same);
+  glyphs = omega (arith, others, ap (λ (fs : List Font). sum_by glyph_count fs) same);
+  ink = omega (arith, others, ap (λ (fs : List Font). sum_by ink_count fs) same);
+  images = omega (arith, others, ap (λ (is : List Image). length is) alike);
+  pixels = omega (arith, others, ap (λ (is : List Image). sum_by pixel_count is) alike);
+}
+
+leaves_assets : (scene : Scene) (change : Change) → AreAssets scene.fonts scene.images → is_in_range change ≡ true → Fail (tests scene change) →
+    LeavesAssets scene change (scene_after scene change)
+leaves_assets scene (change.Font f height advance) l fits t =
+    let new = new_font f height advance in
+    let off : is_among (font_names scene.fonts) f ≡ false = grind (arith, nat_tests, t.0, font-among scene.fonts f) in
+    fonts_become scene (change.Font f height advance) l (with_font scene.fonts f height advance)
+    (all-append is_font scene.fonts new l.fonts_fit (grind (arith, nat_tests, fits)))
+    (rw (names-append scene.fonts new) (once-append (font_names scene.fonts) f off l.fonts_once))
+    (omega (arith, length-append scene.fonts (new ∷ []))) (omega (arith, sum_by_push glyph_count scene.fonts new)) (omega (arith, sum_by_push ink_count scene.fonts new)) (refl, refl)
+leaves_assets scene (change.Glyph f code shape bytes) l fits t =
+    let g = glyph_in code shape bytes in
+    let on : is_among (font_names scene.fonts) f ≡ true = grind (arith, nat_tests, fits, t.0, font-among scene.fonts f) in
+    fonts_become scene (change.Glyph f code shape bytes) l (with_glyph scene.fonts f g)
+    (fonts-given f g scene.fonts (grind (arith, nat_tests, fits, t.1.1.1.0)) l.fonts_fit)
+    (rw (names-given f g scene.fonts) l.fonts_once)
+    (omega (arith, length-given f g scene.fonts)) (grind (arith, on, glyphs-given f g scene.fonts l.fonts_once)) (grind (arith, on, ink-given f g scene.fonts l.fonts_once)) (refl, refl)
+leaves_assets scene (change.EndFont f) l fits t =
+    let done = are_done scene.fonts f in
+    fonts_become scene (change.EndFont f) l (with_finished scene.fonts f) (done.fit l.fonts_fit) (rw done.names l.fonts_once)
+    (omega (arith, done.count)) (omega (arith, done.glyphs)) (omega (arith, done.ink)) (refl, refl)
+leaves_assets scene (change.Image i format w h) l fits t =
+    let new : Image = record { name = i; format = format; width = w; height = h; bytes = [] } in
+    let off : is_among (image_names scene.images) i ≡ false = sym (image-among scene.images i) ∙ t.0 in
+    images_become scene (change.Image i format w h) l (with_image scene.images i format w h)
+    (all-append is_image scene.images new l.images_fit (grind (arith, nat_tests, fits)))
+    (rw (image_names-append scene.images new) (once-append (image_names scene.images) i off l.images_once))
+    (omega (arith, length-append scene.images (new ∷ []))) (omega (arith, sum_by_push pixel_count scene.images new)) (refl, refl, refl)
+leaves_assets scene (change.ImageRow i y bytes) l fits t =
+    let rowed = are_rowed scene.images i (rows_of bytes) in
+    images_become scene (change.ImageRow i y bytes) l (with_image_row scene.images i (rows_of bytes)) (rowed.fit l.images_fit) (rw rowed.names l.images_once)
+    (omega (arith, rowed.count)) (omega (arith, rowed.pixels)) (refl, refl, refl)
+leaves_assets scene (change.Screen n) l fits t = assets_stay scene _ (change.Screen n) l refl refl (refl, refl, refl, refl, refl)
+leaves_assets scene change l fits t = assets_stay scene _ change l refl refl (refl, refl, refl, refl, refl)
+
+pub after_assets : (scene : Scene) (change : Change) → is_in_range change ≡ true → answer_in_range scene change ≡ None →
+    IsValid scene → LeavesAssets scene change (scene_after scene change)
+after_assets scene change fits e v =
+    leaves_assets scene change v.assets fits (tests-fail (tests scene change) (first_short scene change POOLS) e)
+
 -- Pools that are not over their counts before are not over them after.
 pub after_valid : (scene : Scene) (change : Change) → is_in_range change ≡ true → IsChange change → answer_in_range scene change ≡ None →
     IsValid scene → IsValid (scene_after scene change)
 after_valid scene change fits c e v =
     let l = after_leaves scene change fits c e v in
     let b = after_book scene change fits c e v in
+    let m = after_assets scene change fits e v in
     let same = after_keeps scene change in
     let fit = v.pools in record {
       trees = l.trees;
       rows = l.rows;
       book = b.book;
       bare = b.bare;
+      assets = m.assets;
       pools = record {
         objects = omega (arith, l.objects, fit.objects, room_in_range scene change Objects e, ap (λ (b : Bounds). b.objects) same);
         styles = omega (arith, b.styles, fit.styles, room_in_range scene change Styles e, ap (λ (b : Bounds). b.styles) same);
         entries = omega (arith, b.entries, fit.entries, room_in_range scene change Entries e, ap (λ (b : Bounds). b.entries) same);
         uses = omega (arith, b.uses, fit.uses, room_in_range scene change Uses e, ap (λ (b : Bounds). b.uses) same);
+        fonts = omega (arith, m.fonts, fit.fonts, room_in_range scene change Fonts e, ap (λ (b : Bounds). b.fonts) same);
+        glyphs = omega (arith, m.glyphs, fit.glyphs, room_in_range scene change Glyphs e, ap (λ (b : Bounds). b.glyphs) same);
+        ink = omega (arith, m.ink, fit.ink, room_in_range scene change Ink e, ap (λ (b : Bounds). b.ink) same);
+        images = omega (arith, m.images, fit.images, room_in_range scene change Images e, ap (λ (b : Bounds). b.images) same);
+        pixels = omega (arith, m.pixels, fit.pixels, room_in_range scene change Pixels e, ap (λ (b : Bounds). b.pixels) same);
       };
     }
 
@@ -418,20 +538,25 @@ change_keeps_valid scene change v c = by (answer_of scene change) refl where
   by None e = let a = range_done (is_in_range change) (answer_in_range scene change) e in after_valid scene change a.0 c a.1 v
   by (Some refusal) e = v
 
-adds_up : (scene : Scene) (change : Change) (pool : Pool) → Leaves scene change (scene_after scene change) → LeavesBook scene change (scene_after scene change) →
+adds_up : (scene : Scene) (change : Change) (pool : Pool) → Leaves scene change (scene_after scene change) → LeavesBook scene change (scene_after scene change) → LeavesAssets scene change (scene_after scene change) →
     need_of scene change pool ≤ spare scene pool → FitPools scene →
     spare (scene_after scene change) pool + need_of scene change pool ≡ spare scene pool + freed_by scene change pool
-adds_up scene change Objects l b room fit = omega (arith, l.objects, fit.objects, room, ap (λ (b : Bounds). b.objects) (after_keeps scene change))
-adds_up scene change Styles l b room fit = omega (arith, b.styles, fit.styles, room, ap (λ (b : Bounds). b.styles) (after_keeps scene change))
-adds_up scene change Entries l b room fit = omega (arith, b.entries, fit.entries, room, ap (λ (b : Bounds). b.entries) (after_keeps scene change))
-adds_up scene change Uses l b room fit = omega (arith, b.uses, fit.uses, room, ap (λ (b : Bounds). b.uses) (after_keeps scene change))
-adds_up scene (change.Screen n) pool l b room fit = refl
-adds_up scene change pool l b room fit = refl
+adds_up scene change Objects l b m room fit = omega (arith, l.objects, fit.objects, room, ap (λ (b : Bounds). b.objects) (after_keeps scene change))
+adds_up scene change Styles l b m room fit = omega (arith, b.styles, fit.styles, room, ap (λ (b : Bounds). b.styles) (after_keeps scene change))
+adds_up scene change Entries l b m room fit = omega (arith, b.entries, fit.entries, room, ap (λ (b : Bounds). b.entries) (after_keeps scene change))
+adds_up scene change Uses l b m room fit = omega (arith, b.uses, fit.uses, room, ap (λ (b : Bounds). b.uses) (after_keeps scene change))
+adds_up scene change Fonts l b m room fit = omega (arith, m.fonts, fit.fonts, room, ap (λ (b : Bounds). b.fonts) (after_keeps scene change))
+adds_up scene change Glyphs l b m room fit = omega (arith, m.glyphs, fit.glyphs, room, ap (λ (b : Bounds). b.glyphs) (after_keeps scene change))
+adds_up scene change Ink l b m room fit = omega (arith, m.ink, fit.ink, room, ap (λ (b : Bounds). b.ink) (after_keeps scene change))
+adds_up scene change Images l b m room fit = omega (arith, m.images, fit.images, room, ap (λ (b : Bounds). b.images) (after_keeps scene change))
+adds_up scene change Pixels l b m room fit = omega (arith, m.pixels, fit.pixels, room, ap (λ (b : Bounds). b.pixels) (after_keeps scene change))
+adds_up scene (change.Screen n) pool l b m room fit = refl
+adds_up scene change pool l b m room fit = refl
 
 pub slots_add_up : SlotsAddUp
 slots_add_up scene change pool v c e =
     let a = range_done (is_in_range change) (answer_in_range scene change) e in
-    rw e (adds_up scene change pool (after_leaves scene change a.0 c a.1 v) (after_book scene change a.0 c a.1 v) (room_in_range scene change pool a.1) v.pools)
+    rw e (adds_up scene change pool (after_leaves scene change a.0 c a.1 v) (after_book scene change a.0 c a.1 v) (after_assets scene change a.0 a.1 v) (room_in_range scene change pool a.1) v.pools)
 
 first_once : (h : ℕ) → cond (eqb 1 h) 1 0 + (0 + (cond (eqb 2 h) 1 0 + (0 + (cond (eqb 3 h) 1 0 + (0 + 0))))) ≤ 1
 first_once h = grind (arith, nat_tests)
@@ -445,7 +570,18 @@ first_is_valid limits room = record {
   rows = search rules;
   book = empty_in_order;
   bare = λ h off. empty_bare h;
-  pools = record { objects = room; styles = omega arith; entries = omega (arith, no_entries); uses = omega (arith, no_uses) };
+  assets = record { fonts_fit = refl; fonts_once = refl; images_fit = refl; images_once = refl };
+  pools = record {
+    objects = room;
+    styles = omega arith;
+    entries = omega (arith, no_entries);
+    uses = omega (arith, no_uses);
+    fonts = omega arith;
+    glyphs = omega arith;
+    ink = omega arith;
+    images = omega arith;
+    pixels = omega arith;
+  };
 }
 
 pub valid_is_showable : ValidIsShowable

@@ -18,6 +18,7 @@ use Rattle.gui_base.specs.Refusing.{Test, first_of, absent, parentless, root_tes
 use Rattle.gui_base.specs.Refusing.{removal_tests, move_tests, parent_tests, Kind as WrongKind, Place}
 use Rattle.scene_defs.specs.declared.Change.{Change}
 use Rattle.scene_defs.specs.declared.Change.TheVariants as change
+use Rattle.scene_defs.specs.Assets.{AssetChange, asset_change_of}
 use Rattle.scene_defs.specs.Ranges.{is_in_range}
 use Rattle.scene_defs.specs.declared.Row.{Row}
 use Rattle.scene_defs.specs.Row.{Setter, setter_of}
@@ -50,14 +51,22 @@ abbrev pub is_screen : Scene → ℕ → Bool
 is_screen scene h = has_screen (object_at scene h)
 
 -- how many slots of a pool a change takes
-abbrev pub need_by : Option Styling → Change → Pool → ℕ
-need_by (Some styling) change pool = styling.need pool
-need_by None (change.Screen n) Objects = 1
-need_by None (change.New n p kind) Objects = 1
-need_by None change pool = 0
+abbrev pub need_by : Option Styling → Option AssetChange → Change → Pool → ℕ
+need_by (Some styling) assets change pool = styling.need pool
+need_by None (Some assets) change pool = assets.need pool
+need_by None None (change.Screen n) Objects = 1
+need_by None None (change.New n p kind) Objects = 1
+need_by None None change pool = 0
+
+-- what a change asks for of the styles, where it changes them alone; and of the fonts and images, likewise
+abbrev pub styling_in : Scene → Change → Option Styling
+styling_in scene change = styling_of scene.fonts scene.book change
+
+abbrev pub asset_change_in : Scene → Change → Option AssetChange
+asset_change_in scene change = asset_change_of scene.fonts scene.images change
 
 abbrev pub need_of : Scene → Change → Pool → ℕ
-need_of scene change pool = need_by (styling_of scene.book change) change pool
+need_of scene change pool = need_by (styling_in scene change) (asset_change_in scene change) change pool
 
 -- the handles of h and of all below it
 abbrev pub below : Scene → ℕ → List ℕ
@@ -77,7 +86,7 @@ freed_by_styling None scene (change.Delete h) Uses = uses_in scene.book - uses_i
 freed_by_styling None scene change pool = 0
 
 abbrev pub freed_by : Scene → Change → Pool → ℕ
-freed_by scene change pool = freed_by_styling (styling_of scene.book change) scene change pool
+freed_by scene change pool = freed_by_styling (styling_in scene change) scene change pool
 
 -- the first of these pools that has fewer free slots than a change takes
 abbrev pub first_short : Scene → Change → List Pool → Option Pool
@@ -97,23 +106,25 @@ abbrev pub styling_tests : Forest ℕ → Styling → List Test
 styling_tests f styling = object_tests f styling.object ++ styling.tests
 
 -- The tests of a change, in order: what is asked whatever room there is.
-abbrev pub tests_by : Option Setter → Option Styling → Scene → Change → List Test
-tests_by (Some setter) styling scene change = setter_tests (handles_of scene.trees) setter
-tests_by None (Some styling) scene change = styling_tests (handles_of scene.trees) styling
-tests_by None None scene (change.Screen n) = root_tests (handles_of scene.trees) n.0
-tests_by None None scene (change.New n p kind) = child_tests (handles_of scene.trees) n.0 p.0
-tests_by None None scene (change.Delete h) =
+abbrev pub tests_by : Option Setter → Option Styling → Option AssetChange → Scene → Change → List Test
+tests_by (Some setter) styling assets scene change = setter_tests (handles_of scene.trees) setter
+tests_by None (Some styling) assets scene change = styling_tests (handles_of scene.trees) styling
+tests_by None None (Some assets) scene change = assets.tests
+tests_by None None None scene (change.Screen n) = root_tests (handles_of scene.trees) n.0
+tests_by None None None scene (change.New n p kind) = child_tests (handles_of scene.trees) n.0 p.0
+tests_by None None None scene (change.Delete h) =
     removal_tests (handles_of scene.trees) h.0 ++ (h.0 == scene.active, Place) ∷ []
-tests_by None None scene (change.Parent h p) = parent_tests (handles_of scene.trees) h.0 p.0
-tests_by None None scene (change.Index h n) = move_tests (handles_of scene.trees) h.0
-tests_by None None scene (change.Front h) = move_tests (handles_of scene.trees) h.0
-tests_by None None scene (change.Back h) = move_tests (handles_of scene.trees) h.0
-tests_by None None scene (change.Load h) =
+tests_by None None None scene (change.Parent h p) = parent_tests (handles_of scene.trees) h.0 p.0
+tests_by None None None scene (change.Index h n) = move_tests (handles_of scene.trees) h.0
+tests_by None None None scene (change.Front h) = move_tests (handles_of scene.trees) h.0
+tests_by None None None scene (change.Back h) = move_tests (handles_of scene.trees) h.0
+tests_by None None None scene (change.Load h) =
     absent (handles_of scene.trees) h.0 ∷ (not (is_screen scene h.0), WrongKind) ∷ []
-tests_by None None scene change = []
+tests_by None None None scene change = []
 
 abbrev pub tests : Scene → Change → List Test
-tests scene change = tests_by (setter_of change) (styling_of scene.book change) scene change
+tests scene change =
+    tests_by (setter_of change) (styling_in scene change) (asset_change_in scene change) scene change
 
 -- the first refusal of a change whose numbers lie in their intervals: the first test that holds, or the first
 -- pool without room; none where it is done
@@ -165,26 +176,29 @@ abbrev pub with_row : Scene → ℕ → (Row → Row) → Scene
 with_row scene h f = record scene { trees = with_row_by (is_at h) (over_row f) scene.trees }
 
 -- the scene after a change that is done
-abbrev pub after_by : Option Setter → Option Styling → Scene → Change → Scene
-after_by (Some setter) styling scene change = with_row scene setter.handle.0 setter.after
-after_by None (Some styling) scene change = record scene { book = styling.after }
-after_by None None scene (change.Screen n) = record scene { trees = with_screen scene.trees n.0 }
-after_by None None scene (change.New n p kind) =
+abbrev pub after_by : Option Setter → Option Styling → Option AssetChange → Scene → Change → Scene
+after_by (Some setter) styling assets scene change = with_row scene setter.handle.0 setter.after
+after_by None (Some styling) assets scene change = record scene { book = styling.after }
+after_by None None (Some assets) scene change =
+    record scene { fonts = assets.fonts; images = assets.images }
+after_by None None None scene (change.Screen n) = record scene { trees = with_screen scene.trees n.0 }
+after_by None None None scene (change.New n p kind) =
     record scene { trees = with_object scene.trees n.0 p.0 kind }
-after_by None None scene (change.Delete h) =
+after_by None None None scene (change.Delete h) =
     record scene { trees = without scene.trees h.0; book = book_without scene h.0 }
-after_by None None scene (change.Parent h p) = record scene { trees = moved_last scene.trees h.0 p.0 }
-after_by None None scene (change.Index h n) =
+after_by None None None scene (change.Parent h p) = record scene { trees = moved_last scene.trees h.0 p.0 }
+after_by None None None scene (change.Index h n) =
     record scene { trees = at_index_below (parent_object scene h.0) scene.trees h.0 n }
-after_by None None scene (change.Front h) =
+after_by None None None scene (change.Front h) =
     record scene { trees = last_below (parent_object scene h.0) scene.trees h.0 }
-after_by None None scene (change.Back h) =
+after_by None None None scene (change.Back h) =
     record scene { trees = at_index_below (parent_object scene h.0) scene.trees h.0 0 }
-after_by None None scene (change.Load h) = record scene { active = h.0 }
-after_by None None scene change = scene
+after_by None None None scene (change.Load h) = record scene { active = h.0 }
+after_by None None None scene change = scene
 
 abbrev pub scene_after : Scene → Change → Scene
-scene_after scene change = after_by (setter_of change) (styling_of scene.book change) scene change
+scene_after scene change =
+    after_by (setter_of change) (styling_in scene change) (asset_change_in scene change) scene change
 
 -- the scene after a change with this answer: a refusal leaves it as it is
 abbrev pub scene_by : Option Refusal → Scene → Change → Scene

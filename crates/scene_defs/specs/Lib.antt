@@ -1,3 +1,4 @@
+pub mod Assets
 pub mod Change
 pub mod Items
 pub mod Laws

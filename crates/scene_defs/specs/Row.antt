@@ -127,6 +127,11 @@ setter_of (change.Use h s selector) = None
 setter_of (change.Unuse h s selector) = None
 setter_of (change.Local h selector prop value) = None
 setter_of (change.Unlocal h selector prop) = None
+setter_of (change.Font f height advance) = None
+setter_of (change.Glyph f code shape bytes) = None
+setter_of (change.EndFont f) = None
+setter_of (change.Image i format w h) = None
+setter_of (change.ImageRow i y bytes) = None
 
 -- the object whose row a change sets
 abbrev pub row_set : Change → Option Handle

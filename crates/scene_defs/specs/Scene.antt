@@ -1,6 +1,6 @@
--- A scene is trees of objects, the screen that is active, styles, and the limits.
+-- A scene is trees of objects, the screen that is active, styles, fonts, images, and the limits.
 use Rattle.std.specs.Prelude.{ℕ, ◌+◌, ◌-◌, Bool, ◌==◌, if◌then◌else◌, Some, None, option_map}
-use Rattle.std.specs.Prelude.{ℤ, List, [], map, length}
+use Rattle.std.specs.Prelude.{ℤ, List, [], map, length, sum_by}
 use Rattle.std.specs.declared.option.Option.{Option}
 use Rattle.gui_base.specs.Forest.{Forest, Empty, Tree, map_forest, size, has, has_by, path_by}
 use Rattle.gui_base.specs.Limits.{Bounds, slots}
@@ -10,8 +10,11 @@ use Rattle.gui_base.specs.declared.words.Kind.{Kind}
 use Rattle.gui_base.specs.declared.words.Kind.TheVariants.{Screen, Layer}
 use Rattle.gui_base.specs.declared.limits.Pool.{Pool}
 use Rattle.gui_base.specs.declared.limits.Pool.TheVariants.{Objects, Styles, Entries, Uses}
+use Rattle.gui_base.specs.declared.limits.Pool.TheVariants.{Fonts, Glyphs, Ink, Images, Pixels}
 use Rattle.style_defs.specs.Book.{Book, empty_book, entries_in, uses_in, locals_of, uses_of}
 use Rattle.style_defs.specs.Value.{Styled, value_on}
+use Rattle.text_defs.specs.Fonts.{Font, Glyph}
+use Rattle.text_defs.specs.Images.{Image, image_bytes}
 use Rattle.scene_defs.specs.declared.Row.{Row}
 use Rattle.scene_defs.specs.Row.{new_row}
 
@@ -25,6 +28,9 @@ pub record Scene : Type 0 where
   pub active : ℕ
   -- the shared styles, what each object sets locally, and the styles that it uses
   pub book : Book
+  -- the fonts beside the built-in one, and the images, each in the order in which they were begun
+  pub fonts : List Font
+  pub images : List Image
   pub limits : Bounds
 
 abbrev pub handle_of : Object → ℕ
@@ -57,12 +63,32 @@ object_at scene h = object_by (is_at h) scene.trees
 abbrev pub row_at : Scene → ℕ → Option Row
 row_at scene h = option_map row_of (object_at scene h)
 
+-- How many glyphs fonts have, how many bytes the bits of these, and how many bytes images have once they are
+-- finished.
+
+abbrev pub glyph_count : Font → ℕ
+glyph_count font = length font.glyphs
+
+abbrev pub ink_of : Glyph → ℕ
+ink_of glyph = length glyph.rows
+
+abbrev pub ink_count : Font → ℕ
+ink_count font = sum_by ink_of font.glyphs
+
+abbrev pub pixel_count : Image → ℕ
+pixel_count image = image_bytes image.format image.width image.height
+
 -- how many slots of a pool are in use
 abbrev pub used : Scene → Pool → ℕ
 used scene Objects = size scene.trees
 used scene Styles = length scene.book.styles
 used scene Entries = entries_in scene.book
 used scene Uses = uses_in scene.book
+used scene Fonts = length scene.fonts
+used scene Glyphs = sum_by glyph_count scene.fonts
+used scene Ink = sum_by ink_count scene.fonts
+used scene Images = length scene.images
+used scene Pixels = sum_by pixel_count scene.images
 used scene pool = 0
 
 -- how many are free
@@ -96,4 +122,5 @@ first_trees =
     (Tree (new_object 2 Layer) Empty (Tree (new_object 3 Screen) Empty Empty))
 
 abbrev pub first_scene : Bounds → Scene
-first_scene limits = record { trees = first_trees; active = 3; book = empty_book; limits = limits }
+first_scene limits =
+    record { trees = first_trees; active = 3; book = empty_book; fonts = []; images = []; limits = limits }

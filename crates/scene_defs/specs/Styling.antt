@@ -1,8 +1,8 @@
 -- The changes of the styles of a scene.
-use Rattle.std.specs.Prelude.{ℕ, ℤ, pos, Bool, not, ◌&&◌, if◌then◌else◌, List, [], ◌∷◌, Some, None}
+use Rattle.std.specs.Prelude.{ℕ, ℤ, Bool, not, ◌&&◌, if◌then◌else◌, List, [], ◌∷◌, Some, None}
 use Rattle.std.specs.declared.option.Option.{Option}
-use Rattle.std.specs.Int.Signed.{lt_z}
-use Rattle.gui_base.specs.Refusing.{Test, Unknown, Taken}
+use Rattle.gui_base.specs.Area.{nat_of}
+use Rattle.gui_base.specs.Refusing.{Test, Unknown, Taken, Place}
 use Rattle.gui_base.specs.Words.{same_prop}
 use Rattle.gui_base.specs.declared.Handle.{Handle}
 use Rattle.gui_base.specs.declared.limits.Pool.{Pool}
@@ -12,6 +12,8 @@ use Rattle.gui_base.specs.declared.props.Prop.TheVariants.{TextFont}
 use Rattle.style_defs.specs.Book as book
 use Rattle.style_defs.specs.Book.{Book, an_entry, a_setting, a_use, has_local, has_setting, has_use}
 use Rattle.style_defs.specs.Cascade.{has_style}
+use Rattle.text_defs.specs.Building.{is_finished}
+use Rattle.text_defs.specs.Fonts.{Font, has_font}
 use Rattle.scene_defs.specs.declared.Change.{Change}
 use Rattle.scene_defs.specs.declared.Change.TheVariants as change
 
@@ -27,9 +29,12 @@ pub record Styling : Type 0 where
   -- the book after it
   pub after : Book
 
--- the only font is the built-in one
-abbrev pub unknown_font : Prop → ℤ → Test
-unknown_font prop value = (same_prop prop TextFont && lt_z (pos 0) value, Unknown)
+-- a font that is named has to be there, and finished
+abbrev pub font_tests : List Font → Prop → ℤ → List Test
+font_tests fonts prop value =
+    (same_prop prop TextFont && not (has_font fonts (nat_of value)), Unknown)
+    ∷ (same_prop prop TextFont && not (is_finished fonts (nat_of value)), Place)
+    ∷ []
 
 -- so many slots of one pool, and none of the others
 abbrev pub no_slots : Pool → ℕ
@@ -50,7 +55,7 @@ of_uses n pool = 0
 abbrev pub one_unless : Bool → ℕ
 one_unless there = if there then 0 else 1
 
-module _ (b : Book) where
+module _ (fonts : List Font) (b : Book) where
   abbrev pub styling_of : Change → Option Styling
   styling_of (change.Style s) = Some (record {
     object = None;
@@ -61,7 +66,7 @@ module _ (b : Book) where
   })
   styling_of (change.Set s prop value) = Some (record {
     object = None;
-    tests = (not (has_style b.styles s), Unknown) ∷ unknown_font prop value ∷ [];
+    tests = (not (has_style b.styles s), Unknown) ∷ font_tests fonts prop value;
     need = of_entries (one_unless (has_setting b s prop));
     freed = no_slots;
     after = book.with_prop b s (a_setting prop value);
@@ -89,7 +94,7 @@ module _ (b : Book) where
   })
   styling_of (change.Local h selector prop value) = Some (record {
     object = Some h;
-    tests = unknown_font prop value ∷ [];
+    tests = font_tests fonts prop value;
     need = of_entries (one_unless (has_local b h.0 selector prop));
     freed = no_slots;
     after = book.with_local b h.0 (an_entry selector prop value);

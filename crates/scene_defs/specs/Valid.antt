@@ -1,9 +1,10 @@
 -- Scenes and changes that are in order. Each fact about numbers and kinds is that a test is true.
 use Rattle.std.specs.Prelude.{◌≡◌, ◌≢◌, ◌≤◌, ℕ, Bool, true, false, not, ◌&&◌, ◌||◌, ◌==◌, if◌then◌else◌}
-use Rattle.std.specs.Prelude.{Some, None, ℤ, [], length}
+use Rattle.std.specs.Prelude.{Some, None, ℤ, List, [], ◌∷◌, map, length, pos, sum_by}
 use Rattle.std.specs.declared.option.Option.{Option}
-use Rattle.std.specs.List.{list_any}
-use Rattle.gui_base.specs.declared.intervals.TheConstants.{HANDLE, COORDINATE, MAX_DEPTH}
+use Rattle.std.specs.List.{list_any, list_all}
+use Rattle.gui_base.specs.declared.intervals.TheConstants.{HANDLE, COORDINATE, MAX_DEPTH, FONT}
+use Rattle.gui_base.specs.declared.intervals.TheConstants.{FONT_HEIGHT, ADVANCE, CODE, IMAGE, IMAGE_SIDE}
 use Rattle.gui_base.specs.declared.words.Kind.{Kind}
 use Rattle.gui_base.specs.declared.words.Kind.TheVariants.{Screen, Layer, Obj}
 use Rattle.gui_base.specs.declared.words.Length.{Length}
@@ -12,12 +13,17 @@ use Rattle.style_defs.specs.InOrder.{IsBook, IsBare}
 use Rattle.gui_base.specs.Forest.{Forest, Empty, Tree, all_by, roots, size, height, StandsOnce}
 use Rattle.gui_base.specs.Intervals.{is_counted, is_within}
 use Rattle.gui_base.specs.Limits.{Bounds}
+use Rattle.text_defs.specs.Building.{is_whole}
+use Rattle.text_defs.specs.Fonts.{Font, Glyph}
+use Rattle.text_defs.specs.Images.{Image}
 use Rattle.scene_defs.specs.declared.Change.{Change}
 use Rattle.scene_defs.specs.declared.Change.TheVariants as change
 use Rattle.scene_defs.specs.Change.{changed, is_screen_kind}
 use Rattle.scene_defs.specs.declared.Row.{Row}
+use Rattle.scene_defs.specs.Ranges.{is_shape}
 use Rattle.scene_defs.specs.Row.{is_root, is_row, is_size}
 use Rattle.scene_defs.specs.Scene.{Object, Scene, is_at, handles_of, is_there, first_scene}
+use Rattle.scene_defs.specs.Scene.{glyph_count, ink_count, pixel_count}
 use Rattle.scene_defs.specs.Walk.{IsShowable}
 
 -- a wanted coordinate in pixels
@@ -74,12 +80,52 @@ pub record AreRows (trees : Forest Object) : Type 0 where
   pub kinds : have_kinds trees ≡ true
   pub numbers : all_by in_intervals trees ≡ true
 
+-- whether a number stands among others, and whether each stands once
+abbrev pub is_among : List ℕ → ℕ → Bool
+is_among ns n = list_any (λ m. m == n) ns
+
+abbrev pub stand_once : List ℕ → Bool
+stand_once [] = true
+stand_once (n ∷ ns) = not (is_among ns n) && stand_once ns
+
+-- whether each number of a glyph lies in its interval, and it has as many bytes as its box asks for
+abbrev pub is_glyph : Glyph → Bool
+is_glyph glyph = is_within CODE (pos glyph.code) && (is_shape glyph.shape && is_whole glyph)
+
+-- whether each number of a font, and of an image, lies in its interval
+abbrev pub is_font : Font → Bool
+is_font font =
+    is_counted FONT font.name && (is_counted FONT_HEIGHT font.height &&
+    (is_counted ADVANCE font.advance && list_all is_glyph font.glyphs))
+
+abbrev pub is_image : Image → Bool
+is_image image =
+    is_counted IMAGE image.name && (is_counted IMAGE_SIDE image.width && is_counted IMAGE_SIDE image.height)
+
+abbrev pub font_names : List Font → List ℕ
+font_names fonts = map (λ font. font.name) fonts
+
+abbrev pub image_names : List Image → List ℕ
+image_names images = map (λ image. image.name) images
+
+-- fonts and images are in order
+pub record AreAssets (fonts : List Font) (images : List Image) : Type 0 where
+  pub fonts_fit : list_all is_font fonts ≡ true
+  pub fonts_once : stand_once (font_names fonts) ≡ true
+  pub images_fit : list_all is_image images ≡ true
+  pub images_once : stand_once (image_names images) ≡ true
+
 -- no pool is over its count
 pub record FitPools (scene : Scene) : Type 0 where
   pub objects : size scene.trees ≤ scene.limits.objects
   pub styles : length scene.book.styles ≤ scene.limits.styles
   pub entries : entries_in scene.book ≤ scene.limits.entries
   pub uses : uses_in scene.book ≤ scene.limits.uses
+  pub fonts : length scene.fonts ≤ scene.limits.fonts
+  pub glyphs : sum_by glyph_count scene.fonts ≤ scene.limits.glyphs
+  pub ink : sum_by ink_count scene.fonts ≤ scene.limits.ink
+  pub images : length scene.images ≤ scene.limits.images
+  pub pixels : sum_by pixel_count scene.images ≤ scene.limits.pixels
 
 -- a scene that is in order
 pub record IsValid (scene : Scene) : Type 0 where
@@ -88,6 +134,7 @@ pub record IsValid (scene : Scene) : Type 0 where
   pub book : IsBook scene.book
   -- who is not there has nothing
   pub bare : (h : ℕ) → is_there scene h ≡ false → IsBare scene.book h
+  pub assets : AreAssets scene.fonts scene.images
   pub pools : FitPools scene
 
 -- a change that may be asked for: below a parent stand plain objects, and no screens or layers

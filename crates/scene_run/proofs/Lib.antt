@@ -3,3 +3,4 @@ pub mod Effects
 pub mod Going
 pub mod Gone
 pub mod Headlines
+pub mod Owing

@@ -1,14 +1,21 @@
 //! The commands, each by its fields in their order.
 ghost use Rattle.std.specs.Prelude.{◌≡◌};
-ghost use Rattle.run_defs.specs.Commands.{tree_fields, row_fields, style_fields, line_fields, command_says};
+ghost use Rattle.run_defs.specs.Commands.{tree_fields, row_fields, style_fields, asset_fields};
+ghost use Rattle.run_defs.specs.Commands.{line_fields, command_says};
 ghost use Rattle.run_defs.specs.Language.{words_of};
 
 use crate::fields::Fields;
-use gui_base::intervals::{COORDINATE, INDEX, STYLE};
+use gui_base::intervals::{
+    ADVANCE, COORDINATE, FONT, FONT_HEIGHT, GLYPH_HEIGHT, GLYPH_WIDTH, GROW, IMAGE, IMAGE_ROW,
+    IMAGE_SIDE, INDEX, STYLE,
+};
 use gui_base::named;
-use gui_base::words::{CROSS_PLACINGS, FLAGS, Flag, KINDS, Kind, ON_OFF, PLACINGS, Placing};
-use run_defs::{COMMANDS, Command, Line, LineFault, Name, RowName, StyleName, TreeName};
+use gui_base::words::{
+    CROSS_PLACINGS, FLAGS, FORMATS, Flag, Format, KINDS, Kind, ON_OFF, PLACINGS, Placing,
+};
+use run_defs::{AssetName, COMMANDS, Command, Line, LineFault, Name, RowName, StyleName, TreeName};
 use scene_defs::Change;
+use text_defs::GlyphBox;
 
 /// What a name and the words after it say.
 #[tactic(auto, unfolding(run_defs::specs::Commands::command_says))]
@@ -32,6 +39,7 @@ fn line(name: Name, fields: &mut Fields) -> Line
         Name::Tree(name) => Line::Make(Command::Change(tree_change(name, fields))),
         Name::Row(name) => Line::Make(Command::Change(row_change(name, fields))),
         Name::Style(name) => Line::Make(Command::Change(style_change(name, fields))),
+        Name::Asset(name) => Line::Make(Command::Change(asset_change(name, fields))),
     }
 }
 
@@ -85,7 +93,7 @@ fn row_change(name: RowName, line: &mut Fields) -> Change
             line.name(&CROSS_PLACINGS, Placing::Start),
             line.name(&PLACINGS, Placing::Start),
         ),
-        RowName::Grow => Change::Grow(line.handle(), line.grow()),
+        RowName::Grow => Change::Grow(line.handle(), line.small(GROW)),
     }
 }
 
@@ -110,5 +118,42 @@ fn style_change(name: StyleName, line: &mut Fields) -> Change
             Change::Local(h, selector, prop, line.value(prop))
         }
         StyleName::Unlocal => Change::Unlocal(line.handle(), line.selector(), line.property()),
+    }
+}
+
+fn asset_change(name: AssetName, line: &mut Fields) -> Change
+    ensures made { result ≡ (asset_fields name line.old).made }
+    ensures state { line.new ≡ (asset_fields name line.old).at }
+{
+    match name {
+        AssetName::Font => Change::Font(
+            line.small(FONT),
+            line.small(FONT_HEIGHT),
+            line.small(ADVANCE),
+        ),
+        AssetName::Glyph => Change::Glyph(
+            line.small(FONT),
+            line.code(),
+            GlyphBox {
+                advance: line.small(ADVANCE),
+                w: line.small(GLYPH_WIDTH),
+                h: line.small(GLYPH_HEIGHT),
+                ox: line.glyph_offset(),
+                oy: line.glyph_offset(),
+            },
+            line.bytes(),
+        ),
+        AssetName::EndFont => Change::EndFont(line.small(FONT)),
+        AssetName::Image => Change::Image(
+            line.count(IMAGE),
+            line.name(&FORMATS, Format::Rgb565),
+            line.count(IMAGE_SIDE),
+            line.count(IMAGE_SIDE),
+        ),
+        AssetName::ImageRow => Change::ImageRow(
+            line.count(IMAGE),
+            line.count(IMAGE_ROW),
+            line.bytes(),
+        ),
     }
 }

@@ -1,21 +1,21 @@
 //! The fields of a line, taken one after another.
-ghost use Rattle.std.specs.Prelude.{◌≡◌};
+ghost use Rattle.std.specs.Prelude.{◌≡◌, ◌<◌};
 ghost use Rattle.gui_base.specs.Names.{slice};
-ghost use Rattle.run_defs.specs.Commands.{handle, new_handle, extent, align, flow, grow, state};
-ghost use Rattle.run_defs.specs.Commands.{selector, property};
+ghost use Rattle.run_defs.specs.Commands.{handle, new_handle, extent, align, flow, state};
+ghost use Rattle.run_defs.specs.Commands.{selector, property, code, glyph_offset, bytes};
 ghost use Rattle.run_defs.specs.Commands.{color_value, align_value, value_for};
 ghost use Rattle.run_defs.specs.Fields.{number_in, count_in, name_in, value, past, value_or, with_fault};
 ghost use Rattle.run_defs.specs.Fields.{next_of, after_next, fields, start, ended};
 ghost use Rattle.run_defs.specs.Language.{first_fault, words_of};
 
 use crate::lengths::length;
-use crate::numbers::{color, count, number, small};
+use crate::numbers::{bytes, code, color, count, number, offset, small};
 use crate::selectors::selector;
 use crate::words::next_word;
-use gui_base::intervals::{Count, GROW, HANDLE, Interval, NEW_HANDLE};
+use gui_base::intervals::{Count, GLYPH_OFFSET, HANDLE, Interval, NEW_HANDLE};
 use gui_base::props::PROPS;
 use gui_base::words::{ALIGNS, FLOWS, STATES, TEXT_ALIGNS};
-use gui_base::{Align, Flow, Handle, Length, Part, Prop, Selector, State, TextAlign, named};
+use gui_base::{Align, Bytes, Flow, Handle, Length, Part, Prop, Selector, State, TextAlign, named};
 use run_defs::LineFault;
 use std::marker::Model;
 
@@ -112,14 +112,46 @@ impl<'a> Fields<'a> {
         self.name(&FLOWS, Flow::Free)
     }
 
-    /// How much of the free space of its track an object takes.
+    /// A number of an interval that has none below 0 and none above 255.
     #[tactic(auto, unfolding(run_defs::specs::Fields::value, run_defs::specs::Fields::past))]
-    pub(crate) fn grow(&mut self) -> u8
-        ensures value { result ≡ value grow self.old }
-        ensures state { self.new ≡ past grow self.old }
+    pub(crate) fn small(&mut self, interval: Count) -> u8
+        requires low { interval.low < 256 }
+        requires high { interval.high < 256 }
+        ensures value { result ≡ value (count_in interval) self.old }
+        ensures state { self.new ≡ past (count_in interval) self.old }
     {
         let word = self.word();
-        self.note(small(word, GROW), 0)
+        self.note(small(word, interval), interval.low as u8)
+    }
+
+    /// Where the box of a glyph stands in its cell.
+    #[tactic(auto, unfolding(run_defs::specs::Fields::value, run_defs::specs::Fields::past))]
+    pub(crate) fn glyph_offset(&mut self) -> i8
+        ensures value { result ≡ value glyph_offset self.old }
+        ensures state { self.new ≡ past glyph_offset self.old }
+    {
+        let word = self.word();
+        self.note(offset(word, GLYPH_OFFSET), -64)
+    }
+
+    /// The code of a character that may have a glyph.
+    #[tactic(auto, unfolding(run_defs::specs::Fields::value, run_defs::specs::Fields::past))]
+    pub(crate) fn code(&mut self) -> char
+        ensures value { result ≡ value code self.old }
+        ensures state { self.new ≡ past code self.old }
+    {
+        let word = self.word();
+        self.note(code(word), ' ')
+    }
+
+    /// Bytes.
+    #[tactic(auto, unfolding(run_defs::specs::Fields::value, run_defs::specs::Fields::past))]
+    pub(crate) fn bytes(&mut self) -> Bytes
+        ensures value { result ≡ value bytes self.old }
+        ensures state { self.new ≡ past bytes self.old }
+    {
+        let word = self.word();
+        self.note(bytes(word), Bytes::none())
     }
 
     /// What a name of a table means.

@@ -1,16 +1,20 @@
-//! Numbers and colours.
+//! Numbers, colours, codes of characters, and bytes.
 ghost use Rattle.std.specs.Prelude.{◌≡◌, ◌≤◌, ◌<◌, ◌≤ℤ◌, ◌<ℤ◌, ◌&&◌, int_le, min, pos, neg_ℤ, option_map, IfOk};
 ghost use Rattle.std.specs.List.{list_all};
 ghost use Rattle.run_defs.specs.Numbers.{is_number, value_of, is_digit, within, number, number_of, natural};
-ghost use Rattle.run_defs.specs.Numbers.{color};
+ghost use Rattle.run_defs.specs.Numbers.{color, code_said, bytes_said};
 ghost use Rattle.scene_script.specs.Numbers.{capped, beyond};
 
-use gui_base::intervals::Count;
+use gui_base::Bytes;
+use gui_base::intervals::{CODE, Count, Interval};
 use hex::FromHex;
 use run_defs::LineFault;
 
 /// Beyond the ends of every interval: a number that is farther from 0 is read as this one.
 const BEYOND: i64 = 4_294_967_296;
+
+/// The most digits that a word can have: those of the longest line.
+const MOST_DIGITS: usize = 4096;
 
 /// A number from `low` to `high`: syntax where the word is no number, and range where it is outside.
 #[tactic(auto, unfolding(run_defs::specs::Numbers::number))]
@@ -47,6 +51,17 @@ pub(crate) fn small(word: &[u8], interval: Count) -> Result<u8, LineFault>
 {
     let n = natural(word, u32::from(interval.low), u32::from(interval.high))?;
     Ok(n as u8)
+}
+
+/// A number of an interval that has none below -128 and none above 127.
+#[tactic(auto, unfolding(run_defs::specs::Numbers::number))]
+pub(crate) fn offset(word: &[u8], interval: Interval) -> Result<i8, LineFault>
+    requires low { neg_ℤ (pos 129) <ℤ interval.low }
+    requires high { interval.high <ℤ pos 128 }
+    ensures { result ≡ number interval.low interval.high word.now }
+{
+    let n = within(word, i64::from(interval.low), i64::from(interval.high))?;
+    Ok(n as i8)
 }
 
 /// A number from `low` to `high`.
@@ -136,4 +151,32 @@ pub(crate) fn color(word: &[u8]) -> Result<i32, LineFault>
     };
     let number = 65536 * u32::from(bytes[0]) + 256 * u32::from(bytes[1]) + u32::from(bytes[2]);
     Ok(number as i32)
+}
+
+/// The code of a character that may have a glyph.
+#[tactic(auto, unfolding(run_defs::specs::Numbers::code_said))]
+pub(crate) fn code(word: &[u8]) -> Result<char, LineFault>
+    ensures { result ≡ code_said word.now }
+{
+    let n = natural(word, CODE.low as u32, CODE.high as u32)?;
+    char::from_u32(n).ok_or(LineFault::Range)
+}
+
+/// Bytes: two hexadecimal digits of either case for each, or a dash for none.
+#[tactic(auto, unfolding(run_defs::specs::Numbers::bytes_said))]
+pub(crate) fn bytes(word: &[u8]) -> Result<Bytes, LineFault>
+    ensures { result ≡ bytes_said word.now }
+{
+    if word == b"-".as_slice() {
+        return Ok(Bytes::none());
+    }
+    if word.is_empty() || word.len() > MOST_DIGITS {
+        return Err(LineFault::Syntax);
+    }
+    let mut room = [0; MOST_DIGITS / 2];
+    let bytes = &mut room[..word.len() / 2];
+    if hex::decode_to_slice(word, bytes).is_err() {
+        return Err(LineFault::Syntax);
+    }
+    Ok(Bytes::of(bytes))
 }

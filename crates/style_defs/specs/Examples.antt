@@ -106,7 +106,8 @@ pub record ValuesAreWorked : Type 0 where
       value_on [] (with_set 0 TextColor 0 green ∷ with_set 0 TextColor 0 red ∷ []) Knob TextColor ≡ green
   -- the nearest above gives the value
   pub nearest :
-      value_on [] (plain Obj 0 ∷ with_set 0 TextColor 0 green ∷ with_set 0 TextColor 0 red ∷ []) Main TextColor
+      value_on []
+      (plain Obj 0 ∷ with_set 0 TextColor 0 green ∷ with_set 0 TextColor 0 red ∷ []) Main TextColor
       ≡ green
   -- a fill is not inherited
   pub fill_above : value_on [] (plain Obj 0 ∷ with_set 0 BgColor 0 red ∷ []) Main BgColor ≡ white

@@ -2,7 +2,8 @@ use Rattle.std.proofs.Common.{◌≡◌, ◌≢◌, arith, ◌∙◌, ap, take, 
 use Rattle.std.specs.Prelude.{None}
 use Rattle.gui_core.specs.Machines.{machine_of}
 use Rattle.scene_run.specs.declared.status.Status.{Status}
-use Rattle.scene_run.specs.declared.status.Status.TheVariants.{Done, Noted, WriteFault}
+use Rattle.scene_run.specs.declared.status.Status.TheVariants.{Done, Noted, ReadFault, WriteFault}
+use Rattle.scene_run.specs.Headline.{IfUnstarted}
 use Rattle.scene_run.proofs.Effects.{PanelEffects-none}
 use Rattle.scene_run.proofs.Going.{ready_less}
 use Rattle.scene_run.proofs.Gone.{gone_start, gone_more, runs_unread, runs_whole, runs_broken_last, runs_broken, runs_long, runs_cause}
@@ -27,13 +28,28 @@ returns-in-Ok-finish-clause-runs g c = λ before since.
     let none = c.in-Ok.ensures.bytes in
     rw c.status.ensures (runs_whole _ _ _ _ _ _ _ (c.loop.invariant.gone before since) (rw c.if-count-eq0.true at none.0) (none.1 c.if-count-eq0.true (omega arith)) c.in-Ok-finish.ensures.ok)
 
--- a run that came to its end does not end by a fault
-no_fault : (noted : Bool) (status : Status) → status ≡ (if noted then Noted else Done) → status ≢ WriteFault
-no_fault true status is e = cc
-no_fault false status is e = cc
+-- a run that came to its end was started, and does not end by a fault
+module _ (noted : Bool) (status : Status) (is : status ≡ (if noted then Noted else Done)) where
+  was_started : IfUnstarted status ⊥
+  was_started = rw is (by noted) where
+    by : (noted : Bool) → IfUnstarted (if noted then Noted else Done) ⊥
+    by true = tt
+    by false = tt
+
+  no_fault : (status ≢ WriteFault) × (status ≢ ReadFault)
+  no_fault = rw is (by noted) where
+    by : (noted : Bool) → ((if noted then Noted else Done) ≢ WriteFault) × ((if noted then Noted else Done) ≢ ReadFault)
+    by true = (λ e. cc, λ e. cc)
+    by false = (λ e. cc, λ e. cc)
+
+pub returns-in-Ok-finish-clause-started : goal.returns-in-Ok-finish-clause-started
+returns-in-Ok-finish-clause-started g c = was_started _ c.status.result c.status.ensures
+
+pub returns-in-Ok-finish-clause-read_fault : goal.returns-in-Ok-finish-clause-read_fault
+returns-in-Ok-finish-clause-read_fault g c = λ e. absurd ((no_fault _ c.status.result c.status.ensures).1 e)
 
 pub returns-in-Ok-finish-clause-write_fault : goal.returns-in-Ok-finish-clause-write_fault
-returns-in-Ok-finish-clause-write_fault g c = λ e. absurd (no_fault _ c.status.result c.status.ensures e)
+returns-in-Ok-finish-clause-write_fault g c = λ e. absurd ((no_fault _ c.status.result c.status.ensures).0 e)
 
 pub returns-in-Err-finish-clause-runs : goal.returns-in-Err-finish-clause-runs
 returns-in-Err-finish-clause-runs g c = λ before since.

@@ -9,8 +9,8 @@ done : (c : After-restyle) → Left (parts_of c.args.self.now) c.args.change.now
 done c =
     let p = parts_of c.args.self.now in
     let k = c.args.self.now.kept in
-    let named = c.named_by.ensures p.styles.book in
-    let there : named_test p k (styling_of p.styles.book c.args.change.now) ≡ None = elim c.in_default.branch [
+    let named = c.named_by.ensures p.fonts.fonts p.styles.book in
+    let there : named_test p k (styling_of p.fonts.fonts p.styles.book c.args.change.now) ≡ None = elim c.in_default.branch [
       | in_default-via-in-Some+else-not-has w ↦ grind (arith, named, w.in-Some.is, w.has.ensures, w.if-not-has.false, there-is p w.in-Some.h.0)
       | in_default-via-in_default w ↦ grind (arith, named, w.in_default.is)
     ] in
@@ -23,7 +23,7 @@ pub returns-in-Some : goal.returns-in-Some
 returns-in-Some c =
     let p = parts_of c.args.self.now in
     let k = c.args.self.now.kept in
-    refused p k c.args.change.now Unknown (unnamed p k c.args.change.now _ refl c.requires.styling (grind (arith, c.named_by.ensures p.styles.book, c.in-Some.is, c.has.ensures, c.if-not-has.true, there-is p c.in-Some.h.0)))
+    refused p k c.args.change.now Unknown (unnamed p k c.args.change.now _ refl c.requires.styling (grind (arith, c.named_by.ensures p.fonts.fonts p.styles.book, c.in-Some.is, c.has.ensures, c.if-not-has.true, there-is p c.in-Some.h.0)))
 
 pub returns-in_default : goal.returns-in_default
 returns-in_default c = (done (goal.at.returns-in_default c).After-restyle).is

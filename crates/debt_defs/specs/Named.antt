@@ -4,7 +4,8 @@ use Rattle.std.specs.declared.option.Option.{Option}
 use Rattle.scene_defs.specs.declared.Change.{Change}
 use Rattle.scene_defs.specs.declared.Change.TheVariants as change
 
--- Its handle, or none for a change of a shared style, a font or an image. What is made is named before its parent.
+-- Its handle, or none for a change of a shared style, a font or an image. What is made is named before its
+-- parent.
 abbrev pub named : Change → Option ℕ
 named (change.Screen n) = Some n.0
 named (change.New n p kind) = Some n.0

@@ -2,13 +2,13 @@
 ghost use Rattle.std.specs.Prelude.{◌≡◌, true};
 ghost use Rattle.gui_base.specs.Props.{is_value};
 ghost use Rattle.gui_base.specs.Refusing.{first_of};
-ghost use Rattle.scene_defs.specs.Assets.{asset_change_of, rows_of};
+ghost use Rattle.scene_defs.specs.Assets.{asset_change_of};
 ghost use Rattle.scene_defs.specs.Styling.{font_tests};
 ghost use Rattle.gui_store.specs.Assets.{AreBuilt};
 
-use gui_base::{Bytes, Prop, Refusal};
+use gui_base::{Prop, Refusal};
 use gui_font::{Fonts, Images};
-use scene_defs::Change;
+use scene_defs::{Change, MOST_BYTES};
 
 /// Why a value of a property is refused: it names a font that is not there, or is not finished.
 pub(crate) fn font_fault(fonts: &Fonts, prop: Prop, value: i32) -> Option<Refusal>
@@ -32,18 +32,12 @@ pub(crate) fn build(fonts: &mut Fonts, images: &mut Images, change: &Change) -> 
 {
     match change {
         Change::Font(f, height, advance) => fonts.begin(*f, *height, *advance),
-        Change::Glyph(f, code, shape, bytes) => fonts.glyph(*f, *code, *shape, rows_of(bytes)),
+        Change::Glyph(f, code, shape, rows) => {
+            fonts.glyph(*f, *code, *shape, rows.read(&mut [0; MOST_BYTES]))
+        }
         Change::EndFont(f) => fonts.finish(*f),
         Change::Image(i, format, w, h) => images.begin(*i, *format, *w, *h),
-        Change::ImageRow(i, y, bytes) => images.row(*i, *y, rows_of(bytes)),
+        Change::ImageRow(i, y, row) => images.row(*i, *y, row.read(&mut [0; MOST_BYTES])),
         _ => Err(Refusal::Unknown),
     }
-}
-
-/// The bytes of a row or of a glyph, those that the change holds.
-#[tactic(auto, using(std::proofs::lemmas::List::take_min))]
-fn rows_of(bytes: &Bytes) -> &[u8]
-    ensures { result.now ≡ rows_of bytes.now }
-{
-    &bytes.bytes[..usize::from(bytes.len).min(bytes.bytes.len())]
 }

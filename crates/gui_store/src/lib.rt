@@ -1,5 +1,5 @@
-//! A scene: the tree of its objects, a row for each, their styles, the fonts and images, and the changes that a
-//! script may ask for.
+//! A scene: the tree of its objects, a row for each, their styles, the fonts and images, and the changes that
+//! a script may ask for.
 //!
 //! All memory is taken at [`Store::open`]. A change is done as a whole or refused; a refusal leaves all as
 //! it was.

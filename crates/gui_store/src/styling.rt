@@ -26,7 +26,8 @@ pub(crate) fn named_by(change: &Change) -> Option<Handle>
 /// Carries out a change of styles, of an object that is there if it names one. Any other change is unknown.
 pub(crate) fn restyle(styles: &mut Styles, fonts: &Fonts, change: &Change) -> Result<(), Refusal>
     requires { is_in_range change.now ≡ true }
-    ensures { IsRestyled styles.old styles.new (styling_of fonts.now.fonts styles.old.book change.now) result }
+    ensures { IsRestyled styles.old styles.new (styling_of fonts.now.fonts styles.old.book change.now)
+        result }
 {
     match *change {
         Change::Style(s) => styles.style(s),

@@ -1,5 +1,5 @@
 //! The places of a store's objects, worked out by hand.
-ghost use Rattle.std.specs.Prelude.{◌≡◌, IfOk};
+ghost use Rattle.std.specs.Prelude.{◌≡◌, true, IfOk};
 ghost use Rattle.scene_defs.specs.Valid.{IsChange};
 ghost use Rattle.gui_store.specs.Views.{scene_of};
 ghost use Rattle.gui_layout.specs.Solved.{AreSolved, limits_of};
@@ -13,21 +13,21 @@ use std::test::Fail;
 
 const SCREEN: Handle = Handle(3);
 
-/// The change, where a new object is a plain one.
-fn plain(change: Change) -> Change
-    ensures { IsChange result }
+/// Whether a new object is a plain one.
+fn is_plain(change: &Change) -> bool
+    ensures { result ≡ true → IsChange change.now }
 {
     match change {
-        Change::New(n, parent, _) => Change::New(n, parent, Kind::Obj),
-        _ => change,
+        Change::New(_, _, kind) => *kind == Kind::Obj,
+        _ => true,
     }
 }
 
 /// Makes the change, or tells that it is refused.
-fn make(store: &mut Store, change: Change) -> Result<(), &'static str>
+fn make(store: &mut Store, change: &Change) -> Result<(), &'static str>
     ensures { (scene_of store.new).limits ≡ (scene_of store.old).limits }
 {
-    if store.apply(&plain(change)).is_err() {
+    if !is_plain(change) || store.apply(change).is_err() {
         return Err("refused");
     }
     Ok(())
@@ -39,7 +39,7 @@ fn changed(alloc: Global, limits: &Limits, changes: &[Change]) -> Result<Store, 
         return Err("no memory");
     };
     for change in changes {
-        make(&mut store, *change)?;
+        make(&mut store, change)?;
     }
     Ok(store)
 }

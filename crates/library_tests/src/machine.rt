@@ -57,7 +57,7 @@ fn refresh_white<L: Ledger>(rt: &impl Abort, alloc: Global, blank: Blank) -> Res
 
 /// What the machine replies to a change.
 fn reply(gui: &mut Gui, log: &mut MemSink, change: Change) -> Option<Reply>
-    requires { IsChange change }
+    requires { IsChange change.entry }
 {
     gui.apply(&Command::Change(change), log).ok()
 }

@@ -2,7 +2,6 @@
 use Rattle.std.proofs.Common.{◌≡◌, refl, true, false, [], ◌∷◌, map}
 use Rattle.std.specs.Prelude.{codes, Ok, Err, pos, neg_ℤ}
 use Rattle.hex.specs.Hex.{decode_pairs}
-use Rattle.gui_base.specs.Bytes.{bytes_of}
 use Rattle.gui_base.specs.declared.words.Format.TheVariants.{Rgb565Alpha}
 use Rattle.gui_base.specs.Bits.{with_bit}
 use Rattle.gui_base.specs.Names.{named}
@@ -22,6 +21,7 @@ use Rattle.run_defs.specs.declared.LineFault.TheVariants.{Syntax, Range}
 use Rattle.run_defs.specs.Commands.{command_says, state, property, align, flow}
 use Rattle.run_defs.specs.Lengths.{length_said}
 use Rattle.run_defs.specs.Fields.{over, value, past}
+use Rattle.scene_defs.specs.Rows.{bytes_in_hex}
 use Rattle.run_defs.specs.Numbers.{number, natural, color, code_said, bytes_said}
 use Rattle.run_defs.specs.Selectors.{selector_named, state_named}
 use Rattle.run_defs.specs.Script.{Said, line_says, parse}
@@ -69,12 +69,12 @@ worked : map (λ line. parse line) (
     ∷ asks (change.Unuse (record { 0 = 12 }) 7 (record { part = Main; states = 32768 }))
     ∷ asks (change.Set 7 TextAlign (pos 2))
     ∷ asks (change.Font 1 10 6)
-    ∷ asks (change.Glyph 1 65 (record { advance = 7; w = 3; h = 2; ox = neg_ℤ (pos 1); oy = pos 64 }) (bytes_of (160 ∷ 255 ∷ [])))
+    ∷ asks (change.Glyph 1 65 (record { advance = 7; w = 3; h = 2; ox = neg_ℤ (pos 1); oy = pos 64 }) (160 ∷ 255 ∷ []))
     ∷ asks (change.EndFont 99)
     ∷ asks (change.Image 999 Rgb565Alpha 256 1)
-    ∷ asks (change.ImageRow 999 255 (bytes_of []))
+    ∷ asks (change.ImageRow 999 255 [])
     ∷ []
-unfolding line_says command_says named value past over number natural color code_said bytes_said decode_pairs state property align flow length_said selector_named state_named with_bit
+unfolding line_says command_says named value past over number natural color code_said bytes_said bytes_in_hex decode_pairs state property align flow length_said selector_named state_named with_bit
 worked = refl
 
 -- the form of the whole line comes before the intervals of its numbers, and what a value may be depends on the property
@@ -105,5 +105,5 @@ faults : map (λ line. parse line) (
     ∷ codes "row 1 0 0g"
     ∷ []) ≡ Err Range ∷ Err Syntax ∷ Err Syntax ∷ Err Syntax ∷ Err Range ∷ Err Syntax ∷ Err Syntax ∷ Err Range ∷ Err Range ∷ Err Syntax ∷ Err Range ∷ Err Syntax ∷ Err Syntax ∷ Err Range ∷
     Err Range ∷ Err Range ∷ Err Range ∷ Err Range ∷ Err Syntax ∷ Err Syntax ∷ Err Syntax ∷ Err Range ∷ Err Range ∷ Err Syntax ∷ []
-unfolding line_says command_says named value past over number natural color code_said bytes_said decode_pairs state property align flow length_said selector_named state_named with_bit
+unfolding line_says command_says named value past over number natural color code_said bytes_said bytes_in_hex decode_pairs state property align flow length_said selector_named state_named with_bit
 faults = refl

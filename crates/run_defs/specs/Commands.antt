@@ -8,7 +8,6 @@ use Rattle.gui_base.specs.declared.intervals.TheConstants.{GLYPH_HEIGHT, GLYPH_O
 use Rattle.gui_base.specs.declared.intervals.TheConstants.{IMAGE_ROW}
 use Rattle.gui_base.specs.declared.words.TheConstants.{KINDS, FLAGS, ON_OFF, STATES, TEXT_ALIGNS, ALIGNS}
 use Rattle.gui_base.specs.declared.words.TheConstants.{FLOWS, PLACINGS, CROSS_PLACINGS, FORMATS}
-use Rattle.gui_base.specs.declared.bytes.Bytes.{Bytes}
 use Rattle.gui_base.specs.declared.words.Align.{Align}
 use Rattle.gui_base.specs.declared.words.Align.TheVariants.{TopLeft}
 use Rattle.gui_base.specs.declared.words.Flag.{Flag}
@@ -32,7 +31,6 @@ use Rattle.gui_base.specs.declared.words.TextAlign.TheVariants.{Left, Center, Ri
 use Rattle.gui_base.specs.declared.props.Prop.{Prop}
 use Rattle.gui_base.specs.declared.props.Prop.TheVariants as prop
 use Rattle.gui_base.specs.declared.props.TheConstants.{PROPS}
-use Rattle.gui_base.specs.Bytes.{bytes_of}
 use Rattle.gui_base.specs.Names.{table, named}
 use Rattle.gui_base.specs.Props.{values_of}
 use Rattle.text_defs.specs.declared.GlyphBox.{GlyphBox}
@@ -154,8 +152,8 @@ format = name_in (table {A = Format} FORMATS) Rgb565
 abbrev pub image_side : Field ℕ
 image_side = count_in IMAGE_SIDE
 
-abbrev pub bytes : Field Bytes
-bytes = record { says = bytes_said; stand_in = bytes_of [] }
+abbrev pub bytes : Field (List ℕ)
+bytes = record { says = bytes_said; stand_in = [] }
 
 -- the changes of the trees
 abbrev pub tree_fields : TreeName → Progress → Made Change
@@ -192,7 +190,7 @@ style_fields style.Unlocal at = fields change.Unlocal at ▹ handle ▹ selector
 abbrev pub box_of : ℕ → ℕ → ℕ → ℤ → ℤ → GlyphBox
 box_of advance w h ox oy = record { advance = advance; w = w; h = h; ox = ox; oy = oy }
 
-abbrev pub glyph_change : ℕ → ℕ → ℕ → ℕ → ℕ → ℤ → ℤ → Bytes → Change
+abbrev pub glyph_change : ℕ → ℕ → ℕ → ℕ → ℕ → ℤ → ℤ → List ℕ → Change
 glyph_change font code advance w h ox oy rows = change.Glyph font code (box_of advance w h ox oy) rows
 
 -- the changes of the fonts and the images

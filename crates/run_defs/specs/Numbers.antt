@@ -7,9 +7,8 @@ use Rattle.std.specs.declared.option.Option.{Option}
 use Rattle.std.specs.declared.result.Result.{Result}
 use Rattle.hex.specs.Hex.{decode_sized, decode_of}
 use Rattle.hex.specs.declared.error.FromHexError.{FromHexError}
-use Rattle.gui_base.specs.Bytes.{bytes_of}
-use Rattle.gui_base.specs.declared.bytes.Bytes.{Bytes}
 use Rattle.gui_base.specs.declared.intervals.TheConstants.{CODE}
+use Rattle.scene_defs.specs.Rows.{bytes_in_hex}
 use Rattle.run_defs.specs.declared.LineFault.TheVariants.{Syntax, Range}
 use Rattle.run_defs.specs.Language.{Word, Reading, mapped}
 
@@ -69,17 +68,12 @@ code_from (Err fault) = Err fault
 unfoldable pub code_said : Word → Reading ℕ
 code_said word = code_from (natural (unsigned_abs CODE.low) (unsigned_abs CODE.high) word)
 
-abbrev pub bytes_from : Result (List ℕ) FromHexError → Reading Bytes
-bytes_from (Ok bytes) = Ok (bytes_of bytes)
-bytes_from (Err e) = Err Syntax
-
--- the most digits that a word can have: those of the longest line
-abbrev pub most_digits : ℕ
-most_digits = 4096
+abbrev pub bytes_from : Option (List ℕ) → Reading (List ℕ)
+bytes_from (Some bytes) = Ok bytes
+bytes_from None = Err Syntax
 
 -- bytes: an even number of hexadecimal digits of either case, or a dash for none
-unfoldable pub bytes_said : Word → Reading Bytes
+unfoldable pub bytes_said : Word → Reading (List ℕ)
 bytes_said [] = Err Syntax
 bytes_said (b ∷ bs) =
-    if bytes_eq (b ∷ bs) (codes "-") then Ok (bytes_of [])
-    else if nat_lt most_digits (length (b ∷ bs)) then Err Syntax else bytes_from (decode_of (b ∷ bs))
+    if bytes_eq (b ∷ bs) (codes "-") then Ok [] else bytes_from (bytes_in_hex (b ∷ bs))

@@ -14,10 +14,10 @@ use scene_defs::Change;
 use thiserror::Error;
 
 /// What a line asks of the machine, beside a frame.
-#[derive(Clone, Copy)]
-pub enum Command {
+#[derive(Drop)]
+pub enum Command<'a> {
     /// A change of the scene.
-    Change(Change),
+    Change(Change<'a>),
 }
 
 /// The reply of the machine to a command.
@@ -30,14 +30,14 @@ pub enum Reply {
 }
 
 /// What a line of the script says.
-#[derive(Clone, Copy)]
-pub enum Line {
+#[derive(Drop)]
+pub enum Line<'a> {
     /// Nothing: a blank line or a comment.
     Blank,
     /// A frame is refreshed and presented.
     Frame,
     /// A command is carried out.
-    Make(Command),
+    Make(Command<'a>),
 }
 
 /// Why a line of the script is refused before it is looked at as a command. Where several apply, the first is

@@ -1,11 +1,11 @@
 -- Fonts and images by their numbers, and what each change of them leaves.
-use Rattle.std.proofs.Common.{◌≡◌, ◌∙◌, sym, ℕ, ◌+◌, Bool, true, false, List, [], ◌∷◌, ◌++◌, map, length, arith, refl, inl, inr, is_some, length-append}
-use Rattle.std.specs.Prelude.{if◌then◌else◌, sum_by, ◌==◌, ◌||◌, ◌&&◌}
+use Rattle.std.proofs.Common.{◌≡◌, ◌∙◌, sym, ℕ, ◌+◌, Bool, true, false, List, [], ◌∷◌, ◌++◌, length, arith, refl, inl, inr, is_some, length-append}
+use Rattle.std.specs.Prelude.{if◌then◌else◌, sum_by, ◌==◌, ◌||◌}
 use Rattle.std.specs.List.{list_all}
 use Rattle.std.proofs.lemmas.Bool.{cases_Bool}
 use Rattle.std.proofs.lemmas.Bool.Decides.{nat_tests}
 use Rattle.std.proofs.lemmas.List.Sums.{sum_by-cons, sum_by_push}
-use Rattle.text_defs.specs.Building.{given, done, with_font, with_glyph, with_finished, new_font}
+use Rattle.text_defs.specs.Building.{given, done, with_glyph, with_finished}
 use Rattle.text_defs.specs.Fonts.{Font, Glyph, font_of}
 use Rattle.text_defs.specs.Images.{Image, image_of, with_row}
 use Rattle.scene_defs.specs.Scene.{glyph_count, ink_count, ink_of, pixel_count}

@@ -1,6 +1,7 @@
 pub mod Assets
 pub mod Changes
 pub mod Distinct
+pub mod Finished
 pub mod Handles
 pub mod InRange
 pub mod Pictures

@@ -1,5 +1,5 @@
 -- A change keeps a scene in order, and its slots add up.
-use Rattle.std.proofs.Common.{◌≡◌, ◌<◌, ◌≤◌, ◌≢◌, ◌∙◌, sym, ap, subst, ℕ, List, [], ◌∷◌, length, length-append, sum_by, ◌+◌, ◌-◌, zero, suc, Bool, true, false, cond, eqb, Option, Some, None, is_some, refl, arith, rules, inl, inr}
+use Rattle.std.proofs.Common.{◌≡◌, ◌<◌, ◌≤◌, ◌∙◌, sym, ap, subst, ℕ, List, [], ◌∷◌, length, length-append, sum_by, ◌+◌, ◌-◌, zero, suc, Bool, true, false, cond, eqb, Option, Some, None, is_some, refl, arith, rules, inl, inr}
 use Rattle.std.specs.List.{list_any, list_all}
 use Rattle.std.specs.Prelude.{if◌then◌else◌, not, ◌&&◌, ◌||◌, ◌==◌, nat_le}
 use Rattle.std.proofs.lemmas.Bool.{cases_Bool, eqb-true, not-false, ltb-false, and_parts, false≢true}
@@ -21,13 +21,13 @@ use Rattle.gui_base.specs.Limits.{Bounds}
 use Rattle.scene_defs.specs.declared.Change.{Change}
 use Rattle.scene_defs.specs.declared.Change.TheVariants as change
 use Rattle.scene_defs.specs.declared.Row.{Row}
-use Rattle.scene_defs.specs.Row.{is_row, row_after, row_set}
-use Rattle.scene_defs.specs.Scene.{Object, Scene, is_at, handles_of, first_scene, is_there, object_at, object_by, spare, new_object, glyph_count, ink_count, pixel_count}
+use Rattle.scene_defs.specs.Row.{row_after, row_set}
+use Rattle.scene_defs.specs.Scene.{Object, Scene, is_at, handles_of, first_scene, is_there, object_by, spare, new_object, glyph_count, ink_count, pixel_count}
 use Rattle.scene_defs.specs.Change.{first_short, tests, answer_of, answer_in_range, need_of, freed_by, scene_after, tree_below, below, parent_object, is_screen, over_row, with_screen, with_object, without, last_below, at_index_below, with_row}
 use Rattle.text_defs.specs.Building.{new_font, with_font, with_glyph, with_finished}
 use Rattle.text_defs.specs.Fonts.{Font}
 use Rattle.text_defs.specs.Images.{Image, with_image, with_row as with_image_row}
-use Rattle.scene_defs.specs.Assets.{rows_of, glyph_in}
+use Rattle.scene_defs.specs.Assets.{glyph_in}
 use Rattle.scene_defs.specs.Laws.{SlotsAddUp}
 use Rattle.scene_defs.specs.Ranges.{is_in_range}
 use Rattle.style_defs.specs.Book.{Book, entries_in, uses_in, a_setting, a_use, an_entry}
@@ -494,8 +494,8 @@ leaves_assets scene (change.Image i format w h) l fits t =
     (rw (image_names-append scene.images new) (once-append (image_names scene.images) i off l.images_once))
     (omega (arith, length-append scene.images (new ∷ []))) (omega (arith, sum_by_push pixel_count scene.images new)) (refl, refl, refl)
 leaves_assets scene (change.ImageRow i y bytes) l fits t =
-    let rowed = are_rowed scene.images i (rows_of bytes) in
-    images_become scene (change.ImageRow i y bytes) l (with_image_row scene.images i (rows_of bytes)) (rowed.fit l.images_fit) (rw rowed.names l.images_once)
+    let rowed = are_rowed scene.images i bytes in
+    images_become scene (change.ImageRow i y bytes) l (with_image_row scene.images i bytes) (rowed.fit l.images_fit) (rw rowed.names l.images_once)
     (omega (arith, rowed.count)) (omega (arith, rowed.pixels)) (refl, refl, refl)
 leaves_assets scene (change.Screen n) l fits t = assets_stay scene _ (change.Screen n) l refl refl (refl, refl, refl, refl, refl)
 leaves_assets scene change l fits t = assets_stay scene _ change l refl refl (refl, refl, refl, refl, refl)

@@ -1,22 +1,15 @@
 -- The values of the properties of a scene's objects lie in their intervals.
-use Rattle.std.proofs.Common.{◌≡◌, ◌≤◌, ◌+◌, ℕ, true, List, [], ◌∷◌, map, length, inl, inr, arith, ℤ}
+use Rattle.std.proofs.Common.{ℕ, List, [], ◌∷◌, map, length, inl, inr}
 use Rattle.std.specs.List.{All}
 use Rattle.std.proofs.lemmas.Bool.{cases_lt}
-use Rattle.std.proofs.lemmas.Bool.Decides.{nat_tests}
-use Rattle.std.proofs.lemmas.Int.{ints}
 use Rattle.std.proofs.lemmas.List.{get_or_past}
 use Rattle.std.proofs.lemmas.List.Elements.{All-nil, All-cons, All-map, All-get_or}
-use Rattle.gui_base.specs.Area.{nat_of}
-use Rattle.gui_base.specs.Props.{is_value}
-use Rattle.gui_base.specs.declared.props.Prop.TheVariants.{BorderWidth, PadLeft, PadRight, PadTop, PadBottom}
-use Rattle.gui_base.specs.declared.words.Part.TheVariants.{Main}
 use Rattle.style_defs.specs.Book.{Book, locals_of}
 use Rattle.style_defs.specs.InOrder.{IsBook, IsEntry}
 use Rattle.style_defs.proofs.Ranges.{values_in_range as all_in_range}
 use Rattle.style_defs.specs.Value.{Styled}
-use Rattle.scene_defs.specs.Scene.{Object, Scene, styled_of, path_at, value}
+use Rattle.scene_defs.specs.Scene.{Object, styled_of, path_at}
 use Rattle.scene_defs.specs.Values.{ValuesInRange}
-use Rattle.scene_defs.specs.Valid.{IsValid}
 
 entries_fit : (book : Book) (h : ℕ) → IsBook book → All IsEntry (locals_of book h)
 entries_fit book h in_order = elim (cases_lt h (length book.locals)) [

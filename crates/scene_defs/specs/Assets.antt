@@ -1,11 +1,11 @@
 -- The changes of the fonts and the images of a scene.
-use Rattle.std.specs.Prelude.{ℕ, List, take, length, Some, None}
+use Rattle.std.specs.Prelude.{ℕ, List, length, Some, None}
 use Rattle.std.specs.declared.option.Option.{Option}
 use Rattle.gui_base.specs.Refusing.{Test}
-use Rattle.gui_base.specs.declared.bytes.Bytes.{Bytes}
 use Rattle.gui_base.specs.declared.limits.Pool.{Pool}
 use Rattle.gui_base.specs.declared.limits.Pool.TheVariants.{Fonts, Glyphs, Ink, Images, Pixels}
-use Rattle.text_defs.specs.Building.{begin_tests, glyph_tests, finish_tests, with_font, with_glyph, with_finished}
+use Rattle.text_defs.specs.Building.{begin_tests, glyph_tests, finish_tests}
+use Rattle.text_defs.specs.Building.{with_font, with_glyph, with_finished}
 use Rattle.text_defs.specs.Fonts.{Font, Glyph}
 use Rattle.text_defs.specs.Images as images
 use Rattle.text_defs.specs.Images.{Image, image_bytes, row_tests, with_image, with_row}
@@ -23,8 +23,8 @@ pub record AssetChange : Type 0 where
   pub fonts : List Font
   pub images : List Image
 
--- so many slots of each pool: none, one of fonts, one of glyphs with so many bytes of ink, and one of images with
--- so many bytes of pixels
+-- so many slots of each pool: none, one of fonts, one of glyphs with so many bytes of ink, and one of images
+-- with so many bytes of pixels
 abbrev pub no_room : Pool → ℕ
 no_room pool = 0
 
@@ -42,13 +42,8 @@ of_images pixels Images = 1
 of_images pixels Pixels = pixels
 of_images pixels pool = 0
 
--- the bytes of a row or of a glyph. Of more than a change can hold these are those that it holds: no row and no
--- glyph has as many, so that it is refused for them
-abbrev pub rows_of : Bytes → List ℕ
-rows_of b = take b.len b.bytes
-
-abbrev pub glyph_in : ℕ → GlyphBox → Bytes → Glyph
-glyph_in code shape bytes = record { code = code; shape = shape; rows = rows_of bytes }
+abbrev pub glyph_in : ℕ → GlyphBox → List ℕ → Glyph
+glyph_in code shape rows = record { code = code; shape = shape; rows = rows }
 
 -- what a change asks for where it changes fonts or images
 module _ (fs : List Font) (is : List Image) where
@@ -59,10 +54,10 @@ module _ (fs : List Font) (is : List Image) where
     fonts = with_font fs f height advance;
     images = is;
   })
-  asset_change_of (change.Glyph f code shape bytes) = Some (record {
-    tests = glyph_tests fs f (glyph_in code shape bytes);
-    need = of_glyphs (length (rows_of bytes));
-    fonts = with_glyph fs f (glyph_in code shape bytes);
+  asset_change_of (change.Glyph f code shape rows) = Some (record {
+    tests = glyph_tests fs f (glyph_in code shape rows);
+    need = of_glyphs (length rows);
+    fonts = with_glyph fs f (glyph_in code shape rows);
     images = is;
   })
   asset_change_of (change.EndFont f) = Some (record {
@@ -77,10 +72,10 @@ module _ (fs : List Font) (is : List Image) where
     fonts = fs;
     images = with_image is i format w h;
   })
-  asset_change_of (change.ImageRow i y bytes) = Some (record {
-    tests = row_tests is i y (rows_of bytes);
+  asset_change_of (change.ImageRow i y row) = Some (record {
+    tests = row_tests is i y row;
     need = no_room;
     fonts = fs;
-    images = with_row is i (rows_of bytes);
+    images = with_row is i row;
   })
   asset_change_of change = None

@@ -1,11 +1,13 @@
 pub mod Assets
 pub mod Change
+pub mod Finished
 pub mod Items
 pub mod Laws
 pub mod Picture
 pub mod Place
 pub mod Ranges
 pub mod Row
+pub mod Rows
 pub mod Scene
 pub mod Shown
 pub mod Styling

@@ -2,8 +2,9 @@
 use Rattle.std.specs.Prelude.{Bool, false, ◌&&◌, Some, None, pos}
 use Rattle.std.specs.declared.option.Option.{Option}
 use Rattle.gui_base.specs.declared.intervals.TheConstants.{HANDLE, NEW_HANDLE, INDEX, STYLE}
-use Rattle.gui_base.specs.declared.intervals.TheConstants.{FONT, FONT_HEIGHT, ADVANCE, CODE, IMAGE, IMAGE_SIDE}
-use Rattle.gui_base.specs.declared.intervals.TheConstants.{GLYPH_WIDTH, GLYPH_HEIGHT, GLYPH_OFFSET, IMAGE_ROW}
+use Rattle.gui_base.specs.declared.intervals.TheConstants.{FONT, FONT_HEIGHT, ADVANCE, CODE, IMAGE}
+use Rattle.gui_base.specs.declared.intervals.TheConstants.{GLYPH_WIDTH, GLYPH_HEIGHT, GLYPH_OFFSET}
+use Rattle.gui_base.specs.declared.intervals.TheConstants.{IMAGE_SIDE, IMAGE_ROW}
 use Rattle.gui_base.specs.Intervals.{is_counted, is_within}
 use Rattle.gui_base.specs.Props.{is_value}
 use Rattle.text_defs.specs.declared.GlyphBox.{GlyphBox}

@@ -1,11 +1,10 @@
 -- The row of an object: its first values, the intervals of its numbers, and the changes that set it.
-use Rattle.std.specs.Prelude.{ℕ, ◌+◌, ◌^◌, Bool, true, false, ◌&&◌, if◌then◌else◌, Some, None, is_some}
-use Rattle.std.specs.Prelude.{option_map, unwrap_or, pos, ℤ}
+use Rattle.std.specs.Prelude.{ℕ, ◌^◌, Bool, true, false, ◌&&◌, Some, None}
+use Rattle.std.specs.Prelude.{option_map, pos}
 use Rattle.std.specs.declared.option.Option.{Option}
 use Rattle.gui_base.specs.Bits.{has_bit, with_bit, flag_bit, state_bit}
 use Rattle.gui_base.specs.Intervals.{is_counted, is_within}
 use Rattle.gui_base.specs.declared.Handle.{Handle}
-use Rattle.gui_base.specs.declared.intervals.Interval.{Interval}
 use Rattle.gui_base.specs.declared.intervals.TheConstants.{EXTENT, PERCENT, COORDINATE, GROW}
 use Rattle.gui_base.specs.declared.words.Flag.{Flag}
 use Rattle.gui_base.specs.declared.words.Flag.TheVariants.{Clickable}
@@ -18,8 +17,6 @@ use Rattle.gui_base.specs.declared.words.Flow.TheVariants.{Free}
 use Rattle.gui_base.specs.declared.words.Placing.{Placing}
 use Rattle.gui_base.specs.declared.words.Placing.TheVariants.{Start, End, Center, SpaceEvenly, SpaceAround}
 use Rattle.gui_base.specs.declared.words.Placing.TheVariants.{SpaceBetween}
-use Rattle.gui_base.specs.declared.props.Prop.{Prop}
-use Rattle.gui_base.specs.declared.props.Prop.TheVariants.{BgColor, BgOpa}
 use Rattle.scene_defs.specs.declared.Change.{Change}
 use Rattle.scene_defs.specs.declared.Change.TheVariants as change
 use Rattle.scene_defs.specs.declared.Row.{Row}

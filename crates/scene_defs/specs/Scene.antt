@@ -1,5 +1,5 @@
 -- A scene is trees of objects, the screen that is active, styles, fonts, images, and the limits.
-use Rattle.std.specs.Prelude.{ℕ, ◌+◌, ◌-◌, Bool, ◌==◌, if◌then◌else◌, Some, None, option_map}
+use Rattle.std.specs.Prelude.{ℕ, ◌-◌, Bool, ◌==◌, if◌then◌else◌, Some, None, option_map}
 use Rattle.std.specs.Prelude.{ℤ, List, [], map, length, sum_by}
 use Rattle.std.specs.declared.option.Option.{Option}
 use Rattle.gui_base.specs.Forest.{Forest, Empty, Tree, map_forest, size, has, has_by, path_by}

@@ -1,7 +1,6 @@
 -- Scenes and changes that are in order. Each fact about numbers and kinds is that a test is true.
 use Rattle.std.specs.Prelude.{◌≡◌, ◌≢◌, ◌≤◌, ℕ, Bool, true, false, not, ◌&&◌, ◌||◌, ◌==◌, if◌then◌else◌}
-use Rattle.std.specs.Prelude.{Some, None, ℤ, List, [], ◌∷◌, map, length, pos, sum_by}
-use Rattle.std.specs.declared.option.Option.{Option}
+use Rattle.std.specs.Prelude.{ℤ, List, [], ◌∷◌, map, length, pos, sum_by}
 use Rattle.std.specs.List.{list_any, list_all}
 use Rattle.gui_base.specs.declared.intervals.TheConstants.{HANDLE, COORDINATE, MAX_DEPTH, FONT}
 use Rattle.gui_base.specs.declared.intervals.TheConstants.{FONT_HEIGHT, ADVANCE, CODE, IMAGE, IMAGE_SIDE}

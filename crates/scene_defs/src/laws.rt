@@ -1,5 +1,6 @@
 //! What follows from the definitions. Each function does nothing: its contract is a law, which is proved.
 ghost use Rattle.scene_defs.specs.Laws.{ChangeKeepsLimits, RefusedChangesNothing, RangeComesFirst};
+ghost use Rattle.scene_defs.specs.Finished.{FontsStay, ImagesStay};
 ghost use Rattle.scene_defs.specs.Laws.{FullWithoutRoom, DoneWithRoom, RefusedWhateverLimits};
 ghost use Rattle.scene_defs.specs.Laws.{SetsRowAlone, SlotsAddUp};
 ghost use Rattle.scene_defs.specs.Valid.{FirstIsValid, ChangeKeepsValid, ValidIsShowable};
@@ -63,4 +64,10 @@ pub fn scenes_are_valid()
     ensures first { FirstIsValid }
     ensures changed { ChangeKeepsValid }
     ensures showable { ValidIsShowable }
+{}
+
+/// A finished font, and an image that has all its rows, stay as they are.
+pub fn finished_stays()
+    ensures fonts { FontsStay }
+    ensures images { ImagesStay }
 {}

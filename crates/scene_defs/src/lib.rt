@@ -5,15 +5,17 @@
 ghost use Rattle.std.specs.Prelude.{◌≡◌};
 
 pub mod laws;
+mod rows;
 
 use gui_base::{
-    Align, Bits, Bytes, Flag, Flow, Format, Handle, Kind, Length, Placing, Prop, Selector, State,
+    Align, Bits, Flag, Flow, Format, Handle, Kind, Length, Placing, Prop, Selector, State,
 };
+pub use rows::{MOST_BYTES, Rows};
 use text_defs::GlyphBox;
 
 /// A change of the scene. No change holds a kind that only roots have.
-#[derive(Clone, Copy)]
-pub enum Change {
+#[derive(Drop)]
+pub enum Change<'a> {
     /// Makes a screen, which is not shown.
     Screen(Handle),
     /// Makes the last child of the second.
@@ -61,17 +63,17 @@ pub enum Change {
     Local(Handle, Selector, Prop, i32),
     /// Removes such a property.
     Unlocal(Handle, Selector, Prop),
-    /// Begins a font with this number: how high its lines are, and how far a character without a glyph takes the
-    /// next one, in pixels.
+    /// Begins a font with this number: how high its lines are, and how far a character without a glyph takes
+    /// the next one, in pixels.
     Font(u8, u8, u8),
     /// Gives a font the glyph of a character: its box, and its bits row by row, each row in whole bytes.
-    Glyph(u8, char, GlyphBox, Bytes),
+    Glyph(u8, char, GlyphBox, Rows<'a>),
     /// Finishes a font, which takes no more glyphs then.
     EndFont(u8),
     /// Begins an image with this number: its format, and its width and height in pixels.
     Image(u16, Format, u16, u16),
     /// Gives an image its next row: which it is, from 0, and its bytes. The last row finishes the image.
-    ImageRow(u16, u16, Bytes),
+    ImageRow(u16, u16, Rows<'a>),
 }
 
 /// What an object is and what is wanted of it. Only screens and layers are roots; all else is a plain object.

@@ -60,6 +60,10 @@ goes_on_one old new said outcome n effects asked notes_are machine number frame 
   next : new.moment ≡ after old.moment said
   next = same_moment machine number (frame ∙ ap (λ (k : ℕ). old.moment.frame + k) asked)
 
+-- the same, where the lines are said in another way
+pub goes_on_said : (old new : Running) (lines others : List Said) → lines ≡ others → GoesOn old new lines → GoesOn old new others
+goes_on_said old new lines others e h = subst (GoesOn old new) e h
+
 pub halts_at : (old : Running) (new : Output) (said : Said) → Breaks old.output new (entry old.moment said) → HasSizes new.panel old.moment.machine.scene.limits → Halts old new (said ∷ [])
 halts_at old new said breaks sizes = record {
   from = λ first start before h. record {

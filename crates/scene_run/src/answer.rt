@@ -72,19 +72,19 @@ fn is_noted(reply: Reply) -> bool
 
 /// Carries out a command, which writes what its events say, and writes the reply. It tells whether there is
 /// something to note.
-fn make<L: Sink>(gui: &mut Gui, command: Command, number: u32, log: &mut L) -> Result<bool, Failed>
-    requires { IsCommand command }
-    ensures machine { machine_of gui.new ≡ (step (machine_of gui.old) command).machine }
-    ensures noted { IfOk result (λ noted. noted ≡ is_noted (step (machine_of gui.old) command).reply) }
+fn make<L: Sink>(gui: &mut Gui, command: &Command, number: u32, log: &mut L) -> Result<bool, Failed>
+    requires { IsCommand command.now }
+    ensures machine { machine_of gui.new ≡ (step (machine_of gui.old) command.now).machine }
+    ensures noted { IfOk result (λ noted. noted ≡ is_noted (step (machine_of gui.old) command.now).reply) }
     ensures ok { OnOk result (Appends (L.state log.old).held (L.state log.new).held
-        (log_lines (Replied number (step (machine_of gui.old) command).lines
-        (step (machine_of gui.old) command).reply))) }
+        (log_lines (Replied number (step (machine_of gui.old) command.now).lines
+        (step (machine_of gui.old) command.now).reply))) }
     ensures err { OnErr result (AppendsPrefix (L.state log.old).held (L.state log.new).held
-        (log_lines (Replied number (step (machine_of gui.old) command).lines
-        (step (machine_of gui.old) command).reply))) }
+        (log_lines (Replied number (step (machine_of gui.old) command.now).lines
+        (step (machine_of gui.old) command.now).reply))) }
     ensures cause { HasCause (L.state log.old).faults (L.state log.new).faults result }
 {
-    let reply = gui.apply(&command, log)?;
+    let reply = gui.apply(command, log)?;
     log.put(reply_text(number, reply).as_slice())?;
     Ok(is_noted(reply))
 }
@@ -133,26 +133,27 @@ pub struct LineEnd {
 /// Answers a line: what the log and the panel get.
 pub fn answer<L: Sink, P: Panel>(
     gui: &mut Gui,
-    said: Result<Line, LineFault>,
+    said: &Result<Line, LineFault>,
     number: u32,
     frame: u32,
     log: &mut L,
     panel: &mut P,
 ) -> Result<LineEnd, Failed>
     requires sizes { HasSizes (P.state panel.old) (machine_of gui.old).scene.limits }
-    requires in_range { IsInRange said }
-    ensures machine { machine_of gui.new ≡ machine_after (machine_of gui.old) said }
+    requires in_range { IsInRange said.now }
+    ensures machine { machine_of gui.new ≡ machine_after (machine_of gui.old) said.now }
     ensures sizes { HasSizes (P.state panel.new) (machine_of gui.old).scene.limits }
     ensures ok { IfOk result (λ end. (seen : Option Scene) → IfSome seen (ShowsScene (P.state panel.old)) →
         Effects (output (L.state log.old) (P.state panel.old)) (output (L.state log.new) (P.state panel.new))
-        seen (told (entry (moment (machine_of gui.old) number frame) said ∷ [])
+        seen (told (entry (moment (machine_of gui.old) number frame) said.now ∷ [])
         (option_to_list end.outcome))) }
-    ensures asked { IfOk result (λ end. length (option_to_list end.outcome) ≡ frames_asked said) }
+    ensures asked { IfOk result (λ end. length (option_to_list end.outcome) ≡ frames_asked said.now) }
     ensures noted { IfOk result (λ end. end.noted ≡ noted
-        (told (entry (moment (machine_of gui.old) number frame) said ∷ []) (option_to_list end.outcome))) }
+        (told (entry (moment (machine_of gui.old) number frame) said.now ∷ [])
+        (option_to_list end.outcome))) }
     ensures err { OnErr result (Breaks (output (L.state log.old) (P.state panel.old))
         (output (L.state log.new) (P.state panel.new))
-        (entry (moment (machine_of gui.old) number frame) said)) }
+        (entry (moment (machine_of gui.old) number frame) said.now)) }
 {
     let mut end = LineEnd {
         outcome: None,
@@ -174,7 +175,7 @@ pub fn answer<L: Sink, P: Panel>(
             }
         },
         Err(fault) => {
-            let reply = Reply::Refused(Refusal::from(fault));
+            let reply = Reply::Refused(Refusal::from(*fault));
             log.put(reply_text(number, reply).as_slice())?;
             end.noted = true;
             Ok(end)

@@ -1,6 +1,6 @@
 //! A run under way.
 ghost use Rattle.std.specs.Prelude.{◌≡◌, ◌+◌, ◌^◌, ◌<◌, ◌∷◌, [], ◌||◌, length, if◌then◌else◌};
-ghost use Rattle.std.specs.Prelude.{OnOk, OnErr, false};
+ghost use Rattle.std.specs.Prelude.{OnOk, OnErr, IfSome, false};
 ghost use Rattle.std.specs.Option.{option_to_list};
 ghost use Rattle.run_defs.specs.Laws.{IsInRange};
 ghost use Rattle.scene_script.specs.Cutting.{HasTaken, cut_says};
@@ -60,29 +60,8 @@ impl Runner {
         self.noted = self.noted || end.noted;
     }
 
-    /// Answers a line.
-    #[tactic(auto, using(crate::proofs::Going::halts_at))]
-    fn take_line<L: Sink, P: Panel>(
-        &mut self,
-        said: Result<Line, LineFault>,
-        log: &mut L,
-        panel: &mut P,
-    ) -> Result<(), Failed>
-        requires in_range { IsInRange said }
-        requires ready { IsReady (running self.old (L.state log.old) (P.state panel.old)) 1 }
-        ensures ok { OnOk result (GoesOn (running self.old (L.state log.old) (P.state panel.old))
-            (running self.new (L.state log.new) (P.state panel.new)) (said ∷ [])) }
-        ensures err { OnErr result (Halts (running self.old (L.state log.old) (P.state panel.old))
-            (output (L.state log.new) (P.state panel.new)) (said ∷ [])) }
-        ensures line { self.new.cutter ≡ self.old.cutter }
-    {
-        let end = answer(&mut self.gui, said, self.number, self.frame, log, panel)?;
-        self.go_on(end);
-        Ok(())
-    }
-
     /// Answers the line that the cutter's last answer made whole, if it made one.
-    #[tactic(auto, using(run_defs::proofs::Ranges::says_in_range, crate::proofs::Going::goes_on_none))]
+    #[tactic(auto, using(crate::proofs::Going::goes_on_none, crate::proofs::Going::halts_at))]
     fn take_cut<L: Sink, P: Panel>(
         &mut self,
         cut: Cut,
@@ -97,14 +76,12 @@ impl Runner {
             (output (L.state log.new) (P.state panel.new)) (cut_says self.old.cutter)) }
         ensures line { self.new.cutter ≡ self.old.cutter }
     {
-        match cut {
-            Cut::More => Ok(()),
-            Cut::Line => {
-                let said = parse_line(self.cutter.line());
-                self.take_line(said, log, panel)
-            }
-            Cut::Long => self.take_line(Err(LineFault::Long), log, panel),
-        }
+        let Some(said) = said(&self.cutter, cut) else {
+            return Ok(());
+        };
+        let end = answer(&mut self.gui, &said, self.number, self.frame, log, panel)?;
+        self.go_on(end);
+        Ok(())
     }
 
     /// Takes a byte of the script.
@@ -166,5 +143,19 @@ impl Runner {
         } else {
             Status::Done
         }
+    }
+}
+
+/// What the line says that the cutter's last answer made whole, if it made one.
+#[tactic(auto, using(run_defs::proofs::Ranges::says_in_range))]
+fn said(cutter: &Cutter, cut: Cut) -> Option<Result<Line, LineFault>>
+    requires { cut ≡ cutter.now.answer }
+    ensures says { option_to_list result ≡ cut_says cutter.now }
+    ensures in_range { IfSome result IsInRange }
+{
+    match cut {
+        Cut::More => None,
+        Cut::Line => Some(parse_line(cutter.line())),
+        Cut::Long => Some(Err(LineFault::Long)),
     }
 }

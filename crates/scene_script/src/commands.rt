@@ -19,7 +19,7 @@ use text_defs::GlyphBox;
 
 /// What a name and the words after it say.
 #[tactic(auto, unfolding(run_defs::specs::Commands::command_says))]
-pub(crate) fn say_command(name: &[u8], words: &[u8]) -> Result<Line, LineFault>
+pub(crate) fn say_command<'a>(name: &[u8], words: &'a [u8]) -> Result<Line<'a>, LineFault>
     ensures { result ≡ command_says name.now (words_of words.now) }
 {
     let Some(name) = named(&COMMANDS, name) else {
@@ -30,7 +30,7 @@ pub(crate) fn say_command(name: &[u8], words: &[u8]) -> Result<Line, LineFault>
     fields.end(line)
 }
 
-fn line(name: Name, fields: &mut Fields) -> Line
+fn line<'a>(name: Name, fields: &mut Fields<'a>) -> Line<'a>
     ensures made { result ≡ (line_fields name fields.old).made }
     ensures state { fields.new ≡ (line_fields name fields.old).at }
 {
@@ -43,7 +43,7 @@ fn line(name: Name, fields: &mut Fields) -> Line
     }
 }
 
-fn tree_change(name: TreeName, line: &mut Fields) -> Change
+fn tree_change<'a>(name: TreeName, line: &mut Fields<'a>) -> Change<'a>
     ensures made { result ≡ (tree_fields name line.old).made }
     ensures state { line.new ≡ (tree_fields name line.old).at }
 {
@@ -63,7 +63,7 @@ fn tree_change(name: TreeName, line: &mut Fields) -> Change
     }
 }
 
-fn row_change(name: RowName, line: &mut Fields) -> Change
+fn row_change<'a>(name: RowName, line: &mut Fields<'a>) -> Change<'a>
     ensures made { result ≡ (row_fields name line.old).made }
     ensures state { line.new ≡ (row_fields name line.old).at }
 {
@@ -97,7 +97,7 @@ fn row_change(name: RowName, line: &mut Fields) -> Change
     }
 }
 
-fn style_change(name: StyleName, line: &mut Fields) -> Change
+fn style_change<'a>(name: StyleName, line: &mut Fields<'a>) -> Change<'a>
     ensures made { result ≡ (style_fields name line.old).made }
     ensures state { line.new ≡ (style_fields name line.old).at }
 {
@@ -121,7 +121,7 @@ fn style_change(name: StyleName, line: &mut Fields) -> Change
     }
 }
 
-fn asset_change(name: AssetName, line: &mut Fields) -> Change
+fn asset_change<'a>(name: AssetName, line: &mut Fields<'a>) -> Change<'a>
     ensures made { result ≡ (asset_fields name line.old).made }
     ensures state { line.new ≡ (asset_fields name line.old).at }
 {

@@ -15,8 +15,9 @@ use crate::words::next_word;
 use gui_base::intervals::{Count, GLYPH_OFFSET, HANDLE, Interval, NEW_HANDLE};
 use gui_base::props::PROPS;
 use gui_base::words::{ALIGNS, FLOWS, STATES, TEXT_ALIGNS};
-use gui_base::{Align, Bytes, Flow, Handle, Length, Part, Prop, Selector, State, TextAlign, named};
-use run_defs::LineFault;
+use gui_base::{Align, Flow, Handle, Length, Part, Prop, Selector, State, TextAlign, named};
+use run_defs::{Line, LineFault};
+use scene_defs::Rows;
 use std::marker::Model;
 
 /// The words of a line to come, and the worst fault of the fields before.
@@ -146,12 +147,18 @@ impl<'a> Fields<'a> {
 
     /// Bytes.
     #[tactic(auto, unfolding(run_defs::specs::Fields::value, run_defs::specs::Fields::past))]
-    pub(crate) fn bytes(&mut self) -> Bytes
+    pub(crate) fn bytes(&mut self) -> Rows<'a>
         ensures value { result ≡ value bytes self.old }
         ensures state { self.new ≡ past bytes self.old }
     {
         let word = self.word();
-        self.note(bytes(word), Bytes::none())
+        match bytes(word) {
+            Ok(bytes) => bytes,
+            Err(fault) => {
+                self.fail(fault);
+                Rows::plain(b"")
+            }
+        }
     }
 
     /// What a name of a table means.
@@ -228,8 +235,8 @@ impl<'a> Fields<'a> {
     }
 
     /// What the line says, where this was its last field.
-    pub(crate) fn end<T: Copy>(&self, made: T) -> Result<T, LineFault>
-        ensures { result ≡ ended (fields made self.now) }
+    pub(crate) fn end(&self, made: Line<'a>) -> Result<Line<'a>, LineFault>
+        ensures { result ≡ ended (fields made.entry self.now) }
     {
         if next_word(self.rest).is_some() {
             return Err(LineFault::Syntax);
@@ -262,13 +269,23 @@ impl<'a> Fields<'a> {
         match said {
             Ok(value) => value,
             Err(fault) => {
-                self.fault = Some(match self.fault {
-                    None => fault,
-                    Some(first) => first_fault(first, fault),
-                });
+                self.fail(fault);
                 stand_in
             }
         }
+    }
+
+    /// Notes the fault of a field.
+    fn fail(&mut self, fault: LineFault)
+        ensures { self.new ≡ record {
+          fault = with_fault {A = Unit} self.old.fault (Err fault);
+          rest = self.old.rest;
+        } }
+    {
+        self.fault = Some(match self.fault {
+            None => fault,
+            Some(first) => first_fault(first, fault),
+        });
     }
 }
 

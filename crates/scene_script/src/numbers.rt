@@ -1,20 +1,18 @@
 //! Numbers, colours, codes of characters, and bytes.
-ghost use Rattle.std.specs.Prelude.{◌≡◌, ◌≤◌, ◌<◌, ◌≤ℤ◌, ◌<ℤ◌, ◌&&◌, int_le, min, pos, neg_ℤ, option_map, IfOk};
+ghost use Rattle.std.specs.Prelude.{◌≡◌, ◌≤◌, ◌<◌, ◌≤ℤ◌, ◌<ℤ◌, ◌&&◌, int_le, min, pos, neg_ℤ};
+ghost use Rattle.std.specs.Prelude.{option_map, IfOk};
 ghost use Rattle.std.specs.List.{list_all};
 ghost use Rattle.run_defs.specs.Numbers.{is_number, value_of, is_digit, within, number, number_of, natural};
 ghost use Rattle.run_defs.specs.Numbers.{color, code_said, bytes_said};
 ghost use Rattle.scene_script.specs.Numbers.{capped, beyond};
 
-use gui_base::Bytes;
 use gui_base::intervals::{CODE, Count, Interval};
 use hex::FromHex;
 use run_defs::LineFault;
+use scene_defs::Rows;
 
 /// Beyond the ends of every interval: a number that is farther from 0 is read as this one.
 const BEYOND: i64 = 4_294_967_296;
-
-/// The most digits that a word can have: those of the longest line.
-const MOST_DIGITS: usize = 4096;
 
 /// A number from `low` to `high`: syntax where the word is no number, and range where it is outside.
 #[tactic(auto, unfolding(run_defs::specs::Numbers::number))]
@@ -164,19 +162,14 @@ pub(crate) fn code(word: &[u8]) -> Result<char, LineFault>
 
 /// Bytes: two hexadecimal digits of either case for each, or a dash for none.
 #[tactic(auto, unfolding(run_defs::specs::Numbers::bytes_said))]
-pub(crate) fn bytes(word: &[u8]) -> Result<Bytes, LineFault>
+pub(crate) fn bytes(word: &[u8]) -> Result<Rows, LineFault>
     ensures { result ≡ bytes_said word.now }
 {
     if word == b"-".as_slice() {
-        return Ok(Bytes::none());
+        return Ok(Rows::plain(b""));
     }
-    if word.is_empty() || word.len() > MOST_DIGITS {
+    if word.is_empty() {
         return Err(LineFault::Syntax);
     }
-    let mut room = [0; MOST_DIGITS / 2];
-    let bytes = &mut room[..word.len() / 2];
-    if hex::decode_to_slice(word, bytes).is_err() {
-        return Err(LineFault::Syntax);
-    }
-    Ok(Bytes::of(bytes))
+    Rows::hex(word).ok_or(LineFault::Syntax)
 }

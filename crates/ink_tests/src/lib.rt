@@ -1,5 +1,0 @@
-//! Tests over the public calls that draw texts and images.
-#![tactic(auto)]
-
-#[cfg(test)]
-mod drawn;

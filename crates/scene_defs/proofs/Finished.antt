@@ -50,7 +50,7 @@ unfinished-taken fonts f g later is none = elim (cases_Bool (not (has_font fonts
 unfinished-ended : (fonts : List Font) (f : ℕ) (later : Option Refusal) → is_finished fonts f ≡ true → first_of (finish_tests fonts f) later ≢ None
 unfinished-ended fonts f later is none = elim (cases_Bool (not (has_font fonts f))) [ inl a ↦ cc (rw a at none) | inr a ↦ cc (rw (a, is) at none) ]
 
-fonts-after : (scene : Scene) (change : Change) (name : ℕ) (font : Font) → answer_of scene change ≡ None →
+pub fonts-after : (scene : Scene) (change : Change) (name : ℕ) (font : Font) → answer_of scene change ≡ None →
     font_of scene.fonts name ≡ Some font → font.finished ≡ true → font_of (scene_after scene change).fonts name ≡ Some font
 fonts-after scene (change.Font f height advance) name font done e is = found-append name font scene.fonts _ e
 fonts-after scene (change.Glyph f code shape rows) name font done e is = found-given name font scene.fonts f (glyph_in code shape rows) other e where

@@ -5,6 +5,7 @@ pub mod Finished
 pub mod Handles
 pub mod InRange
 pub mod Pictures
+pub mod Ready
 pub mod RowKinds
 pub mod Totals
 pub mod Validity

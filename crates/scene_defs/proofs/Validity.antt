@@ -40,6 +40,7 @@ use Rattle.scene_defs.proofs.Changes.{Fail, tests-fail, range_done, room_in_rang
 use Rattle.scene_defs.proofs.Distinct.{there, IsDistinct, distinct_once, count-off}
 use Rattle.scene_defs.proofs.Handles.{has-handles, depth-handles, parent-handles, below-handles, height-handles}
 use Rattle.scene_defs.proofs.InRange.{row_in_range}
+use Rattle.scene_defs.proofs.Ready.{first_ready, ready-after}
 use Rattle.scene_defs.proofs.Assets.{once-append, all-append, font-among, image-among, names-append, image_names-append, names-given, length-given, fonts-given, glyphs-given, ink-given, are_done, are_rowed}
 use Rattle.scene_defs.proofs.RowKinds.{is_top, fault, faults, root_at, roots-weight, roots-tree, too_low, low-height, screen_root, depth-height, depth-there, depth-below, depth-cut, parent-depth, there-cut, parent-left}
 use Rattle.scene_defs.proofs.Totals.{total, total-cut, one, one_at, size-total, count-total, Weighing, weight, Joins, weight-total, weight-below, weight-and_then, weight-put_at, weight-cut, weight-with_children, weight-with_row}
@@ -519,6 +520,7 @@ after_valid scene change fits c e v =
       book = b.book;
       bare = b.bare;
       assets = m.assets;
+      named = ready-after scene change (rw fits e) (tests-fail (tests scene change) (first_short scene change POOLS) e) v.named;
       pools = record {
         objects = omega (arith, l.objects, fit.objects, room_in_range scene change Objects e, ap (λ (b : Bounds). b.objects) same);
         styles = omega (arith, b.styles, fit.styles, room_in_range scene change Styles e, ap (λ (b : Bounds). b.styles) same);
@@ -571,6 +573,7 @@ first_is_valid limits room = record {
   book = empty_in_order;
   bare = λ h off. empty_bare h;
   assets = record { fonts_fit = refl; fonts_once = refl; images_fit = refl; images_once = refl };
+  named = first_ready [];
   pools = record {
     objects = room;
     styles = omega arith;

@@ -3,6 +3,7 @@ pub mod Change
 pub mod Finished
 pub mod Items
 pub mod Laws
+pub mod NamedFonts
 pub mod Picture
 pub mod Place
 pub mod Ranges

@@ -19,6 +19,7 @@ use Rattle.scene_defs.specs.declared.Change.{Change}
 use Rattle.scene_defs.specs.declared.Change.TheVariants as change
 use Rattle.scene_defs.specs.Change.{changed, is_screen_kind}
 use Rattle.scene_defs.specs.declared.Row.{Row}
+use Rattle.scene_defs.specs.NamedFonts.{AreReady}
 use Rattle.scene_defs.specs.Ranges.{is_shape}
 use Rattle.scene_defs.specs.Row.{is_root, is_row, is_size}
 use Rattle.scene_defs.specs.Scene.{Object, Scene, is_at, handles_of, is_there, first_scene}
@@ -134,6 +135,7 @@ pub record IsValid (scene : Scene) : Type 0 where
   -- who is not there has nothing
   pub bare : (h : ℕ) → is_there scene h ≡ false → IsBare scene.book h
   pub assets : AreAssets scene.fonts scene.images
+  pub named : AreReady scene.fonts scene.book
   pub pools : FitPools scene
 
 -- a change that may be asked for: below a parent stand plain objects, and no screens or layers

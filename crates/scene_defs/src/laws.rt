@@ -1,6 +1,6 @@
 //! What follows from the definitions. Each function does nothing: its contract is a law, which is proved.
 ghost use Rattle.scene_defs.specs.Laws.{ChangeKeepsLimits, RefusedChangesNothing, RangeComesFirst};
-ghost use Rattle.scene_defs.specs.Finished.{FontsStay, ImagesStay};
+ghost use Rattle.scene_defs.specs.Finished.{FontsStay, ImagesStay, FontsOfTextsAreFinished};
 ghost use Rattle.scene_defs.specs.Laws.{FullWithoutRoom, DoneWithRoom, RefusedWhateverLimits};
 ghost use Rattle.scene_defs.specs.Laws.{SetsRowAlone, SlotsAddUp};
 ghost use Rattle.scene_defs.specs.Valid.{FirstIsValid, ChangeKeepsValid, ValidIsShowable};
@@ -70,4 +70,10 @@ pub fn scenes_are_valid()
 pub fn finished_stays()
     ensures fonts { FontsStay }
     ensures images { ImagesStay }
+{}
+
+/// The font that a text names is finished.
+#[tactic(auto, using(crate::proofs::Ready::fonts_of_texts))]
+pub fn fonts_of_texts_are_finished()
+    ensures { FontsOfTextsAreFinished }
 {}

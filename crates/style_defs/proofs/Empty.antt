@@ -15,7 +15,7 @@ module _ (A : Type 0) where
   get-empty (suc n) zero = refl
   get-empty (suc n) (suc h) = get-empty n h
 
-  all_of_none : (P : List A → Type 0) → P [] → All P (no_lists {A = A})
+  pub all_of_none : (P : List A → Type 0) → P [] → All P (no_lists {A = A})
   unfolding no_lists
   all_of_none P none = All-replicate P 65536 [] none
 

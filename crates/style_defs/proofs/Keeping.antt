@@ -28,11 +28,12 @@ module _ {A : Type 0} (P : A → Type 0) (test : A → Bool) where
     | inr isnt ↦ rw isnt (All-cons P y (drop_by test xs) (All-head P y xs all) (All-drop_by xs (All-tail P y xs all)))
   ]
 
-All-inserted : (new : Style) (styles : List Style) → IsStyle new → All IsStyle styles → All IsStyle (inserted new styles)
-All-inserted new [] p all = All-cons IsStyle new [] p all
-All-inserted new (style ∷ styles) p all = elim (cases_Bool (nat_lt new.number style.number)) [
-  | inl is ↦ rw is (All-cons IsStyle new (style ∷ styles) p all)
-  | inr isnt ↦ rw isnt (All-cons IsStyle style (inserted new styles) (All-head IsStyle style styles all) (All-inserted new styles p (All-tail IsStyle style styles all)))
+-- what is so of each style is so with one more
+pub All-inserted : (P : Style → Type 0) (new : Style) (styles : List Style) → P new → All P styles → All P (inserted new styles)
+All-inserted P new [] p all = All-cons P new [] p all
+All-inserted P new (style ∷ styles) p all = elim (cases_Bool (nat_lt new.number style.number)) [
+  | inl is ↦ rw is (All-cons P new (style ∷ styles) p all)
+  | inr isnt ↦ rw isnt (All-cons P style (inserted new styles) (All-head P style styles all) (All-inserted P new styles p (All-tail P style styles all)))
 ]
 
 -- behind one that comes before
@@ -73,19 +74,23 @@ module _ (number : ℕ) (f : List Setting → List Setting) where
     | inr isnt ↦ rw (isnt, changed_behind style styles, ordered-changed styles) refl
   ]
 
-  one_changed : ((settings : List Setting) → All IsSetting settings → All IsSetting (f settings)) → (style : Style) → (is : Bool) → IsStyle style → IsStyle (if is then record { number = style.number; settings = f style.settings } else style)
-  one_changed keeps style true fits = keeps style.settings fits
-  one_changed keeps style false fits = fits
+  -- what is so of each setting is so where it stays so in these settings
+  module _ (P : Setting → Type 0) (keeps : (settings : List Setting) → All P settings → All P (f settings)) where
+    one_changed : (style : Style) → (is : Bool) → All P style.settings → All P (if is then record { number = style.number; settings = f style.settings } else style).settings
+    one_changed style true fits = keeps style.settings fits
+    one_changed style false fits = fits
 
-  All-changed : ((settings : List Setting) → All IsSetting settings → All IsSetting (f settings)) → (styles : List Style) → All IsStyle styles → All IsStyle (map (with_settings number f) styles)
-  All-changed keeps styles all = All-map IsStyle (with_settings number f) styles (All-weaker IsStyle (λ style. IsStyle (with_settings number f style)) (λ style fits. one_changed keeps style (is_numbered number style) fits) styles all)
+    pub All-changed : (styles : List Style) → All (λ (style : Style). All P style.settings) styles → All (λ (style : Style). All P style.settings) (map (with_settings number f) styles)
+    All-changed styles all =
+        All-map (λ (style : Style). All P style.settings) (with_settings number f) styles
+        (All-weaker (λ (style : Style). All P style.settings) (λ (style : Style). All P (with_settings number f style).settings) (λ style fits. one_changed style (is_numbered number style) fits) styles all)
 
 module _ (book : Book) (in_order : IsBook book) where
   -- one style more
   pub style_keeps : (number : ℕ) → has_style book.styles number ≡ false → IsBook (record book { styles = inserted (record { number = number; settings = [] }) book.styles })
   style_keeps number none = record {
     ordered = ordered-inserted (record { number = number; settings = [] }) book.styles none in_order.ordered;
-    settings = All-inserted (record { number = number; settings = [] }) book.styles (All-nil IsSetting) in_order.settings;
+    settings = All-inserted IsStyle (record { number = number; settings = [] }) book.styles (All-nil IsSetting) in_order.settings;
     locals = in_order.locals;
     local_places = in_order.local_places;
     use_places = in_order.use_places;
@@ -95,7 +100,7 @@ module _ (book : Book) (in_order : IsBook book) where
   pub settings_keep : (number : ℕ) (f : List Setting → List Setting) → ((settings : List Setting) → All IsSetting settings → All IsSetting (f settings)) → IsBook (record book { styles = map (with_settings number f) book.styles })
   settings_keep number f keeps = record {
     ordered = ordered-changed number f book.styles ∙ in_order.ordered;
-    settings = All-changed number f keeps book.styles in_order.settings;
+    settings = All-changed number f IsSetting keeps book.styles in_order.settings;
     locals = in_order.locals;
     local_places = in_order.local_places;
     use_places = in_order.use_places;

@@ -69,7 +69,7 @@ module _ (objects : ℕ) (look : Look) (scene : Scene) (shows : Shows objects lo
       let none : visible scene h ≡ None = scene_is_look scene h out in
       (sym none, λ some. absurd (false≢true (sym (ap is_some none) ∙ some)))
   right_by h (Some s) e =
-      let is = shows.seen h s e in
+      let is = (shows.seen h s e).seen in
       (ap (λ (x : Shown). x.visible) is, λ some. ap (λ (x : Shown). x.items) is)
 
   right : (h : ℕ) → Right h (value_at look.seen h)

@@ -1,4 +1,5 @@
 pub mod Canvas
+pub mod Concerned
 pub mod Handles
 pub mod Items
 pub mod Looks

@@ -13,6 +13,7 @@ ghost use Rattle.gui_store.specs.Views.{scene_of, removed_of};
 ghost use Rattle.gui_layout.specs.Solved.{AreSolved, limits_of};
 ghost use Rattle.gui_change.specs.Looks.{IsBlank, Shows};
 
+use crate::concerned::{Concerned, concerned_by};
 use crate::debts::owe_all;
 use crate::look::Look;
 use crate::named::named_by;
@@ -51,7 +52,7 @@ impl Canvas {
         let mut look = Look::open(alloc, limits.objects)?;
         let spare = Look::open(alloc, limits.objects)?;
         places.solve_all(&store);
-        look.take(&store, &places);
+        look.take(&store, &places, &spare, Concerned::Anybody);
         Ok(Canvas {
             store,
             places,
@@ -76,12 +77,15 @@ impl Canvas {
         ensures removed { removed_in self.new ≡ removed_by (answer_of (scene_in self.old) change.now)
             (removed_in self.old) (scene_in self.old) change.now }
     {
-        // Lending the areas tells that the list is sound.
+        // Lending the areas tells that the list is sound, and lending the tree that the scene is in order.
         let _areas = damage.areas();
+        let _tree = self.store.tree();
         match self.store.apply(change) {
             Ok(()) => {
                 self.places.solve_all(&self.store);
-                self.spare.take(&self.store, &self.places);
+                let concerned = concerned_by(change);
+                self.spare
+                    .take(&self.store, &self.places, &self.look, concerned);
                 owe_all(damage, named_by(change), &self.look, &self.spare);
                 self.look.forget();
                 mem::swap(&mut self.look, &mut self.spare);

@@ -8,6 +8,7 @@
 #![tactic(auto)]
 
 mod canvas;
+mod concerned;
 mod debts;
 mod items;
 mod look;

@@ -1,8 +1,9 @@
 //! What is seen of a scene.
-ghost use Rattle.std.specs.Prelude.{◌≡◌, ◌≤◌, ◌<◌, ℕ, [], None, IfOk, length};
+ghost use Rattle.std.specs.Prelude.{◌≡◌, ◌≤◌, ◌<◌, ℕ, [], false, None, Some, IfOk, IfSome, length};
 ghost use Rattle.scene_defs.specs.Scene.{Scene};
 ghost use Rattle.scene_defs.specs.Valid.{IsValid};
-ghost use Rattle.gui_change.specs.Sights.{AreSeen};
+ghost use Rattle.gui_change.specs.Concerned.{may_be};
+ghost use Rattle.gui_change.specs.Sights.{AreSeen, KeepOthers};
 ghost use Rattle.gui_pool.specs.Table.{value_at, value_inserted};
 ghost use Rattle.gui_tree.specs.Handles.{numbers};
 ghost use Rattle.scene_defs.specs.Shown.{order};
@@ -10,6 +11,7 @@ ghost use Rattle.gui_layout.specs.Listing.{HasThese};
 ghost use Rattle.gui_layout.specs.Solved.{AreSolved};
 ghost use Rattle.gui_store.specs.Views.{scene_of};
 
+use crate::concerned::Concerned;
 use crate::seen::{Seen, see};
 use crate::shown::list_shown;
 use gui_base::intervals::HANDLE;
@@ -43,18 +45,40 @@ fn put(table: &mut Table<Seen>, h: Handle, value: Seen)
     };
 }
 
-/// Sees each of the objects that are shown. The table has none.
-fn see_all(table: &mut Table<Seen>, listed: &[Handle], store: &Store, places: &Places)
+/// What is known of an object that a change does not concern.
+fn known_of<'a>(known: &'a Table<Seen>, concerned: Concerned, h: Handle) -> Option<&'a Seen>
+    ensures other { IfSome result (λ s. may_be concerned h.0 ≡ false) }
+    ensures known { IfSome result (λ s. value_at known.now h.0 ≡ Some s.now) }
+{
+    if concerned.may_be(h) {
+        None
+    } else {
+        known.get(h.0 as u32)
+    }
+}
+
+/// Sees each of the objects that are shown. The table has none. What is known of those that a change does not
+/// concern is kept, where they stay in their places.
+fn see_all(
+    table: &mut Table<Seen>,
+    listed: &[Handle],
+    store: &Store,
+    places: &Places,
+    known: &Table<Seen>,
+    concerned: Concerned,
+)
     requires solved { AreSolved places.now (scene_of store.now) }
     requires valid { IsValid (scene_of store.now) }
     requires order { numbers listed.now ≡ order (scene_of store.now) }
     requires blank { HasThese table.old.spare table.old [] }
     requires few { length listed.now ≤ table.old.spare }
+    requires known { KeepOthers known.now concerned (scene_of store.now) }
     ensures these { HasThese table.old.spare table.new listed.now }
     ensures seen { AreSeen table.new (scene_of store.now) }
 {
     for h in listed {
-        put(table, *h, see(store, places, *h));
+        let seen = see(store, places, *h, known_of(known, concerned, *h));
+        put(table, *h, seen);
     }
 }
 
@@ -84,15 +108,30 @@ impl Look {
         Ok(Look { order, seen })
     }
 
-    /// Sees what is shown of a store. Before, nothing is seen.
-    pub(crate) fn take(&mut self, store: &Store, places: &Places)
+    /// Sees what is shown of a store. Before, nothing is seen. What is known of objects that a change does not
+    /// concern is kept, where they stay in their places.
+    pub(crate) fn take(
+        &mut self,
+        store: &Store,
+        places: &Places,
+        known: &Look,
+        concerned: Concerned,
+    )
         requires solved { AreSolved places.now (scene_of store.now) }
         requires blank { IsBlank (scene_of store.now).limits.objects self.old }
+        requires known { KeepOthers known.now.seen concerned (scene_of store.now) }
         ensures { Shows (scene_of store.now).limits.objects self.new (scene_of store.now) }
     {
         let _tree = store.tree();
         list_shown(store, &mut self.order);
-        see_all(&mut self.seen, self.order.as_slice(), store, places);
+        see_all(
+            &mut self.seen,
+            self.order.as_slice(),
+            store,
+            places,
+            &known.seen,
+            concerned,
+        );
     }
 
     /// Forgets all.

@@ -17,8 +17,8 @@ loop-h-init c = record {
   seen = λ h s found. some_none c.args.table.now.spare c.args.table.now h c.requires.blank (ap is_some found);
 }
 
-pub see-requires-clause-there : goal.see-requires-clause-there
-see-requires-clause-there c =
+pub see-seen-requires-clause-there : goal.see-seen-requires-clause-there
+see-seen-requires-clause-there c =
     listed_there (scene_of c.args.store.now) c.requires.valid c.args.listed.now c.requires.order c.loop-h.h-index c.loop-h-test.true
 
 pub put-requires : goal.put-requires
@@ -41,8 +41,8 @@ loop-h-preserved c =
     let but = subst (HasBut objects t hs) (now hs i c.loop-h-test.true) c.loop-h.invariant.but in
     let may = but_first objects t (get_or hs i nobody) hs (drop (i + 1) hs) proper c.requires.few but in
     record {
-      but = but_put objects t c.put.new.table (get_or hs i nobody) c.see.result hs (drop (i + 1) hs) may c.put.ensures but;
-      seen = seen_put (scene_of c.args.store.now) t c.put.new.table (get_or hs i nobody).0 c.see.result may.within c.put.ensures c.see.ensures c.loop-h.invariant.seen;
+      but = but_put objects t c.put.new.table (get_or hs i nobody) c.see-seen.result hs (drop (i + 1) hs) may c.put.ensures but;
+      seen = seen_put (scene_of c.args.store.now) t c.put.new.table (get_or hs i nobody).0 c.see-seen.result may.within c.put.ensures c.see-seen.ensures c.loop-h.invariant.seen;
     }
 
 pub returns-clause-these : goal.returns-clause-these

@@ -11,9 +11,11 @@ use Rattle.debt_defs.specs.Scenes.{look_of, debt_of}
 use Rattle.gui_store.specs.Views.{scene_of}
 use Rattle.gui_change.specs.Looks.{IsBlank, Shows}
 use Rattle.gui_change.specs.Owed.{owed_all}
+use Rattle.gui_change.specs.Sights.{KeepOthers}
 use Rattle.gui_change.specs.declared.look.Look.{Look}
 use Rattle.gui_change.proofs.Changes.{refuses, done, adds_debt}
 use Rattle.gui_change.proofs.Owing.{owed_is_debt}
+use Rattle.gui_change.proofs.Sparing.{others_keep}
 use Rattle.gui_change.proofs.canvas.Canvas.change.Goals as goal
 use Rattle.gui_change.proofs.canvas.Canvas.change.Goals.{After-apply, After-owe_all}
 
@@ -26,6 +28,14 @@ solve_all-requires c = c.args.self.now.limits ∙ sym (limits_stay (goal.at.solv
 pub take-requires-clause-blank : goal.take-requires-clause-blank
 take-requires-clause-blank c =
     subst (λ (b : Bounds). IsBlank b.objects c.args.self.now.spare) (sym (limits_stay (goal.at.take-requires-clause-blank c).After-apply)) c.args.self.now.blank
+
+pub take-requires-clause-known : goal.take-requires-clause-known
+take-requires-clause-known c =
+    let before = scene_of c.args.self.now.store in
+    let look = c.args.self.now.look in
+    let concerned = c.concerned_by-concerned.result in
+    subst (KeepOthers look.seen concerned) (sym c.apply.ensures.after)
+    (others_keep before c.args.change.now concerned look.seen c.tree-tree.ensures.valid c.requires.plain c.concerned_by-concerned.ensures c.args.self.now.shows.seen)
 
 pub invariant_of-self-clause-limits : goal.invariant_of-self-clause-limits
 invariant_of-self-clause-limits c = c.solve_all.ensures.limits ∙ (c.args.self.now.limits ∙ sym (limits_stay (goal.at.invariant_of-self-clause-limits c).After-apply))

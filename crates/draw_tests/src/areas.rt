@@ -1,33 +1,13 @@
 //! Fills and rings.
-ghost use Rattle.std.specs.Prelude.{◌≡◌, ◌<◌};
 
-use crate::canvas::{SHADES, WHOLE, lines_of, number_at};
-use gui_base::{Area, Rgb565, Steps};
+use crate::canvas::{Item, SHADES, Shape, WHOLE, draw, first_number, number_at, seen, white};
+use gui_base::{Area, Rgb565};
 use gui_color::DrawBuf;
-use gui_draw::{fill, ring};
-use std::marker::Brand;
-use std::sync::ledger::{Blank, Ledger};
 use std::test::Fail;
-
-const WHITE: Rgb565 = Rgb565::WHITE;
-
-/// A filled area, white over black.
-fn filled<L: Ledger>(mut buf: DrawBuf, blank: Blank, clip: Area, area: Area) -> [u8; 6]
-    requires limit { buf.limit ≡ 48 }
-    requires name { blank.name ≡ L.name }
-    requires parts { blank.parts ≡ L.parts }
-    requires some { 0 < blank.parts }
-{
-    let (book, all) = blank.open::<L>();
-    let mut steps = Steps::new(book, all);
-    buf.begin(WHOLE, &mut steps);
-    fill(&mut buf, clip, area, WHITE, 255, &mut steps);
-    lines_of(buf.pixels())
-}
 
 #[test]
 fn fills_are_cut_at_each_side(rt: HostRuntime) -> Result<(), Fail> {
-    let area = Area::at(2, 1, 4, 4);
+    let fill = white(Shape::Fill, Area::at(2, 1, 4, 4));
     for (clip, want) in [
         (WHOLE, [0, 0x3C, 0x3C, 0x3C, 0x3C, 0]),
         (Area::at(4, 0, 4, 6), [0, 0x0C, 0x0C, 0x0C, 0x0C, 0]),
@@ -36,9 +16,13 @@ fn fills_are_cut_at_each_side(rt: HostRuntime) -> Result<(), Fail> {
         (Area::at(0, 0, 8, 3), [0, 0x3C, 0x3C, 0, 0, 0]),
         (Area::at(3, 3, 0, 2), [0; 6]),
     ] {
-        let buf = DrawBuf::open(rt.alloc(), 48)?;
-        let seen = filled::<Brand>(buf, Blank::new(1), clip, area);
-        assert_eq!(rt; seen, want, "clip from {}, {}", clip.x1, clip.y1);
+        assert_eq!(rt;
+            seen(rt.alloc(), clip, fill)?,
+            want,
+            "clip from {}, {}",
+            clip.x1,
+            clip.y1
+        );
     }
     Ok(())
 }
@@ -51,30 +35,20 @@ fn fills_end_with_the_buffer(rt: HostRuntime) -> Result<(), Fail> {
         (Area::at(2, 1, 0, 4), [0; 6]),
         (Area::at(2, 1, 4, 0), [0; 6]),
     ] {
-        let buf = DrawBuf::open(rt.alloc(), 48)?;
-        let seen = filled::<Brand>(buf, Blank::new(1), WHOLE, area);
-        assert_eq!(rt; seen, want, "from {}, {}", area.x1, area.y1);
+        let fill = white(Shape::Fill, area);
+        assert_eq!(rt;
+            seen(rt.alloc(), WHOLE, fill)?,
+            want,
+            "from {}, {}",
+            area.x1,
+            area.y1
+        );
     }
     Ok(())
 }
 
-/// A ring, white over black.
-fn ringed<L: Ledger>(mut buf: DrawBuf, blank: Blank, clip: Area, area: Area, width: u8) -> [u8; 6]
-    requires limit { buf.limit ≡ 48 }
-    requires name { blank.name ≡ L.name }
-    requires parts { blank.parts ≡ L.parts }
-    requires some { 0 < blank.parts }
-{
-    let (book, all) = blank.open::<L>();
-    let mut steps = Steps::new(book, all);
-    buf.begin(WHOLE, &mut steps);
-    ring(&mut buf, clip, area, width, WHITE, 255, &mut steps);
-    lines_of(buf.pixels())
-}
-
 #[test]
 fn rings_have_their_width(rt: HostRuntime) -> Result<(), Fail> {
-    let area = Area::at(1, 1, 6, 4);
     for (width, want) in [
         (0, [0; 6]),
         (1, [0, 0x7E, 0x42, 0x42, 0x7E, 0]),
@@ -82,15 +56,15 @@ fn rings_have_their_width(rt: HostRuntime) -> Result<(), Fail> {
         (3, [0, 0x7E, 0x7E, 0x7E, 0x7E, 0]),
         (255, [0, 0x7E, 0x7E, 0x7E, 0x7E, 0]),
     ] {
-        let buf = DrawBuf::open(rt.alloc(), 48)?;
-        let seen = ringed::<Brand>(buf, Blank::new(1), WHOLE, area, width);
-        assert_eq!(rt; seen, want, "width {width}");
+        let ring = white(Shape::Ring { width }, Area::at(1, 1, 6, 4));
+        assert_eq!(rt; seen(rt.alloc(), WHOLE, ring)?, want, "width {width}");
     }
     Ok(())
 }
 
 #[test]
 fn rings_are_cut_at_each_side(rt: HostRuntime) -> Result<(), Fail> {
+    let ring = white(Shape::Ring { width: 2 }, WHOLE);
     for (clip, want) in [
         (WHOLE, [0xFF, 0xFF, 0xC3, 0xC3, 0xFF, 0xFF]),
         (Area::at(3, 0, 5, 6), [0x1F, 0x1F, 0x03, 0x03, 0x1F, 0x1F]),
@@ -98,9 +72,13 @@ fn rings_are_cut_at_each_side(rt: HostRuntime) -> Result<(), Fail> {
         (Area::at(0, 3, 8, 3), [0, 0, 0, 0xC3, 0xFF, 0xFF]),
         (Area::at(0, 0, 8, 3), [0xFF, 0xFF, 0xC3, 0, 0, 0]),
     ] {
-        let buf = DrawBuf::open(rt.alloc(), 48)?;
-        let seen = ringed::<Brand>(buf, Blank::new(1), clip, WHOLE, 2);
-        assert_eq!(rt; seen, want, "clip from {}, {}", clip.x1, clip.y1);
+        assert_eq!(rt;
+            seen(rt.alloc(), clip, ring)?,
+            want,
+            "clip from {}, {}",
+            clip.x1,
+            clip.y1
+        );
     }
     Ok(())
 }
@@ -112,37 +90,49 @@ fn rings_end_with_the_buffer(rt: HostRuntime) -> Result<(), Fail> {
         (Area::at(4, 4, 0, 3), [0; 6]),
         (Area::at(4, 4, 3, 0), [0; 6]),
     ] {
-        let buf = DrawBuf::open(rt.alloc(), 48)?;
-        let seen = ringed::<Brand>(buf, Blank::new(1), WHOLE, area, 1);
-        assert_eq!(rt; seen, want, "from {}, {}", area.x1, area.y1);
+        let ring = white(Shape::Ring { width: 1 }, area);
+        assert_eq!(rt;
+            seen(rt.alloc(), WHOLE, ring)?,
+            want,
+            "from {}, {}",
+            area.x1,
+            area.y1
+        );
     }
     Ok(())
 }
 
-/// A fill over the buffer, and a ring along its sides after black was drawn again: the numbers of a filled
-/// pixel, of a corner, and of a pixel beside it.
-fn shades<L: Ledger>(mut buf: DrawBuf, blank: Blank, opa: u8) -> (u16, u16, u16)
-    requires limit { buf.limit ≡ 48 }
-    requires name { blank.name ≡ L.name }
-    requires parts { blank.parts ≡ L.parts }
-    requires some { 0 < blank.parts }
-{
-    let (book, all) = blank.open::<L>();
-    let mut steps = Steps::new(book, all);
-    buf.begin(WHOLE, &mut steps);
-    fill(&mut buf, WHOLE, WHOLE, WHITE, opa, &mut steps);
-    let filled = number_at(buf.pixels(), 9);
-    buf.begin(WHOLE, &mut steps);
-    ring(&mut buf, WHOLE, WHOLE, 1, WHITE, opa, &mut steps);
-    (filled, number_at(buf.pixels(), 0), number_at(buf.pixels(), 1))
+/// A shape over all pixels, white with an opacity.
+fn shade(shape: Shape<'_>, opa: u8) -> Item<'_> {
+    Item {
+        shape,
+        area: WHOLE,
+        color: Rgb565::WHITE,
+        opa,
+    }
 }
 
 #[test]
-fn areas_are_mixed_once(rt: HostRuntime) -> Result<(), Fail> {
+fn fills_are_mixed_once(rt: HostRuntime) -> Result<(), Fail> {
     for (opa, want) in SHADES {
-        let buf = DrawBuf::open(rt.alloc(), 48)?;
-        let seen = shades::<Brand>(buf, Blank::new(1), opa);
-        assert_eq!(rt; seen, (want, want, want), "opacity {opa}");
+        let number = first_number(rt.alloc(), &[shade(Shape::Fill, opa)])?;
+        assert_eq!(rt; number, want, "opacity {opa}");
+    }
+    Ok(())
+}
+
+#[test]
+fn corners_are_mixed_once(rt: HostRuntime) -> Result<(), Fail> {
+    for (opa, want) in SHADES {
+        let mut buf = DrawBuf::open(rt.alloc(), 48)?;
+        draw(
+            &mut buf,
+            WHOLE,
+            WHOLE,
+            &[shade(Shape::Ring { width: 1 }, opa)],
+        );
+        let numbers = [0, 1, 7, 8, 47].map(|i| number_at(buf.pixels(), i));
+        assert_eq!(rt; numbers, [want; 5], "opacity {opa}");
     }
     Ok(())
 }

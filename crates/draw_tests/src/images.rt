@@ -1,24 +1,11 @@
 //! Images.
-ghost use Rattle.std.specs.Prelude.{◌≡◌, ◌<◌};
 
-use crate::canvas::SHADES;
-use gui_base::{Area, Rgb565, Steps};
+use crate::canvas::{Item, SHADES, Shape, WHOLE, draw, first_number, number_at, white};
+use gui_base::{Area, NoMemory, Rgb565};
 use gui_color::DrawBuf;
-use gui_draw::{fill, picture};
 use gui_font::{Format, Images};
 use std::alloc::Global;
-use std::marker::Brand;
-use std::process::Abort;
-use std::sync::ledger::{Blank, Ledger};
 use std::test::Fail;
-
-/// All pixels of a buffer of four by three.
-const WHOLE: Area = Area {
-    x1: 0,
-    y1: 0,
-    x2: 3,
-    y2: 2,
-};
 
 /// The images 1, two rows of three colours, and 2 to 4, one pixel each: white, an opacity, and red with one.
 fn images(alloc: Global) -> Result<Images, &'static str> {
@@ -43,51 +30,27 @@ fn images(alloc: Global) -> Result<Images, &'static str> {
     }
 }
 
-/// Draws the first image over black.
-fn show<L: Ledger>(
-    rt: &impl Abort,
-    mut buf: DrawBuf,
-    blank: Blank,
-    images: &Images,
-    clip: Area,
-    area: Area,
-    want: &[Rgb565],
-)
-    requires limit { buf.limit ≡ 12 }
-    requires name { blank.name ≡ L.name }
-    requires parts { blank.parts ≡ L.parts }
-    requires some { 0 < blank.parts }
-{
-    let (book, all) = blank.open::<L>();
-    let mut steps = Steps::new(book, all);
-    buf.begin(WHOLE, &mut steps);
-    picture(&mut buf, clip, area, images, 1, Rgb565(0xF800), 255, &mut steps);
-    assert_eq!(rt; buf.pixels(), want, "clip from {}, {}", clip.x1, clip.y1);
-}
-
-/// Colours of these numbers, two lines of four and a black one.
-fn colors(first: [u16; 4], second: [u16; 4]) -> [Rgb565; 12] {
-    let mut colors = [Rgb565::BLACK; 12];
-    for i in 0..4 {
-        colors[i] = Rgb565(first[i]);
-        colors[i + 4] = Rgb565(second[i]);
-    }
-    colors
+/// The first image over black: the numbers of the first four pixels of two lines.
+fn shown(alloc: Global, images: &Images, clip: Area, area: Area) -> Result<[u16; 8], NoMemory> {
+    let mut buf = DrawBuf::open(alloc, 48)?;
+    let shape = Shape::Image { images, id: 1 };
+    draw(&mut buf, WHOLE, clip, &[white(shape, area)]);
+    let colors = buf.pixels();
+    Ok([0, 1, 2, 3, 8, 9, 10, 11].map(|i| number_at(colors, i)))
 }
 
 #[test]
 fn images_are_cut_at_each_side(rt: HostRuntime) -> Result<(), Fail> {
     let images = images(rt.alloc())?;
-    for (clip, first, second) in [
-        (WHOLE, [1, 2, 3, 0], [4, 5, 6, 0]),
-        (Area::at(1, 0, 3, 3), [0, 2, 3, 0], [0, 5, 6, 0]),
-        (Area::at(0, 0, 2, 3), [1, 2, 0, 0], [4, 5, 0, 0]),
-        (Area::at(0, 1, 4, 2), [0; 4], [4, 5, 6, 0]),
-        (Area::at(0, 0, 4, 1), [1, 2, 3, 0], [0; 4]),
+    for (clip, want) in [
+        (WHOLE, [1, 2, 3, 0, 4, 5, 6, 0]),
+        (Area::at(1, 0, 3, 3), [0, 2, 3, 0, 0, 5, 6, 0]),
+        (Area::at(0, 0, 2, 3), [1, 2, 0, 0, 4, 5, 0, 0]),
+        (Area::at(0, 1, 4, 2), [0, 0, 0, 0, 4, 5, 6, 0]),
+        (Area::at(0, 0, 4, 1), [1, 2, 3, 0, 0, 0, 0, 0]),
     ] {
-        let buf = DrawBuf::open(rt.alloc(), 12)?;
-        let want = colors(first, second);
-        show::<Brand>(&rt, buf, Blank::new(1), &images, clip, WHOLE, &want);
+        let numbers = shown(rt.alloc(), &images, clip, WHOLE)?;
+        assert_eq!(rt; numbers, want, "clip from {}, {}", clip.x1, clip.y1);
     }
     Ok(())
 }
@@ -95,42 +58,33 @@ fn images_are_cut_at_each_side(rt: HostRuntime) -> Result<(), Fail> {
 #[test]
 fn images_stand_at_the_top_left_of_their_area(rt: HostRuntime) -> Result<(), Fail> {
     let images = images(rt.alloc())?;
-    for (area, first, second) in [
-        (Area::at(1, 1, 2, 1), [0; 4], [0, 1, 2, 0]),
-        (Area::at(-1, -1, 5, 4), [5, 6, 0, 0], [0; 4]),
-        (Area::at(1, 0, 0, 2), [0; 4], [0; 4]),
+    for (area, want) in [
+        (Area::at(1, 1, 2, 1), [0, 0, 0, 0, 0, 1, 2, 0]),
+        (Area::at(-1, -1, 5, 4), [5, 6, 0, 0, 0, 0, 0, 0]),
+        (Area::at(1, 0, 0, 2), [0; 8]),
     ] {
-        let buf = DrawBuf::open(rt.alloc(), 12)?;
-        let want = colors(first, second);
-        show::<Brand>(&rt, buf, Blank::new(1), &images, WHOLE, area, &want);
+        let numbers = shown(rt.alloc(), &images, WHOLE, area)?;
+        assert_eq!(rt; numbers, want, "from {}, {}", area.x1, area.y1);
     }
     Ok(())
 }
 
-/// The number of a pixel of an image, over black or over white.
-fn shade<L: Ledger>(mut buf: DrawBuf, blank: Blank, images: &Images, id: u16, under: Rgb565, opa: u8) -> u16
-    requires limit { buf.limit ≡ 12 }
-    requires name { blank.name ≡ L.name }
-    requires parts { blank.parts ≡ L.parts }
-    requires some { 0 < blank.parts }
-{
-    let (book, all) = blank.open::<L>();
-    let mut steps = Steps::new(book, all);
-    let area = Area::at(0, 0, 1, 1);
-    buf.begin(area, &mut steps);
-    fill(&mut buf, area, area, under, 255, &mut steps);
-    picture(&mut buf, area, area, images, id, Rgb565(0xF800), opa, &mut steps);
-    let colors = buf.pixels();
-    if colors.is_empty() { 1 } else { colors[0].0 }
+/// An image over all pixels with an opacity; where it has no colours it is red.
+fn image(images: &Images, id: u16, opa: u8) -> Item<'_> {
+    Item {
+        shape: Shape::Image { images, id },
+        area: WHOLE,
+        color: Rgb565(0xF800),
+        opa,
+    }
 }
 
 #[test]
 fn images_are_mixed_once(rt: HostRuntime) -> Result<(), Fail> {
     let images = images(rt.alloc())?;
     for (opa, want) in SHADES {
-        let buf = DrawBuf::open(rt.alloc(), 12)?;
-        let seen = shade::<Brand>(buf, Blank::new(1), &images, 2, Rgb565::BLACK, opa);
-        assert_eq!(rt; seen, want, "opacity {opa}");
+        let number = first_number(rt.alloc(), &[image(&images, 2, opa)])?;
+        assert_eq!(rt; number, want, "opacity {opa}");
     }
     Ok(())
 }
@@ -138,6 +92,7 @@ fn images_are_mixed_once(rt: HostRuntime) -> Result<(), Fail> {
 #[test]
 fn texels_have_their_opacity(rt: HostRuntime) -> Result<(), Fail> {
     let images = images(rt.alloc())?;
+    let under = white(Shape::Fill, WHOLE);
     for (id, opa, want) in [
         (3, 255, 0xFBEF),
         (3, 128, 0xFDF7),
@@ -145,9 +100,8 @@ fn texels_have_their_opacity(rt: HostRuntime) -> Result<(), Fail> {
         (4, 128, 0xFDF7),
         (5, 255, 0xFFFF),
     ] {
-        let buf = DrawBuf::open(rt.alloc(), 12)?;
-        let seen = shade::<Brand>(buf, Blank::new(1), &images, id, Rgb565::WHITE, opa);
-        assert_eq!(rt; seen, want, "image {id}, opacity {opa}");
+        let number = first_number(rt.alloc(), &[under, image(&images, id, opa)])?;
+        assert_eq!(rt; number, want, "image {id}, opacity {opa}");
     }
     Ok(())
 }

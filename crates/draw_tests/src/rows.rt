@@ -32,11 +32,6 @@ fn rows_are_mixed_pixel_by_pixel(rt: HostRuntime) {
         Rgb565::WHITE,
     ];
     mix_row(&mut row, &colors, &[3, 4, 251, 252]);
-    let want = [
-        Rgb565::BLACK,
-        Rgb565(0x0020),
-        Rgb565(0x001E),
-        Rgb565::WHITE,
-    ];
+    let want = [Rgb565::BLACK, Rgb565(0x0020), Rgb565(0x001E), Rgb565::WHITE];
     assert_eq!(rt; row, want);
 }

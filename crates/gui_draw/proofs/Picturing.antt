@@ -1,13 +1,16 @@
 -- The texels of an image over the pixels of an area.
-use Rattle.gui_draw.proofs.Common.{pos, ◌≡◌, ◌∙◌, refl, sym, ap, ℕ, ◌+◌, ◌-◌, ◌<◌, ◌≤◌, ltb, Bool, true, false, ◌&&◌, if◌then◌else◌, List, length, slice_index_or, Option, Some, None, arith, ℤ, ◌≤ℤ◌, ◌+ℤ◌, ◌-ℤ◌, int_min, le_z, ints, nat_tests, cases_Bool, inl, inr, ◌⊎◌, Rgb565, Rect, has, is_empty, width_of, height_of, count_between, black, Buffer, HoldsRow, distance, row_of, with_row, Dab, only, within, Draws, IsInside, IsPart, HasLine, line_of}
+use Rattle.gui_draw.proofs.Common.{pos, laid, ◌≡◌, ◌∙◌, refl, sym, ap, ℕ, ◌+◌, ◌-◌, ◌*◌, ◌<◌, ◌≤◌, ltb, Bool, true, false, ◌&&◌, if◌then◌else◌, List, length, slice_index_or, Option, Some, None, arith, ℤ, ◌≤ℤ◌, ◌+ℤ◌, ◌-ℤ◌, int_min, le_z, ints, nat_tests, cases_Bool, inl, inr, ◌⊎◌, Rgb565, Rect, has, is_empty, width_of, height_of, count_between, black, Buffer, HoldsRow, distance, row_of, with_row, Dab, only, within, Draws, IsInside, IsPart, HasLine, line_of}
 use Rattle.gui_draw.proofs.Steps.{draws_none, draws_same}
 use Rattle.std.proofs.Common.{option_map}
 use Rattle.std.specs.Borrow.{Bor}
 use Rattle.gui_draw.proofs.Counts.{row_count_all}
 use Rattle.gui_font.specs.ImageSets.{ImageSet}
-use Rattle.text_defs.specs.Images.{Image, size_or, size_in, is_done, finished, image_of, texel_of}
+use Rattle.gui_base.specs.declared.words.Format.{Format}
+use Rattle.std.specs.Prelude.{IfSome}
+use Rattle.text_defs.specs.declared.Texel.{Texel}
+use Rattle.text_defs.specs.Images.{Image, size_or, size_in, is_done, finished, image_of, texel_of, texel_in, texel_size}
 use Rattle.gui_draw.specs.Items.{dab_of, is_pictured, texel_coat, picture_coat}
-use Rattle.gui_draw.specs.Texels.{texel_over, texels_in, HasTexels, HasTexelRow, first_pixels}
+use Rattle.gui_draw.specs.Texels.{row_over, texel_over, texels_in, HasTexels, HasTexelRow, first_pixels}
 use Rattle.gui_draw.specs.declared.texels.Texels.{Texels}
 use Rattle.gui_draw.proofs.Drawing.{line_drawn}
 
@@ -40,6 +43,16 @@ texel_row t part line n h below long =
     let columns = h.columns in
     let rows = h.rows in
     record { width = h.width; height = h.height; size = h.size; columns = omega arith; row = omega arith; small = h.small }
+
+-- a texel by the bytes of its row
+pub by_row : (t : Texels) (y n k : ℕ) (format : Format) (bytes : List ℕ) (bg : Rgb565) → HasTexelRow t y n → k < n →
+    IfSome (size_in t.images.now.images t.id) (λ size. (x : ℕ) → x < size.0 → texel_in format bytes (x * texel_size format) ≡ texel_of t.images.now.images t.id x y) →
+    row_over format bytes t.recolor t.opa (t.column + k) bg ≡ texel_over t (t.column + k) y bg
+by_row t y n k format bytes bg h l is =
+    let columns = h.columns in
+    let size = h.size in
+    let at : (x : ℕ) → x < h.width → texel_in format bytes (x * texel_size format) ≡ texel_of t.images.now.images t.id x y = rw size at is in
+    ap (λ (texel : Texel). laid (Some (dab_of texel t.recolor t.opa)) bg) (at (t.column + k) (omega arith))
 
 -- the part of an item in a clip has its first pixel in the item
 first_in : (p c i : Bool) → p ≡ true → p ≡ (c && i) → i ≡ true

@@ -1,17 +1,23 @@
 -- The texels of an image over a part of a draw buffer.
-use Rattle.std.specs.Prelude.{◌≡◌, ℕ, ◌+◌, ◌<◌, ◌≤◌, Some, pos, ◌+ℤ◌, ◌-ℤ◌}
+use Rattle.std.specs.Prelude.{◌≡◌, ℕ, ◌+◌, ◌*◌, ◌<◌, ◌≤◌, List, Some, pos, ◌+ℤ◌, ◌-ℤ◌}
 use Rattle.std.specs.Int.{int_min}
 use Rattle.gui_base.specs.declared.color.Rgb565.{Rgb565}
+use Rattle.gui_base.specs.declared.words.Format.{Format}
 use Rattle.gui_base.specs.Area.{Rect, width_of, height_of}
 use Rattle.gui_base.specs.Coats.{Dab, Coat, laid}
 use Rattle.gui_color.specs.Buffer.{distance}
-use Rattle.text_defs.specs.Images.{size_in, texel_of}
+use Rattle.text_defs.specs.Images.{size_in, texel_of, texel_in, texel_size}
 use Rattle.gui_draw.specs.Items.{dab_of}
 use Rattle.gui_draw.specs.declared.texels.Texels.{Texels}
 
 -- what the texel in a column and a row lays
 abbrev pub texel_dab : Texels → ℕ → ℕ → Dab
 texel_dab t x y = dab_of (texel_of t.images.now.images t.id x y) t.recolor t.opa
+
+-- the texel in a column over a colour, by the bytes of its row
+abbrev pub row_over : Format → List ℕ → Rgb565 → ℕ → ℕ → Rgb565 → Rgb565
+row_over format bytes recolor opa x bg =
+    laid (Some (dab_of (texel_in format bytes (x * texel_size format)) recolor opa)) bg
 
 abbrev pub texel_over : Texels → ℕ → ℕ → Rgb565 → Rgb565
 texel_over t x y bg = laid (Some (texel_dab t x y)) bg

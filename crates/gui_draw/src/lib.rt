@@ -9,6 +9,7 @@ mod pictures;
 mod rings;
 mod rows;
 mod runs;
+mod texel_rows;
 mod texels;
 mod texts;
 mod ticks;

@@ -4,19 +4,20 @@ ghost use Rattle.std.specs.Prelude.{pos, ◌≤ℤ◌, ◌+ℤ◌, ◌-ℤ◌};
 ghost use Rattle.std.specs.Int.{int_min};
 ghost use Rattle.gui_base.specs.Area.{IsCoordinate};
 ghost use Rattle.gui_base.specs.Coats.{within};
-ghost use Rattle.gui_base.specs.Color.{mix, black};
+ghost use Rattle.gui_base.specs.Color.{black};
 ghost use Rattle.gui_base.specs.Corners.{rect_of};
 ghost use Rattle.gui_color.specs.Buffer.{distance};
 ghost use Rattle.gui_draw.specs.Drawing.{Draws};
 ghost use Rattle.gui_draw.specs.Parts.{IsInside, HasLine, line_of};
-ghost use Rattle.gui_draw.specs.Items.{color_or, dab_of, picture_coat};
+ghost use Rattle.gui_draw.specs.Items.{picture_coat};
 ghost use Rattle.gui_draw.specs.Texels.{texels_in, texel_over, HasTexels, HasTexelRow, first_pixels};
 
 use crate::rows::{line_mut, part_of};
+use crate::texel_rows::{mix_alphas, mix_colors, mix_shades};
 use crate::ticks::tick_times;
 use gui_base::{Area, Rgb565, Steps};
-use gui_color::{DrawBuf, combine, mix};
-use gui_font::{Images, Texel};
+use gui_color::DrawBuf;
+use gui_font::{Format, Images};
 use std::sync::ledger::Ledger;
 
 /// The texels of an image over a part of the buffer's area. The part's first pixel has the texel in this
@@ -109,31 +110,12 @@ fn mix_texels(row: &mut [Rgb565], texels: Texels<'_>, y: u32)
     ensures { (k : ℕ) → k < length row.old → slice_index_or row.new k black
         ≡ texel_over texels.entry (texels.entry.column + k) y (slice_index_or row.old k black) }
 {
-    for (i, pixel) in row.iter_mut().enumerate() {
-        let x = texels.column as usize + i;
-        let texel = texels.images.texel(texels.id, x as u16, y as u16);
-        *pixel = over(texel, *pixel, texels.recolor, texels.opa);
-    }
-}
-
-/// A texel over a colour.
-fn over(texel: Texel, bg: Rgb565, recolor: Rgb565, opa: u8) -> Rgb565
-    ensures { let dab = dab_of texel recolor opa in result ≡ mix dab.color bg dab.opa }
-{
-    mix(
-        color_or(texel.color, recolor),
-        bg,
-        combine(texel.alpha, opa),
-    )
-}
-
-/// A colour, or the one that is given for it.
-fn color_or(color: Option<Rgb565>, recolor: Rgb565) -> Rgb565
-    ensures { result ≡ color_or color recolor }
-{
-    match color {
-        None => recolor,
-        Some(color) => color,
+    let line = texels.images.texel_row(texels.id, y as u16);
+    let (first, opa) = (texels.column as usize, texels.opa);
+    match line.format {
+        Format::Rgb565 => mix_colors(row, line.bytes, first, opa),
+        Format::Rgb565Alpha => mix_shades(row, line.bytes, first, opa),
+        Format::Alpha => mix_alphas(row, line.bytes, first, texels.recolor, opa),
     }
 }
 

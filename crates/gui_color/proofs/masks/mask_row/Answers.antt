@@ -1,17 +1,15 @@
-use Rattle.std.proofs.Common.{◌∙◌, ap, arith, Bool, get_or}
-use Rattle.gui_base.specs.Color.{black}
-use Rattle.gui_color.specs.Masks.{masked}
-use Rattle.gui_color.proofs.Changing.{changed_none, changed_more}
+use Rattle.std.proofs.Common.{◌≡◌, ◌∙◌, ◌+◌, rules, get_or}
+use Rattle.gui_base.specs.Color.{parts, black}
+use Rattle.gui_color.specs.Masks.{mask_bit}
+use Rattle.gui_color.proofs.Mixes.{masked_none, masked_all}
 use Rattle.gui_color.proofs.masks.mask_row.Goals as goal
 
-pub loop-i-init : goal.loop-i-init
-loop-i-init c = changed_none _ _
+pub returns-in-0 : goal.returns-in-0
+returns-in-0 c =
+    let none : parts c.args.opa ≡ 0 = search rules in
+    λ k h. masked_none (mask_bit c.args.bits.now (c.args.first + k)) c.args.fg (get_or c.args.row.now k black) c.args.opa none
 
-pub loop-i-preserved : goal.loop-i-preserved
-loop-i-preserved c =
-    changed_more _ c.loop-i.i _ c.loop-i.row c.over_if.result c.loop-i.invariant (omega arith)
-    (c.over_if.ensures
-    ∙ rw (c.new-veil.ensures.fg, c.new-veil.ensures.opa) (ap (λ (t : Bool). masked t c.args.fg c.args.opa (get_or c.loop-i.row c.loop-i.i black)) c.mask_bit.ensures))
-
-pub returns : goal.returns
-returns c = λ k h. c.loop-i.invariant.done k (omega arith)
+pub returns-in-32 : goal.returns-in-32
+returns-in-32 c =
+    let all : parts c.args.opa ≡ 32 = search rules in
+    λ k h. c.cover_masked.ensures k h ∙ masked_all (mask_bit c.args.bits.now (c.args.first + k)) c.args.fg (get_or c.args.row.now k black) c.args.opa all

@@ -1,8 +1,9 @@
 -- Products of spread channels mix each channel, and none runs into the next.
-use Rattle.std.proofs.Common.{◌≡◌, ℕ, ◌<◌, ◌≤◌, ◌+◌, ◌*◌, ◌/◌, ◌%◌, ◌∙◌, refl, ap, arith}
+use Rattle.std.proofs.Common.{◌≡◌, ℕ, ◌<◌, ◌≤◌, ◌+◌, ◌*◌, ◌/◌, ◌%◌, ◌∙◌, refl, sym, ap, arith, Bool, true, false, if◌then◌else◌}
 use Rattle.std.proofs.lemmas.Nat.{mul-le}
 use Rattle.gui_base.specs.declared.color.Rgb565.{Rgb565}
 use Rattle.gui_base.specs.Color.{red, green, blue, parts, mix_channel, mix}
+use Rattle.gui_color.specs.Masks.{masked}
 use Rattle.gui_color.specs.Spread.{spread, gathered}
 use Rattle.gui_color.proofs.Floor.{mix_channel_is}
 
@@ -46,3 +47,12 @@ pub mix_none : (fg bg : Rgb565) (opa : ℕ) → parts opa ≡ 0 → mix fg bg op
 unfolding mix
 mix_none fg bg opa h =
     rw (h, no_channel (red fg) (red bg), no_channel (green fg) (green bg), no_channel (blue fg) (blue bg)) (ap (λ (n : ℕ). record { 0 = n }) (omega arith))
+
+-- the same under a bit
+pub masked_all : (set : Bool) (fg bg : Rgb565) (opa : ℕ) → parts opa ≡ 32 → (if set then fg else bg) ≡ masked set fg opa bg
+masked_all true fg bg opa h = sym (mix_all fg bg opa h)
+masked_all false fg bg opa h = refl
+
+pub masked_none : (set : Bool) (fg bg : Rgb565) (opa : ℕ) → parts opa ≡ 0 → bg ≡ masked set fg opa bg
+masked_none true fg bg opa h = sym (mix_none fg bg opa h)
+masked_none false fg bg opa h = refl

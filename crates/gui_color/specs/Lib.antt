@@ -1,3 +1,4 @@
 pub mod Buffer
 pub mod Lending
+pub mod Masks
 pub mod Spread

@@ -1,6 +1,7 @@
 //! Mixing one colour over another.
 ghost use Rattle.std.specs.Prelude.{◌≡◌, ◌+◌, ◌*◌, ◌/◌, ◌≤◌};
 ghost use Rattle.gui_base.specs.Color.{parts, mix};
+ghost use Rattle.gui_color.specs.Masks.{masked};
 ghost use Rattle.gui_color.specs.Spread.{spread, gathered};
 
 use gui_base::Rgb565;
@@ -62,6 +63,14 @@ impl Veil {
         ensures { result ≡ mix self.fg bg self.opa }
     {
         gather((self.share + spread_of(bg) * self.parts_left) / ALL_PARTS)
+    }
+
+    /// The same where a test holds.
+    #[inline(always)]
+    pub(crate) fn over_if(self, test: bool, bg: Rgb565) -> Rgb565
+        ensures { result ≡ masked test self.fg self.opa bg }
+    {
+        if test { self.over(bg) } else { bg }
     }
 }
 

@@ -1,7 +1,15 @@
 -- Counting pixels.
 use Rattle.gui_draw.proofs.Common.{pos, ◌≡◌, ◌≢◌, ◌∙◌, refl, sym, ap, subst, ℕ, zero, suc, ◌+◌, ◌-◌, ◌*◌, ◌<◌, ◌≤◌, Bool, true, false, ◌&&◌, ◌||◌, if◌then◌else◌, Option, None, is_some, arith, ℤ, ◌≤ℤ◌, ◌+ℤ◌, ints, nat_tests, Rect, has, width_of, height_of, count_between, Dab, Coat, only, within, distance, row_area, sum_below, one_if_laid, row_count, pixel_count}
 
-sum_same : (n : ℕ) (f g : ℕ → ℕ) → ((i : ℕ) → i < n → f i ≡ g i) → sum_below n f ≡ sum_below n g
+pub sum_start : (f : ℕ → ℕ) → sum_below 0 f ≡ 0
+unfolding sum_below
+sum_start f = refl
+
+pub sum_more : (n : ℕ) (f : ℕ → ℕ) → sum_below (n + 1) f ≡ sum_below n f + f n
+unfolding sum_below
+sum_more n f = let e : n + 1 ≡ suc n = omega arith in rw e refl
+
+pub sum_same : (n : ℕ) (f g : ℕ → ℕ) → ((i : ℕ) → i < n → f i ≡ g i) → sum_below n f ≡ sum_below n g
 unfolding sum_below
 sum_same zero f g h = refl
 sum_same (suc n) f g h = omega (arith, sum_same n f g (λ i l. h i (omega arith)), h n (omega arith))

@@ -1,5 +1,12 @@
-pub mod Bands
 pub mod Common
 pub mod Counts
-pub mod Lines
 pub mod Steps
+pub mod Lines
+pub mod Bands
+pub mod Drawing
+pub mod Spanning
+pub mod Seeing
+pub mod Running
+pub mod Lettering
+pub mod Lining
+pub mod Picturing

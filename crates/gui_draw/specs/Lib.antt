@@ -1,4 +1,11 @@
 pub mod Counts
+pub mod Dots
 pub mod Drawing
+pub mod Glyphs
+pub mod Items
+pub mod Letters
 pub mod Parts
 pub mod Rings
+pub mod Runs
+pub mod Spans
+pub mod Texels

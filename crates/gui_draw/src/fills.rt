@@ -4,7 +4,8 @@ ghost use Rattle.gui_base.specs.Corners.{rect_of};
 ghost use Rattle.gui_draw.specs.Drawing.{Draws};
 ghost use Rattle.gui_draw.specs.Parts.{IsInside, HasLine, line_of};
 
-use crate::rows::{line_mut, part_of, tick_times};
+use crate::rows::{line_mut, part_of};
+use crate::ticks::tick_times;
 use gui_base::{Area, Rgb565, Steps};
 use gui_color::{DrawBuf, fill_row};
 use std::sync::ledger::Ledger;

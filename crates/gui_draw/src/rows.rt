@@ -1,5 +1,5 @@
 //! Rows of a draw buffer by the lines of an area.
-ghost use Rattle.std.specs.Prelude.{◌≡◌, ◌<◌, ◌+◌, length, MatchOption, pos, ◌+ℤ◌};
+ghost use Rattle.std.specs.Prelude.{◌≡◌, ◌<◌, length, MatchOption, pos, ◌+ℤ◌};
 ghost use Rattle.std.specs.Borrow.{sem};
 ghost use Rattle.gui_base.specs.Area.{width_of, height_of};
 ghost use Rattle.gui_base.specs.Corners.{rect_of};
@@ -7,9 +7,8 @@ ghost use Rattle.gui_color.specs.Buffer.{row_of, HoldsRow};
 ghost use Rattle.gui_color.specs.Lending.{LendsRow};
 ghost use Rattle.gui_draw.specs.Parts.{HasLine, IsPart, IsOutside};
 
-use gui_base::{Area, Rgb565, Steps};
+use gui_base::{Area, Rgb565};
 use gui_color::DrawBuf;
-use std::sync::ledger::Ledger;
 
 /// The part of an item that lies in the buffer's area and in the clip, if it has a pixel.
 pub(crate) fn part_of(buf: &DrawBuf, clip: Area, item: Area) -> Option<Area>
@@ -37,13 +36,4 @@ fn y_of(area: Area, line: u32) -> i32
     ensures { result ≡ area.y1 +ℤ pos line }
 {
     area.y1 + line as i32
-}
-
-/// So many steps.
-pub(crate) fn tick_times<L: Ledger>(count: u32, steps: &mut Steps<L>)
-    ensures { steps.new ≡ steps.old + count }
-{
-    for _ in 0..count {
-        steps.tick();
-    }
 }

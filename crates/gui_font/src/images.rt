@@ -50,6 +50,13 @@ impl Model for Images {
     ghost invariant = { λ f. AreStored f.index f.slots.items f.bytes.items (vec_capacity f.slots) };
 }
 
+/// The texels of a row of an image: the bytes of each behind those of the ones before it.
+#[derive(Clone, Copy)]
+pub struct TexelRow<'a> {
+    pub format: Format,
+    pub bytes: &'a [u8],
+}
+
 #[derive(Clone, Copy)]
 pub(crate) struct ImageSlot {
     pub(crate) name: u16,
@@ -160,6 +167,27 @@ impl Images {
             self.bytes.as_slice(),
             row + x as usize * texel_size(slot.format),
         )
+    }
+
+    /// The texels of a row of a finished image, counted from its top.
+    pub fn texel_row(&self, id: u16, y: u16) -> TexelRow<'_>
+        requires finished { finished self.now.images id ≡ Some true }
+        requires inside { IfSome (size_in self.now.images id) (λ size. y < size.1) }
+        ensures len { IfSome (size_in self.now.images id)
+            (λ size. length result.bytes.now ≡ size.0 * texel_size result.format) }
+        ensures texels { IfSome (size_in self.now.images id) (λ size. (x : ℕ) → x < size.0 →
+            texel_in result.format result.bytes.now (x * texel_size result.format)
+            ≡ texel_of self.now.images id x y) }
+    {
+        let Some(slot) = slot_of(&self.index, self.slots.as_slice(), id) else {
+            unreachable!()
+        };
+        let len = row_length(slot);
+        let from = slot.start + y as usize * len;
+        TexelRow {
+            format: slot.format,
+            bytes: &self.bytes.as_slice()[from..from + len],
+        }
     }
 
     /// How many more images fit.
@@ -316,7 +344,8 @@ fn texel_in(format: Format, bytes: &[u8], at: usize) -> Texel
 }
 
 /// The colour of two bytes, the high one first.
-fn color_at(bytes: &[u8], at: usize) -> Rgb565
+#[inline]
+pub fn color_at(bytes: &[u8], at: usize) -> Rgb565
     requires { at + 2 ≤ length bytes.now }
     ensures { result ≡ color_at bytes.now at }
 {

@@ -1,0 +1,94 @@
+//! A slice of one line against the same line of the whole.
+ghost use Rattle.std.specs.Prelude.{◌<◌};
+
+use crate::canvas::{Item, Shape, WHOLE, draw};
+use gui_base::{Area, Rgb565};
+use gui_color::DrawBuf;
+use gui_font::{Fonts, Format, Images};
+use std::alloc::Global;
+use std::test::Fail;
+
+const BLUE: Rgb565 = Rgb565(0x001F);
+
+/// An image of opacities.
+fn images(alloc: Global) -> Result<Images, &'static str> {
+    let Ok(mut images) = Images::with_capacity(alloc, 1, 9) else {
+        return Err("no memory");
+    };
+    let answers = [
+        images.begin(1, Format::Alpha, 3, 3),
+        images.row(1, 0, &[0x10, 0x20, 0x30]),
+        images.row(1, 1, &[0x40, 0x80, 0xC0]),
+        images.row(1, 2, &[0xFF, 0xF0, 0x03]),
+    ];
+    if answers == [Ok(()); 4] {
+        Ok(images)
+    } else {
+        Err("refused")
+    }
+}
+
+/// One item of each kind, one over the other.
+fn items<'a>(fonts: &'a Fonts, images: &'a Images) -> [Item<'a>; 4] {
+    let text = Shape::Text {
+        fonts,
+        font: 0,
+        text: "R",
+    };
+    [
+        Item {
+            shape: Shape::Fill,
+            area: Area::at(1, 1, 5, 4),
+            color: Rgb565(0xF800),
+            opa: 128,
+        },
+        Item {
+            shape: Shape::Ring { width: 1 },
+            area: WHOLE,
+            color: Rgb565(0x07E0),
+            opa: 100,
+        },
+        Item {
+            shape: text,
+            area: WHOLE,
+            color: BLUE,
+            opa: 200,
+        },
+        Item {
+            shape: Shape::Image { images, id: 1 },
+            area: Area::at(4, 2, 3, 3),
+            color: BLUE,
+            opa: 255,
+        },
+    ]
+}
+
+/// A line of eight pixels.
+fn line(colors: &[Rgb565], y: usize) -> &[Rgb565]
+    requires { y < 6 }
+{
+    let at = 8 * y;
+    if colors.len() < at + 8 {
+        return &[];
+    }
+    &colors[at..at + 8]
+}
+
+#[test]
+fn a_slice_is_a_line_of_the_whole(rt: HostRuntime) -> Result<(), Fail> {
+    let fonts = Fonts::with_capacity(rt.alloc(), 0, 0, 0)?;
+    let images = images(rt.alloc())?;
+    let items = items(&fonts, &images);
+    let mut whole = DrawBuf::open(rt.alloc(), 48)?;
+    draw(&mut whole, WHOLE, WHOLE, &items);
+    for y in 0..6u8 {
+        let mut slice = DrawBuf::open(rt.alloc(), 8)?;
+        draw(&mut slice, Area::at(0, i32::from(y), 8, 1), WHOLE, &items);
+        assert_eq!(rt;
+            slice.pixels(),
+            line(whole.pixels(), usize::from(y)),
+            "line {y}"
+        );
+    }
+    Ok(())
+}

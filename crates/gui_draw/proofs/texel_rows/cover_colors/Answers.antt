@@ -1,0 +1,12 @@
+use Rattle.gui_draw.proofs.Common.{arith}
+use Rattle.gui_color.proofs.Changing.{changed_none, changed_more}
+use Rattle.gui_draw.proofs.texel_rows.cover_colors.Goals as goal
+
+pub loop-i-init : goal.loop-i-init
+loop-i-init c = changed_none _ _
+
+pub loop-i-preserved : goal.loop-i-preserved
+loop-i-preserved c = changed_more _ c.loop-i.i _ c.loop-i.row c.color_at.result c.loop-i.invariant (omega arith) c.color_at.ensures
+
+pub returns : goal.returns
+returns c = λ k h. c.loop-i.invariant.done k (omega arith)

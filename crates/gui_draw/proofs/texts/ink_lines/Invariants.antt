@@ -1,0 +1,13 @@
+use Rattle.gui_draw.proofs.Common.{◌≡◌, ◌+◌, length, rect_of, face_in}
+use Rattle.gui_font.specs.LinesLeft.{runs_left, setting_of}
+use Rattle.gui_draw.proofs.Lining.{Lining}
+use Rattle.gui_draw.proofs.texts.ink_lines.Given as goal
+
+abbrev pub invariant-lines : goal.invariant-lines
+invariant-lines g l = record {
+  same : setting_of l.lines ≡ setting_of l.fn.lines;
+  lining : Lining (setting_of l.fn.lines) l.look.align ((face_in l.fonts l.look.font).height + l.look.line) l.whole (runs_left l.fn.lines) (rect_of l.part) l.fg l.opa l.initial.buf l.buf l.initial.steps l.steps l.fn.start.x l.fn.start.y (runs_left l.lines) l.at.x l.at.y;
+}
+
+abbrev pub decreases-lines : goal.decreases-lines
+decreases-lines g l = length (runs_left l.lines)

@@ -1,0 +1,68 @@
+//! Texels mixed over rows of pixels, one loop for each format.
+ghost use Rattle.std.specs.Prelude.{◌≡◌, ℕ, ◌+◌, ◌*◌, ◌≤◌, ◌<◌, length, slice_index_or};
+ghost use Rattle.gui_base.specs.Color.{black};
+ghost use Rattle.gui_base.specs.declared.words.Format.TheVariants as format;
+ghost use Rattle.text_defs.specs.Images.{color_at};
+ghost use Rattle.gui_draw.specs.Texels.{row_over};
+
+use gui_base::Rgb565;
+use gui_color::{combine, mix};
+use gui_font::color_at;
+
+/// Mixes colours of two bytes, from the one of number `first` on, with one opacity.
+pub(crate) fn mix_colors(row: &mut [Rgb565], bytes: &[u8], first: usize, opa: u8)
+    requires { (first + length row.old) * 2 ≤ length bytes.now }
+    ensures { (k : ℕ) → k < length row.old → slice_index_or row.new k black
+        ≡ row_over format.Rgb565 bytes.now black opa (first + k) (slice_index_or row.old k black) }
+{
+    if opa >= 252 {
+        cover_colors(row, bytes, first);
+    } else {
+        blend_colors(row, bytes, first, opa);
+    }
+}
+
+/// Puts colours of two bytes over a row of pixels.
+fn cover_colors(row: &mut [Rgb565], bytes: &[u8], first: usize)
+    requires { (first + length row.old) * 2 ≤ length bytes.now }
+    ensures { (k : ℕ) → k < length row.old →
+        slice_index_or row.new k black ≡ color_at bytes.now ((first + k) * 2) }
+{
+    for (i, pixel) in row.iter_mut().enumerate() {
+        *pixel = color_at(bytes, (first + i) * 2);
+    }
+}
+
+/// Mixes them with an opacity.
+fn blend_colors(row: &mut [Rgb565], bytes: &[u8], first: usize, opa: u8)
+    requires { (first + length row.old) * 2 ≤ length bytes.now }
+    ensures { (k : ℕ) → k < length row.old → slice_index_or row.new k black
+        ≡ row_over format.Rgb565 bytes.now black opa (first + k) (slice_index_or row.old k black) }
+{
+    for (i, pixel) in row.iter_mut().enumerate() {
+        *pixel = mix(color_at(bytes, (first + i) * 2), *pixel, opa);
+    }
+}
+
+/// Mixes colours of two bytes and a byte with an opacity, after which comes `opa`.
+pub(crate) fn mix_shades(row: &mut [Rgb565], bytes: &[u8], first: usize, opa: u8)
+    requires { (first + length row.old) * 3 ≤ length bytes.now }
+    ensures { (k : ℕ) → k < length row.old → slice_index_or row.new k black
+        ≡ row_over format.Rgb565Alpha bytes.now black opa (first + k) (slice_index_or row.old k black) }
+{
+    for (i, pixel) in row.iter_mut().enumerate() {
+        let at = (first + i) * 3;
+        *pixel = mix(color_at(bytes, at), *pixel, combine(bytes[at + 2], opa));
+    }
+}
+
+/// Mixes a colour with the opacity of each byte, after which comes `opa`.
+pub(crate) fn mix_alphas(row: &mut [Rgb565], bytes: &[u8], first: usize, recolor: Rgb565, opa: u8)
+    requires { first + length row.old ≤ length bytes.now }
+    ensures { (k : ℕ) → k < length row.old → slice_index_or row.new k black
+        ≡ row_over format.Alpha bytes.now recolor opa (first + k) (slice_index_or row.old k black) }
+{
+    for (i, pixel) in row.iter_mut().enumerate() {
+        *pixel = mix(recolor, *pixel, combine(bytes[first + i], opa));
+    }
+}

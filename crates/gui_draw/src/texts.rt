@@ -1,0 +1,190 @@
+//! Texts, line by line.
+ghost use Rattle.std.specs.Prelude.{◌≡◌, ◌+◌, ◌≤◌, ◌||◌, Some, true, take, length, pos, ◌≤ℤ◌, ◌+ℤ◌, negsuc};
+ghost use Rattle.std.specs.Str.{chars};
+ghost use Rattle.gui_base.specs.Area.{width_of, IsCoordinate};
+ghost use Rattle.std.specs.Int.Signed.{le_z, lt_z};
+ghost use Rattle.gui_base.specs.Coats.{within, only, plain};
+ghost use Rattle.gui_base.specs.Corners.{rect_of};
+ghost use Rattle.gui_draw.specs.Parts.{IsInside};
+ghost use Rattle.text_defs.specs.Fonts.{finished, has_font};
+ghost use Rattle.text_defs.specs.Ink.{line_at};
+ghost use Rattle.gui_font.specs.LinesLeft.{runs_left, setting_of};
+ghost use Rattle.gui_font.specs.Sets.{face_in};
+ghost use Rattle.gui_draw.specs.Items.{ink_coat};
+ghost use Rattle.gui_draw.specs.Runs.{run_at, lines_at, letter_count, DrawsIn, IsPen};
+ghost use Rattle.gui_draw.specs.Spans.{IsFar};
+
+use crate::glyphs::Corner;
+use crate::rows::part_of;
+use crate::runs::ink_run;
+use gui_base::{Area, Rgb565, Steps};
+use gui_color::DrawBuf;
+use gui_font::{Fonts, Line, Lines, TextAlign, TextLook};
+use std::sync::ledger::Ledger;
+
+/// Mixes a colour with an opacity from 0 to 255 over the pixels of the buffer that are in the clip, in the
+/// area and in the ink of a text, which is set in the area's width from its top left on. Besides the steps of
+/// the mixes there is one at most for each character.
+pub fn ink<L: Ledger>(
+    buf: &mut DrawBuf,
+    clip: Area,
+    area: Area,
+    fonts: &Fonts,
+    look: TextLook,
+    text: &str,
+    fg: Rgb565,
+    opa: u8,
+    steps: &mut Steps<L>,
+)
+    requires finished { finished fonts.now.fonts look.font ≡ Some true }
+    requires letter { look.letter ≤ 100 }
+    requires line { look.line ≤ 100 }
+    requires short { length text.now ≤ 1000 }
+    requires wide { width_of (rect_of area) ≤ 200000 }
+    ensures { DrawsIn (length (chars text.now)) buf.old buf.new steps.old steps.new (within (rect_of clip)
+        (ink_coat (rect_of area) (face_in fonts.now look.font) look (chars text.now) fg opa)) }
+{
+    if let Some(part) = part_of(buf, clip, area) {
+        let whole = area.width();
+        let lines = fonts.lines(look, text, Some(whole as i32));
+        ink_lines(
+            buf,
+            part,
+            corner_of(area),
+            lines,
+            whole,
+            fonts,
+            look,
+            fg,
+            opa,
+            steps,
+        );
+    }
+}
+
+/// The top left pixel of an area.
+fn corner_of(area: Area) -> Corner
+    ensures x { result.x ≡ area.x1 }
+    ensures y { result.y ≡ area.y1 }
+{
+    Corner {
+        x: i64::from(area.x1),
+        y: i64::from(area.y1),
+    }
+}
+
+/// Draws lines from the top left of an area on, `whole` pixels wide.
+fn ink_lines<L: Ledger>(
+    buf: &mut DrawBuf,
+    part: Area,
+    start: Corner,
+    lines: Lines<'_>,
+    whole: u32,
+    fonts: &Fonts,
+    look: TextLook,
+    fg: Rgb565,
+    opa: u8,
+    steps: &mut Steps<L>,
+)
+    requires inside { IsInside buf.old.area (rect_of part) }
+    requires near { IsCoordinate start.x × IsCoordinate start.y }
+    requires there { has_font fonts.now.fonts look.font ≡ true }
+    requires letter { look.letter ≤ 100 }
+    requires line { look.line ≤ 100 }
+    requires face { (setting_of lines).face ≡ face_in fonts.now look.font }
+    requires letter_is { (setting_of lines).letter ≡ look.letter }
+    requires wide { whole ≤ 200000 }
+    requires lines { length (runs_left lines) ≤ 1001 }
+    requires letters { letter_count (runs_left lines) ≤ 1000 }
+    ensures { let pitch = (face_in fonts.now look.font).height + look.line in
+        DrawsIn (letter_count (runs_left lines.entry)) buf.old buf.new steps.old steps.new
+        (within (rect_of part) (only (lines_at (setting_of lines.entry) look.align pitch whole
+        (runs_left lines.entry) start.x start.y) (plain fg opa))) }
+{
+    let pitch = u32::from(fonts.height(look.font)) + u32::from(look.line);
+    let mut lines = lines;
+    let mut at = start;
+    'lines: while let Some(run) = lines.next_run() {
+        let first = line_start(at, look.align, whole, run.line);
+        ink_line(
+            buf, part, first, run.text, run.count, fonts, look, fg, opa, steps,
+        );
+        at = below(at, pitch);
+    }
+}
+
+/// Draws a line whose first cell stands there, unless no pixel of it is in the part.
+fn ink_line<L: Ledger>(
+    buf: &mut DrawBuf,
+    part: Area,
+    start: Corner,
+    text: &str,
+    count: u32,
+    fonts: &Fonts,
+    look: TextLook,
+    fg: Rgb565,
+    opa: u8,
+    steps: &mut Steps<L>,
+)
+    requires inside { IsInside buf.old.area (rect_of part) }
+    requires near { IsPen start.x × IsPen start.y }
+    requires there { has_font fonts.now.fonts look.font ≡ true }
+    requires letter { look.letter ≤ 100 }
+    requires few { count ≤ 1000 }
+    requires count { count ≤ length (chars text.now) }
+    ensures { DrawsIn count buf.old buf.new steps.old steps.new (within (rect_of part)
+        (only (run_at (face_in fonts.now look.font) look.letter (take count (chars text.now)) start.x start.y)
+        (plain fg opa))) }
+{
+    if is_beside(part, start, fonts.height(look.font)) {
+        return;
+    }
+    ink_run(buf, part, start, text, count, fonts, look, fg, opa, steps);
+}
+
+/// Whether no pixel of a line that stands there is in a part.
+fn is_beside(part: Area, start: Corner, height: u8) -> bool
+    requires { IsPen start.y }
+    ensures { result ≡ (lt_z part.y2 start.y || le_z (start.y +ℤ pos height) part.y1) }
+{
+    i64::from(part.y2) < start.y || start.y + i64::from(height) <= i64::from(part.y1)
+}
+
+/// Where the first cell of a line stands.
+fn line_start(at: Corner, align: TextAlign, whole: u32, line: Line) -> Corner
+    requires near { IsCoordinate at.x }
+    ensures x { result.x ≡ at.x +ℤ line_at align (pos whole) line.width }
+    ensures y { result.y ≡ at.y }
+    ensures pen { IsPen result.x }
+{
+    Corner {
+        x: at.x + left_of(align, whole, line),
+        y: at.y,
+    }
+}
+
+/// Where a line stands in the whole width: to the left of it where it is wider.
+fn left_of(align: TextAlign, whole: u32, line: Line) -> i64
+    ensures value { result ≡ line_at align (pos whole) line.width }
+    ensures near { (negsuc 2147483647 ≤ℤ result) × (result ≤ℤ pos 10000000000) }
+{
+    let free = i64::from(whole) - i64::from(line.width);
+    match align {
+        TextAlign::Left => 0,
+        TextAlign::Center => free.div_euclid(2),
+        TextAlign::Right => free,
+    }
+}
+
+/// A corner so far below another.
+fn below(at: Corner, down: u32) -> Corner
+    requires near { IsPen at.y }
+    requires few { down ≤ 510 }
+    ensures x { result.x ≡ at.x }
+    ensures y { result.y ≡ at.y +ℤ pos down }
+{
+    Corner {
+        y: at.y + i64::from(down),
+        ..at
+    }
+}

@@ -1,9 +1,0 @@
-pub mod Common
-pub mod Changing
-pub mod Drawing
-pub mod Spanning
-pub mod Seeing
-pub mod Lettering
-pub mod Lining
-pub mod Picturing
-pub mod Running

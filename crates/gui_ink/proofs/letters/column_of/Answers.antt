@@ -1,7 +1,0 @@
-use Rattle.gui_ink.proofs.Common.{rules}
-use Rattle.text_defs.specs.BuiltIn.{column_of}
-use Rattle.gui_ink.proofs.letters.column_of.Goals as goal
-
-pub returns : goal.returns
-unfolding column_of
-returns c = search rules

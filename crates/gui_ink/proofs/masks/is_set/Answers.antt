@@ -1,9 +1,0 @@
-use Rattle.std.proofs.Common.{◌∙◌, ap, ℕ, eqb, ◌/◌, ◌^◌, ◌-◌, ◌%◌}
-use Rattle.std.proofs.lemmas.Nat.{and_mask}
-use Rattle.gui_ink.proofs.masks.is_set.Goals as goal
-use Rattle.text_defs.specs.Bits.{bit_of}
-
-pub returns : goal.returns
-unfolding bit_of
-returns c =
-    ap (λ (n : ℕ). eqb n 1) (and_mask (c.from.result / 2 ^ (7 - c.args.k % 8)) 1 ∙ ap (λ (b : ℕ). b / 2 ^ (7 - c.args.k % 8) % 2) c.from.ensures)

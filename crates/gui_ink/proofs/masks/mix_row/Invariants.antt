@@ -1,6 +1,0 @@
-use Rattle.gui_ink.proofs.Common.{get_or, black, mix}
-use Rattle.gui_ink.proofs.Changing.{Changed}
-use Rattle.gui_ink.proofs.masks.mix_row.Given as goal
-
-abbrev pub invariant-loop-i : goal.invariant-loop-i
-invariant-loop-i l = Changed (λ k bg. mix (get_or l.src k black) bg (get_or l.opas k 0)) l.i l.initial.row l.row

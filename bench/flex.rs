@@ -1,17 +1,17 @@
 //! The same work as `flex.txt`, in plain Rust: `flex ITEMS TURNS`.
 
 #[derive(Clone, Copy)]
-struct Item {
-    main: i32,
-    cross: i32,
-    grow: u8,
-    main_at: i32,
-    cross_at: i32,
+pub struct Item {
+    pub main: i32,
+    pub cross: i32,
+    pub grow: u8,
+    pub main_at: i32,
+    pub cross_at: i32,
 }
 
 #[derive(Clone, Copy)]
 #[allow(dead_code)]
-enum Placing {
+pub enum Placing {
     Start,
     End,
     Center,
@@ -21,10 +21,10 @@ enum Placing {
 }
 
 #[derive(Clone, Copy)]
-struct Places {
-    main: Placing,
-    cross: Placing,
-    track: Placing,
+pub struct Places {
+    pub main: Placing,
+    pub cross: Placing,
+    pub track: Placing,
 }
 
 fn counted(item: &Item) -> i32 {
@@ -63,7 +63,7 @@ fn share_track(track: &mut [Item], extent: i32, gap: i32) {
 }
 
 #[inline(never)]
-fn share(items: &mut [Item], wrap: bool, extent: i32, gap: i32) {
+pub fn share(items: &mut [Item], wrap: bool, extent: i32, gap: i32) {
     let mut rest = items;
     while !rest.is_empty() {
         let count = track_len(rest, wrap, extent, gap);
@@ -109,7 +109,7 @@ fn place_track(track: &mut [Item], places: Places, extent: i32, gap: i32, at: i3
     }
 }
 
-fn measure(items: &[Item], wrap: bool, extent: i32, gap: i32) -> (i32, i32) {
+pub fn measure(items: &[Item], wrap: bool, extent: i32, gap: i32) -> (i32, i32) {
     let (mut count, mut sizes) = (0, 0);
     let mut rest = items;
     while !rest.is_empty() {
@@ -122,7 +122,7 @@ fn measure(items: &[Item], wrap: bool, extent: i32, gap: i32) -> (i32, i32) {
 }
 
 #[inline(never)]
-fn place(
+pub fn place(
     items: &mut [Item],
     wrap: bool,
     places: Places,

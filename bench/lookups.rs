@@ -4,7 +4,7 @@
 
 #[derive(Clone, Copy, PartialEq)]
 #[allow(dead_code)]
-enum Part {
+pub enum Part {
     Main,
     Scrollbar,
     Indicator,
@@ -12,24 +12,24 @@ enum Part {
 }
 
 #[derive(Clone, Copy, PartialEq)]
-struct Selector {
-    part: Part,
-    states: u16,
+pub struct Selector {
+    pub part: Part,
+    pub states: u16,
 }
 
-struct Entry {
-    selector: Selector,
-    prop: u8,
-    value: i32,
+pub struct Entry {
+    pub selector: Selector,
+    pub prop: u8,
+    pub value: i32,
 }
 
-struct Use {
-    style: u16,
-    selector: Selector,
+pub struct Use {
+    pub style: u16,
+    pub selector: Selector,
 }
 
 /// A list of values for each owner.
-trait Lists<T> {
+pub trait Lists<T> {
     fn with_room(owners: usize, slots: usize) -> Self;
 
     fn push(&mut self, owner: usize, value: T);
@@ -39,7 +39,7 @@ trait Lists<T> {
         T: 'a;
 }
 
-struct Rows<T>(Vec<Vec<T>>);
+pub struct Rows<T>(Vec<Vec<T>>);
 
 impl<T> Lists<T> for Rows<T> {
     fn with_room(owners: usize, _slots: usize) -> Self {
@@ -60,7 +60,7 @@ impl<T> Lists<T> for Rows<T> {
 
 const NOWHERE: u32 = u32::MAX;
 
-struct Slots<T> {
+pub struct Slots<T> {
     firsts: Vec<u32>,
     slots: Vec<(T, u32)>,
 }
@@ -98,11 +98,11 @@ impl<T> Lists<T> for Slots<T> {
 }
 
 /// The owner of what style 0 sets. Objects are the owners before it.
-const FIRST_STYLE: usize = 10_000;
+pub const FIRST_STYLE: usize = 10_000;
 
-struct Styles<E, U> {
-    entries: E,
-    uses: U,
+pub struct Styles<E, U> {
+    pub entries: E,
+    pub uses: U,
 }
 
 fn applies(selector: Selector, part: Part, states: u16) -> bool {
@@ -143,7 +143,7 @@ impl<E: Lists<Entry>, U: Lists<Use>> Styles<E, U> {
     }
 
     #[inline(never)]
-    fn lookup(&self, h: u16, part: Part, states: u16, prop: u8) -> Option<i32> {
+    pub fn lookup(&self, h: u16, part: Part, states: u16, prop: u8) -> Option<i32> {
         let mut best: Option<(u16, i32)> = None;
         for used in self.uses.of(h as usize) {
             if !applies(used.selector, part, states) {

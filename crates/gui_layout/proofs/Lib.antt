@@ -3,6 +3,7 @@ pub mod Entering
 pub mod SceneBoxes
 pub mod Naturals
 pub mod These
+pub mod Renewing
 pub mod Listed
 pub mod Parts
 pub mod Kids

@@ -28,6 +28,9 @@ module _ {T : Type 0} where
   pub listed_some : (t : Table T) (h : ℕ) → IsListed (listing_of t) h → IsSome (value_at t h)
   listed_some t h e = some_in t.values h e
 
+  pub some_listed : (t : Table T) (h : ℕ) → IsSome (value_at t h) → IsListed (listing_of t) h
+  some_listed t h some = get_or-map is_some t.values h None ∙ some
+
   -- the same handles are listed where a value is another
   pub listed_replaced : (t : Table T) (h : ℕ) (v : T) → IsListed (listing_of t) h → listing_of (value_replaced t h v) ≡ listing_of t
   listed_replaced t h v e = ap (λ (flags : List Bool). record { flags = flags; spare = t.spare }) (map-set_same is_some t.values h (Some v) None (sym e ∙ get_or-map is_some t.values h None))

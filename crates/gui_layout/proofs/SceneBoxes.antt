@@ -1,6 +1,6 @@
 -- The boxes of a scene by handle.
-use Rattle.std.proofs.Common.{◌≡◌, ◌∙◌, refl, sym, ap, subst, ℕ, Bool, true, false, cond, eqb, eq-eqb, ◌<◌, length, inl, inr}
-use Rattle.std.specs.Prelude.{Option, Some, None, IsSome, is_some, option_map}
+use Rattle.std.proofs.Common.{◌≡◌, ◌∙◌, refl, sym, ap, subst, ℕ, true, false, eqb, eq-eqb, inl, inr}
+use Rattle.std.specs.Prelude.{Option, Some, None, is_some, option_map}
 use Rattle.std.proofs.lemmas.Bool.{cases_Bool, or_left, or_right, both_ways, false_from_ne_true, false≢true, eqb-true}
 use Rattle.gui_base.specs.Forest.{Forest, Empty, Tree, map_forest, has_by, StandsOnce}
 use Rattle.gui_base.proofs.Forests.{map-has_by}
@@ -9,11 +9,6 @@ use Rattle.scene_defs.specs.declared.Row.{Row}
 use Rattle.scene_defs.specs.Place.{box_of as object_box}
 use Rattle.scene_defs.specs.Scene.{Object, Scene, handle_of, row_of, is_at, handles_of, is_there, object_by, object_at, row_at}
 use Rattle.layout_defs.specs.Boxes.{Box}
-use Rattle.gui_base.specs.declared.Handle.{Handle}
-use Rattle.gui_pool.specs.Table.{Table, value_at, value_inserted}
-use Rattle.gui_layout.specs.declared.layout_box.LayoutBox.{LayoutBox}
-use Rattle.gui_layout.specs.Views.{box_of, box_or, box_at}
-use Rattle.gui_layout.proofs.These.{value-set}
 use Rattle.gui_layout.specs.Scenes.{box_or_none, scene_box}
 
 abbrev row_box : Scene → ℕ → Row → Box
@@ -103,15 +98,3 @@ either scene h (Some object) some = refl
 pub boxes_are : (scene : Scene) → StandsOnce (handles_of scene.trees) → map_forest (object_box scene) scene.trees ≡ map_forest (scene_box scene) (handles_of scene.trees)
 boxes_are scene once =
     agrees (object_box scene) (scene_box scene) (box_or_none scene 0) (λ o. refl) scene.trees (distinct_once handle_of scene.trees once) (λ h i. either scene h (object_by (is_at h) scene.trees) (object_some scene.trees h i))
-
--- a box that is put in
-put_case : (box : ℕ → Box) (h k : ℕ) (made : LayoutBox) (old : Option LayoutBox) (b : Bool) → eqb h k ≡ b → box_of h made ≡ box h → (IsSome old → box_or k old ≡ box k) →
-    IsSome (cond b (Some made) old) → box_or k (cond b (Some made) old) ≡ box k
-put_case box h k made old true is made_is same some = subst (λ m. box_of m made ≡ box m) (eqb-true h k is) made_is
-put_case box h k made old false isnt made_is same some = same some
-
-pub box_put : (box : ℕ → Box) (t u : Table LayoutBox) (h : Handle) (made : LayoutBox) → h.0 < length t.values → u ≡ value_inserted t h.0 made → box_of h.0 made ≡ box h.0 →
-    ((k : ℕ) → IsSome (value_at t k) → box_at t k ≡ box k) → (k : ℕ) → IsSome (value_at u k) → box_at u k ≡ box k
-box_put box t u h made within is made_is same k =
-    let e : value_at u k ≡ cond (eqb h.0 k) (Some made) (value_at t k) = ap (λ (v : Table LayoutBox). value_at v k) is ∙ value-set t.values h.0 k (Some made) within in
-    subst (λ (o : Option LayoutBox). IsSome o → box_or k o ≡ box k) (sym e) (put_case box h.0 k made (value_at t k) (eqb h.0 k) refl made_is (same k))

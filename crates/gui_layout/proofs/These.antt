@@ -15,7 +15,7 @@ use Rattle.gui_layout.specs.Listing.{times, value_count, AreProper, HasThese}
 use Rattle.gui_layout.specs.Tables.{Listing, listing_of, AreListed}
 
 module _ {T : Type 0} where
-  within_of : (t : Table T) (h : ℕ) → IsSome (value_at t h) → h < length t.values
+  pub within_of : (t : Table T) (h : ℕ) → IsSome (value_at t h) → h < length t.values
   within_of t h some = grind (arith, nat_tests, get_or_past t.values h None, some)
 
   pub value-set : (vs : List (Option T)) (h k : ℕ) (o : Option T) → h < length vs → get_or (set vs h o) k None ≡ cond (eqb h k) o (get_or vs k None)

@@ -30,6 +30,21 @@ pub(crate) fn list_trees(tree: &Tree, listed: &mut Vec<Handle>, first: Option<Ha
     }
 }
 
+/// Whether both list the same objects in the same order.
+pub(crate) fn are_same(some: &[Handle], others: &[Handle]) -> bool
+    ensures { result ≡ true → some.now ≡ others.now }
+{
+    if some.len() != others.len() {
+        return false;
+    }
+    for i in 0..some.len() {
+        if some[i].0 != others[i].0 {
+            return false;
+        }
+    }
+    true
+}
+
 /// Takes the values of all listed objects out of a table.
 pub(crate) fn clear<T: Drop>(table: &mut Table<T>, listed: &[Handle])
     ensures { (objects : ℕ) → HasThese objects table.old listed.now → HasThese objects table.new [] }

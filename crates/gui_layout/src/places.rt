@@ -1,6 +1,6 @@
 //! The places of the objects of a store.
 ghost use Rattle.std.specs.Prelude.{◌≡◌, ◌≤◌, ◌+ℤ◌, ◌-ℤ◌, pos, ℕ, [], false, None, IfOk, IfSome, option_map};
-ghost use Rattle.std.specs.Prelude.{vec_len, vec_capacity};
+ghost use Rattle.std.specs.Prelude.{length, vec_capacity};
 ghost use Rattle.gui_base.specs.Area.{area_at, is_empty};
 ghost use Rattle.gui_base.specs.Bounded.{bounds_of};
 ghost use Rattle.gui_base.specs.Corners.{rect_of};
@@ -13,12 +13,13 @@ ghost use Rattle.gui_layout.specs.Kept.{AreEntries};
 ghost use Rattle.scene_defs.specs.Visible.{some_area, met, visible};
 ghost use Rattle.gui_layout.specs.Reaches.{IsPlaced};
 ghost use Rattle.gui_layout.specs.Scenes.{HoldsBoxes, shown_panel};
-ghost use Rattle.gui_layout.specs.Listing.{HasThese};
+ghost use Rattle.gui_layout.specs.Listing.{AreProper, HasThese};
 
 use crate::all::solve_trees;
+use crate::boxes::empty_box;
 use crate::layout_box::LayoutBox;
-use crate::listing::{clear, fill, list_trees};
-use crate::objects::fill_boxes;
+use crate::listing::{are_same, clear, fill, list_trees};
+use crate::objects::set_boxes;
 use crate::position::{CORNER, Position};
 use crate::size::Size;
 use crate::tables::size_at;
@@ -28,6 +29,7 @@ use gui_flex::FlexItem;
 use gui_pool::Table;
 use gui_store::Store;
 use std::alloc::Global;
+use std::mem;
 
 /// The layers that are shown above the active screen.
 const TOP_LAYER: Handle = Handle(1);
@@ -49,6 +51,8 @@ pub struct Places {
     positions: Table<Position>,
     // The objects that have entries.
     listed: Vec<Handle>,
+    // Room to list those of a store.
+    found: Vec<Handle>,
     // The children of one object that take part in its flow.
     items: Vec<FlexItem>,
     limits: Limits,
@@ -60,6 +64,7 @@ pub struct Places {
       positions = positions;
     }) listed.items },
     ghost list_room: { limits.objects ≤ vec_capacity listed },
+    ghost found_room: { limits.objects ≤ vec_capacity found },
     ghost items_room: { limits.objects ≤ vec_capacity items },
 }
 
@@ -145,6 +150,7 @@ impl Places {
         let natural_heights = open_table(alloc, objects)?;
         let positions = open_table(alloc, objects)?;
         let listed = open_list(alloc, objects)?;
+        let found = open_list(alloc, objects)?;
         let items = open_list(alloc, objects)?;
         Ok(Places {
             boxes,
@@ -153,6 +159,7 @@ impl Places {
             natural_heights,
             positions,
             listed,
+            found,
             items,
             limits: *limits,
         })
@@ -164,8 +171,8 @@ impl Places {
         ensures solved { AreSolved self.new (scene_of store.now) }
         ensures limits { limits_of self.new ≡ limits_of self.old }
     {
-        self.forget();
         self.enter(store);
+        self.set_boxes(store);
         self.solve(store);
     }
 
@@ -215,7 +222,7 @@ impl Places {
     /// Takes out the entries of all objects.
     fn forget(&mut self)
         ensures empty { self.new.listed.items ≡ [] }
-        ensures len { vec_len self.new.listed ≡ 0 }
+        ensures found { self.new.found.items ≡ self.old.found.items }
         ensures limits { limits_of self.new ≡ limits_of self.old }
     {
         let listed = self.listed.as_slice();
@@ -227,24 +234,45 @@ impl Places {
         self.listed.clear();
     }
 
-    /// Gives each object of a store an entry with its box.
+    /// Gives entries to the objects that were found, and to no others.
+    fn replace_entries(&mut self)
+        requires proper { AreProper self.old.found.items }
+        requires few { length self.old.found.items ≤ self.old.limits.objects }
+        ensures listed { self.new.listed.items ≡ self.old.found.items }
+        ensures limits { limits_of self.new ≡ limits_of self.old }
+    {
+        self.forget();
+        let found = self.found.as_slice();
+        let none = Size { pixels: 0 };
+        fill(&mut self.boxes, found, empty_box());
+        fill(&mut self.natural_widths, found, none);
+        fill(&mut self.widths, found, none);
+        fill(&mut self.natural_heights, found, none);
+        fill(&mut self.positions, found, CORNER);
+        mem::swap(&mut self.listed, &mut self.found);
+    }
+
+    /// Gives entries to the objects of a store, and to no others. They stay where the same objects had some.
     fn enter(&mut self, store: &Store)
-        requires empty { self.old.listed.items ≡ [] }
-        requires len { vec_len self.old.listed ≡ 0 }
-        requires limits { limits_of self.old ≡ (scene_of store.now).limits }
+        requires { limits_of self.old ≡ (scene_of store.now).limits }
         ensures listed { numbers self.new.listed.items ≡ preorder (handles_of (scene_of store.now).trees) }
-        ensures boxes { HoldsBoxes self.new.boxes (scene_of store.now) }
         ensures limits { limits_of self.new ≡ limits_of self.old }
     {
         let tree = store.tree();
-        list_trees(tree, &mut self.listed, tree.first_root());
-        let listed = self.listed.as_slice();
-        let none = Size { pixels: 0 };
-        fill_boxes(&mut self.boxes, listed, store);
-        fill(&mut self.natural_widths, listed, none);
-        fill(&mut self.widths, listed, none);
-        fill(&mut self.natural_heights, listed, none);
-        fill(&mut self.positions, listed, CORNER);
+        self.found.clear();
+        list_trees(tree, &mut self.found, tree.first_root());
+        if !are_same(self.listed.as_slice(), self.found.as_slice()) {
+            self.replace_entries();
+        }
+    }
+
+    /// Gives each object that has entries its box in a store.
+    fn set_boxes(&mut self, store: &Store)
+        ensures boxes { HoldsBoxes self.new.boxes (scene_of store.now) }
+        ensures listed { self.new.listed.items ≡ self.old.listed.items }
+        ensures limits { limits_of self.new ≡ limits_of self.old }
+    {
+        set_boxes(&mut self.boxes, self.listed.as_slice(), store);
     }
 
     /// Solves the places of the objects of a store, each of which has an entry with its box.

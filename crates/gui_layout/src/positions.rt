@@ -530,6 +530,9 @@ pub(crate) fn find_places(
     ensures capacity { vec_capacity items.new ≡ vec_capacity items.old }
     ensures listed { listing_of places.new ≡ listing_of places.old }
 {
+    if tree.first_child(h).is_none() {
+        return;
+    }
     set_kid_positions(tree, boxes, widths, naturals, places, items, h);
     let mut next = tree.first_child(h);
     while let Some(child) = next {

@@ -261,6 +261,9 @@ pub(crate) fn find_widths(
     ensures capacity { vec_capacity items.new ≡ vec_capacity items.old }
     ensures listed { listing_of widths.new ≡ listing_of widths.old }
 {
+    if tree.first_child(h).is_none() {
+        return;
+    }
     set_kid_widths(tree, boxes, naturals, widths, items, h);
     let mut next = tree.first_child(h);
     while let Some(child) = next {

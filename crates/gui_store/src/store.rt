@@ -193,10 +193,27 @@ impl Store {
         let Some(row) = self.rows.get(h.0 as u32) else {
             unreachable!()
         };
-        match self.given(h, part, prop) {
+        self.value_by_row(h, row, part, prop)
+    }
+
+    /// The same of an object whose row is read already.
+    pub fn value_by_row(&self, h: Handle, row: &Row, part: Part, prop: Prop) -> i32
+        requires { Some row.now ≡ row_at (scene_of self.now) h.0 }
+        ensures value { result ≡ value (scene_of self.now) h.0 part prop }
+        ensures in_range { is_value prop result ≡ true }
+    {
+        match self.given(h, row, part, prop) {
             Some(value) => value,
             None => default_in(row.kind, part, row.states, prop),
         }
+    }
+
+    /// What wins for a part of an object that has this row, in its states.
+    fn won_by_row(&self, h: Handle, row: &Row, part: Part, prop: Prop) -> Option<i32>
+        requires { Some row.now ≡ value_at self.now.rows h.0 }
+        ensures { result ≡ won_at (parts_of self.now) h.0 part prop }
+    {
+        self.styles.lookup(h, part, row.states, prop)
     }
 
     /// What wins for a part of an object that is there, in its states.
@@ -207,7 +224,7 @@ impl Store {
         let Some(row) = self.rows.get(h.0 as u32) else {
             unreachable!()
         };
-        self.styles.lookup(h, part, row.states, prop)
+        self.won_by_row(h, row, part, prop)
     }
 
     /// What wins for the own part of an object that is there, or else of the nearest above it.
@@ -226,12 +243,12 @@ impl Store {
         None
     }
 
-    /// What wins for a part of an object that is there, or is inherited.
-    fn given(&self, h: Handle, part: Part, prop: Prop) -> Option<i32>
-        requires { has self.now.tree.forest h.0 ≡ true }
+    /// What wins for a part of an object that has this row, or is inherited.
+    fn given(&self, h: Handle, row: &Row, part: Part, prop: Prop) -> Option<i32>
+        requires { Some row.now ≡ value_at self.now.rows h.0 }
         ensures { result ≡ given_at (parts_of self.now) h.0 part prop }
     {
-        let own = self.won(h, part, prop);
+        let own = self.won_by_row(h, row, part, prop);
         if own.is_some() || !prop.inherits() {
             return own;
         }

@@ -3,9 +3,6 @@ use Rattle.gui_store.specs.Views.{scene_of}
 use Rattle.gui_layout.proofs.SceneBoxes.{row_found, none_found}
 use Rattle.gui_layout.proofs.objects.box_in.Goals as goal
 
-pub row_box-requires-clause-there : goal.row_box-requires-clause-there
-row_box-requires-clause-there c = (row_found (scene_of c.args.store.now) c.args.h.0 c.in-Some.row.now c.in-Some.ensures.value).0
-
 pub returns-in-Some : goal.returns-in-Some
 returns-in-Some c = c.row_box.ensures ∙ (row_found (scene_of c.args.store.now) c.args.h.0 c.in-Some.row.now c.in-Some.ensures.value).1
 

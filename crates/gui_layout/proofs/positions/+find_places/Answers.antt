@@ -8,10 +8,10 @@ use Rattle.layout_defs.specs.Tables.{KeepsOthers}
 use Rattle.gui_layout.specs.Tables.{Listing, sizes_of, AreListed}
 use Rattle.gui_layout.specs.Views.{box_at}
 use Rattle.gui_layout.specs.Slots.{slots_of, slot_at, at_roots, tall_at, talls, HoldsSlots, IsBelow}
-use Rattle.gui_layout.proofs.Parts.{distinct_once, distinct-part, has-part, here, IsHead, next_head, IsNext, GoesOn, trees_from, walk_begins, walk_goes_on, there, found}
-use Rattle.gui_layout.proofs.Stands.{Stands, stands_none, stands_first, stands_top, later_kept, room_below, room_fewer}
+use Rattle.gui_layout.proofs.Parts.{distinct_once, distinct-part, has-part, here, IsHead, next_head, IsNext, GoesOn, trees_from, walk_begins, walk_goes_on, there, found, leaf_is}
+use Rattle.gui_layout.proofs.Stands.{Stands, stands_none, stands_first, stands_top, later_kept, room_below, room_fewer, stands_leaf}
 use Rattle.gui_layout.proofs.positions.+find_places.Goals as goal
-use Rattle.gui_layout.proofs.positions.+find_places.Goals.{In-Some, In_default, After-next-next}
+use Rattle.gui_layout.proofs.positions.+find_places.Goals.{In-Some, In_default, After-next-next, Then-is_none}
 
 pub set_kid_positions-requires-clause-room : goal.set_kid_positions-requires-clause-room
 set_kid_positions-requires-clause-room t c =
@@ -138,3 +138,22 @@ returns-clause-found t c =
 
 pub returns-clause-others : goal.returns-clause-others
 returns-clause-others t c = (all_found t (goal.at.returns-clause-others t c).In_default).others
+
+leaf : (t : ℕ) (c : Then-is_none t) → Stands (box_at c.args.boxes.now) (sizes_of c.args.widths.now) (sizes_of c.args.naturals.now) (slots_of c.args.places.now) (slots_of c.args.places.now) (tree_at c.args.tree.now.forest c.args.h.0)
+leaf t c =
+    let f = c.args.tree.now.forest in
+    let box = box_at c.args.boxes.now in
+    let w = (sizes_of c.args.widths.now) in
+    let n = (sizes_of c.args.naturals.now) in
+    let a = slots_of c.args.places.now in
+    let is = leaf_is f c.args.h.0 c.first_child.result c.is_none.result (distinct_once f c.requires.once) c.requires.there c.first_child.ensures c.is_none.ensures c.if-is_none.true in
+    subst (Stands box w n a a) (sym is) (stands_leaf box w n a c.args.h.0)
+
+pub returns-then-is_none-clause-found : goal.returns-then-is_none-clause-found
+returns-then-is_none-clause-found t c =
+    let f = c.args.tree.now.forest in
+    let known = found (there f c.args.h.0 c.requires.there).part (distinct_once f c.requires.once) in
+    subst (λ ss. HoldsSlots (box_at c.args.boxes.now) (sizes_of c.args.widths.now) (sizes_of c.args.naturals.now) ss (slots_of c.args.places.now) (tree_at f c.args.h.0)) (ap (at_roots (slots_of c.args.places.now)) known.tree) (leaf t (goal.at.returns-then-is_none-clause-found t c).Then-is_none).found
+
+pub returns-then-is_none-clause-others : goal.returns-then-is_none-clause-others
+returns-then-is_none-clause-others t c = (leaf t (goal.at.returns-then-is_none-clause-others t c).Then-is_none).others

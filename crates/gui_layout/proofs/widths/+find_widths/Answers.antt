@@ -7,11 +7,11 @@ use Rattle.layout_defs.specs.Tables.{KeepsOthers}
 use Rattle.gui_layout.specs.Tables.{Listing, sizes_of, AreListed}
 use Rattle.gui_layout.specs.Views.{box_at}
 use Rattle.gui_layout.specs.Found.{HoldsNaturalWidths, HoldsWidths, widths_of}
-use Rattle.gui_layout.proofs.Parts.{distinct_once, distinct-part, has-part, here, IsHead, next_head, IsNext, GoesOn, trees_from, walk_begins, walk_goes_on, there, found}
+use Rattle.gui_layout.proofs.Parts.{distinct_once, distinct-part, has-part, here, IsHead, next_head, IsNext, GoesOn, trees_from, walk_begins, walk_goes_on, there, found, leaf_is}
 use Rattle.gui_layout.proofs.Kids.{named}
-use Rattle.gui_layout.proofs.Widens.{Widens, at_roots, widens_none, widens_first, widens_top}
+use Rattle.gui_layout.proofs.Widens.{Widens, at_roots, widens_none, widens_leaf, widens_first, widens_top}
 use Rattle.gui_layout.proofs.widths.+find_widths.Goals as goal
-use Rattle.gui_layout.proofs.widths.+find_widths.Goals.{In-Some, In_default, After-next-next}
+use Rattle.gui_layout.proofs.widths.+find_widths.Goals.{In-Some, In_default, After-next-next, Then-is_none}
 
 pub set_kid_widths-requires-clause-found : goal.set_kid_widths-requires-clause-found
 set_kid_widths-requires-clause-found t c =
@@ -129,3 +129,18 @@ returns-clause-found t c =
 
 pub returns-clause-others : goal.returns-clause-others
 returns-clause-others t c = (all_found t (goal.at.returns-clause-others t c).In_default).others
+
+leaf : (t : ℕ) (c : Then-is_none t) → Widens (box_at c.args.boxes.now) (sizes_of c.args.widths.now) (sizes_of c.args.widths.now) (tree_at c.args.tree.now.forest c.args.h.0)
+leaf t c =
+    let f = c.args.tree.now.forest in
+    let is = leaf_is f c.args.h.0 c.first_child.result c.is_none.result (distinct_once f c.requires.once) c.requires.there c.first_child.ensures c.is_none.ensures c.if-is_none.true in
+    subst (Widens (box_at c.args.boxes.now) (sizes_of c.args.widths.now) (sizes_of c.args.widths.now)) (sym is) (widens_leaf (box_at c.args.boxes.now) (sizes_of c.args.widths.now) c.args.h.0)
+
+pub returns-then-is_none-clause-found : goal.returns-then-is_none-clause-found
+returns-then-is_none-clause-found t c =
+    let f = c.args.tree.now.forest in
+    let known = found (there f c.args.h.0 c.requires.there).part (distinct_once f c.requires.once) in
+    subst (λ ws. HoldsWidths (box_at c.args.boxes.now) ws (sizes_of c.args.widths.now) (tree_at f c.args.h.0)) (ap (at_roots (sizes_of c.args.widths.now)) known.tree) (leaf t (goal.at.returns-then-is_none-clause-found t c).Then-is_none).found
+
+pub returns-then-is_none-clause-others : goal.returns-then-is_none-clause-others
+returns-then-is_none-clause-others t c = (leaf t (goal.at.returns-then-is_none-clause-others t c).Then-is_none).others

@@ -69,6 +69,7 @@ invariant_of-self c =
         positions = these_kept n self.positions now.places hs done.listed_places self.kept.positions;
       };
       list_room = self.list_room;
+      found_room = self.found_room;
       items_room = rw done.capacity room;
     }
 

@@ -1,0 +1,34 @@
+use Rattle.std.proofs.Common.{◌≡◌, ◌∙◌, sym, ap, subst, ℕ, List, [], arith}
+use Rattle.gui_base.specs.declared.Handle.{Handle}
+use Rattle.gui_pool.specs.Table.{Table}
+use Rattle.gui_layout.specs.Listing.{HasThese}
+use Rattle.gui_layout.proofs.places.Places.replace_entries.Goals as goal
+
+-- a table that had no value has one for each of these
+filled : {T : Type 0} (objects : ℕ) (t u : Table T) (before found hs : List Handle) → HasThese objects t before → before ≡ [] → HasThese t.spare u found → found ≡ hs → HasThese objects u hs
+filled {T} objects t u before found hs had none these same =
+    let blank : HasThese objects t [] = subst (HasThese objects t) none had in
+    let room : t.spare ≡ objects = let all = blank.room in omega arith in
+    subst (HasThese objects u) same (subst (λ n. HasThese n u found) room these)
+
+pub invariant_of-self : goal.invariant_of-self
+invariant_of-self c =
+    let self = c.forget.new.self in
+    let n = self.limits.objects in
+    let none = c.forget.ensures.empty in
+    let same = c.as_slice-found.ensures.value ∙ ap (λ v. v.items) (sym c.swap.ensures.x_after) in
+    let rooms = c.swap.ensures in
+    let list_room = self.list_room in
+    let found_room = self.found_room in
+    record {
+      kept = record {
+        boxes = filled n self.boxes c.fill.new.table self.listed.items _ _ self.kept.boxes none c.fill.ensures same;
+        natural_widths = filled n self.natural_widths c.fill-2.new.table self.listed.items _ _ self.kept.natural_widths none c.fill-2.ensures same;
+        widths = filled n self.widths c.fill-3.new.table self.listed.items _ _ self.kept.widths none c.fill-3.ensures same;
+        natural_heights = filled n self.natural_heights c.fill-4.new.table self.listed.items _ _ self.kept.natural_heights none c.fill-4.ensures same;
+        positions = filled n self.positions c.fill-5.new.table self.listed.items _ _ self.kept.positions none c.fill-5.ensures same;
+      };
+      list_room = rw rooms.x_after found_room;
+      found_room = rw rooms.y_after list_room;
+      items_room = self.items_room;
+    }

@@ -17,7 +17,7 @@ use Rattle.run_debts.specs.Laws.{CommandWithinPanel, RefusedOwesNothing, OwedHol
 use Rattle.run_debts.specs.Owing.{owed_along}
 
 -- one change owes its debt, also where it is refused
-owed_one : (scene : Scene) (change : Change) → owed_along scene (made_by (answer_of scene change) change) ≡ debt_of scene change
+pub owed_one : (scene : Scene) (change : Change) → owed_along scene (made_by (answer_of scene change) change) ≡ debt_of scene change
 owed_one scene change = go (answer_of scene change) refl where
   go : (answer : Option Refusal) → answer_of scene change ≡ answer → owed_along scene (made_by answer change) ≡ debt_of scene change
   go None e = append-nil (debt_of scene change)

@@ -1,5 +1,5 @@
 -- How the account of a run goes on.
-use Rattle.std.proofs.Common.{◌≡◌, ◌∙◌, refl, sym, ap, subst, ℕ, ◌+◌, List, [], ◌∷◌, ◌++◌, length, map, fold, drop, append_assoc, append-nil, arith}
+use Rattle.std.proofs.Common.{◌≡◌, ◌∙◌, refl, sym, ap, subst, ℕ, ◌+◌, ◌≤◌, List, [], ◌∷◌, ◌++◌, length, map, fold, drop, append_assoc, append-nil, arith}
 use Rattle.std.specs.Prelude.{Ok, Err}
 use Rattle.std.proofs.lemmas.List.{drop-drop, drop_all}
 use Rattle.std.proofs.lemmas.List.Sums.{fold-append}
@@ -17,7 +17,7 @@ use Rattle.owed_defs.specs.Windows.{Window, windows, allowance}
 use Rattle.owed_defs.specs.Windows.{after as window_after}
 use Rattle.owed_defs.proofs.Owing.{accounted_opening, accounted_change, accounted_done, accounted_fault, sends_as_owed, later_debts_raise}
 use Rattle.run_debts.specs.Accounts.{LineCounts, RunOpens, LineKeepsAccount, AccountBounds}
-use Rattle.run_debts.specs.Owing.{happens, happenings, command_owes, panel_size, slice_limit}
+use Rattle.run_debts.specs.Owing.{happens, happenings, command_owes, panel_size, slice_limit, may_send}
 
 -- what happens at more lines, where each frame of the lines before them has its outcome
 happenings-append : (now : Moment) (xs ys : List Said) (o x : List Outcome) → length o ≡ frame_count (entries now xs) → happenings now (xs ++ ys) (o ++ x) ≡ happenings now xs o ++ happenings (after_all now xs) ys x
@@ -81,16 +81,23 @@ line_keeps_account first before said outcomes more start old new each counts h =
     (sym (ap (windows panel) one ∙ fold-append window_after _ hs (happens now.machine said more)))
     (line_after first now.machine said more (windows panel hs) start old new counts h)
 
-pub account_bounds : AccountBounds
-account_bounds first lines unreached outcomes start now faults few rose h =
+-- lines that were not reached raise what may be sent
+pub may_send_more : (first : Machine) (lines unreached : List Said) (outcomes : List Outcome) (faults : ℕ) → length outcomes ≤ frame_count (entries (first_moment first) lines) →
+    may_send first lines outcomes faults ≤ may_send first (lines ++ unreached) outcomes faults
+may_send_more first lines unreached outcomes faults few =
     let panel = panel_size first.scene.limits in
     let limit = slice_limit first.scene.limits in
     let next = after_all (first_moment first) lines in
     let hs = happenings (first_moment first) lines outcomes in
-    let bound = sends_as_owed.accounted panel limit start now (windows panel hs) faults rose h in
     let none = drop_all (frame_count (entries (first_moment first) lines)) outcomes few in
     let more = ap (λ (o : List Outcome). hs ++ happenings next unreached o) none ∙ ap (λ (es : List Happening). hs ++ es) (only_debts next unreached) in
     let all = happenings-split (first_moment first) lines unreached outcomes ∙ more in
     let raised = later_debts_raise panel limit hs (debts next unreached) faults in
     let same = ap (λ (es : List Happening). allowance panel limit (windows panel es) faults) all in
-    omega (arith, bound, raised, same)
+    omega (arith, raised, same)
+
+pub account_bounds : AccountBounds
+account_bounds first lines unreached outcomes start now faults few rose h =
+    let bound = sends_as_owed.accounted (panel_size first.scene.limits) (slice_limit first.scene.limits) start now (windows (panel_size first.scene.limits) (happenings (first_moment first) lines outcomes)) faults rose h in
+    let more = may_send_more first lines unreached outcomes faults few in
+    omega (arith, bound, more)

@@ -3,3 +3,5 @@ pub mod Effects
 pub mod Going
 pub mod Gone
 pub mod Headlines
+pub mod Owing
+pub mod Sent

@@ -61,7 +61,6 @@ impl Runner {
     }
 
     /// Answers a line.
-    #[tactic(auto, using(crate::proofs::Going::halts_at))]
     fn take_line<L: Sink, P: Panel>(
         &mut self,
         said: Result<Line, LineFault>,

@@ -67,7 +67,7 @@ effects_frame a b p q n k scene outcome seen shown line later = record {
 }
 
 -- the frame could not be presented whole
-pub breaks_show : (log : SinkState) (p q : PanelState) (n k : ℕ) (scene : Scene) → FrameBroke p q scene → Breaks (output log p) (output log q) (Frames n k scene)
+unfoldable pub breaks_show : (log : SinkState) (p q : PanelState) (n k : ℕ) (scene : Scene) → FrameBroke p q scene → Breaks (output log p) (output log q) (Frames n k scene)
 breaks_show log p q n k scene broke = record {
   last = [];
   one = omega arith;
@@ -90,7 +90,7 @@ breaks_reply a b p n lines reply prefix rose = record {
 }
 
 -- nor the line of a frame
-pub breaks_frame : (a b : SinkState) (p q : PanelState) (n k : ℕ) (scene : Scene) (outcome : Outcome) → PanelEffects p q None (Framed n k scene outcome ∷ []) →
+unfoldable pub breaks_frame : (a b : SinkState) (p q : PanelState) (n k : ℕ) (scene : Scene) (outcome : Outcome) → PanelEffects p q None (Framed n k scene outcome ∷ []) →
     AppendsPrefix a.held b.held (frame_line n k outcome) → Rose a.faults b.faults → Breaks (output a p) (output b q) (Frames n k scene)
 breaks_frame a b p q n k scene outcome shown prefix rose = record {
   last = outcome ∷ [];

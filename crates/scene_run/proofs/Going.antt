@@ -8,20 +8,24 @@ use Rattle.scene_defs.specs.Scene.{Scene}
 use Rattle.run_defs.specs.declared.Outcome.{Outcome}
 use Rattle.run_defs.specs.Machine.{Machine}
 use Rattle.run_defs.specs.Script.{Said}
-use Rattle.run_defs.specs.Run.{Moment, moment, first_moment, entry, entries, after, told, notes, noted, frames_asked, machine_after}
-use Rattle.run_defs.proofs.Runs.{after_all-append, after-limits, after_all-limits, after_all-frame, frame_count_more, told_more, frames_asked-entry}
+use Rattle.run_defs.specs.Run.{Moment, moment, first_moment, entry, entries, after, after_all, frame_count, told, notes, noted, frames_asked, machine_after}
+use Rattle.run_defs.proofs.Runs.{after_all-append, after-limits, after_all-limits, after_all-frame, frame_count_more, frame_count-cons, told_more, frames_asked-entry}
 use Rattle.gui_edge.specs.Panel.{HasSizes}
-use Rattle.gui_core.specs.Panels.{ShowsScene}
-use Rattle.scene_run.specs.Effects.{Output, Effects, Breaks, WriteFailed, Halted}
+use Rattle.gui_damage.specs.Pending.{Pending}
+use Rattle.gui_refresh.specs.Owing.{standing_of}
+use Rattle.gui_core.specs.Panels.{ShowsScene, AgreesWith}
+use Rattle.run_debts.specs.Accounts.{LineCounts}
+use Rattle.scene_run.specs.Effects.{Output, Effects, LineBreaks, SendsAsOwed, WriteFailed, Halted}
 use Rattle.scene_run.specs.Running.{Running, IsReady, Answered, GoesOn, Halts}
 use Rattle.scene_run.proofs.Effects.{Effects-more}
+use Rattle.scene_run.proofs.Owing.{accounted_line, sends_as_owed, halted_as_owed, owed_more}
 
 -- a panel with the sizes of this moment has those of the first one, since no line changes the limits
 first_sizes : (first : Machine) (start new : Output) (now : Running) (lines : List Said) → Answered first start now lines → HasSizes new.panel now.moment.machine.scene.limits → HasSizes new.panel first.scene.limits
 first_sizes first start new now lines h sizes = subst (HasSizes new.panel) (ap (λ (m : Moment). m.machine.scene.limits) h.moment ∙ after_all-limits (first_moment first) lines) sizes
 
 pub ready_less : (now : Running) (room less : ℕ) → less ≤ room → IsReady now room → IsReady now less
-ready_less now room less le h = record { sizes = h.sizes; number = omega (arith, h.number); frame = omega (arith, h.frame) }
+ready_less now room less le h = record { sizes = h.sizes; agrees = h.agrees; number = omega (arith, h.number); frame = omega (arith, h.frame) }
 
 pub goes_on_none : (now : Running) → GoesOn now now []
 goes_on_none now = record {
@@ -35,24 +39,31 @@ same_moment e f h = rw (e, f, h) refl
 pub goes_on_one : (old new : Running) (said : Said) (outcome : Option Outcome) (n : Bool) →
     ((seen : Option Scene) → IfSome seen (ShowsScene old.output.panel) → Effects old.output new.output seen (told (entry old.moment said ∷ []) (option_to_list outcome))) →
     length (option_to_list outcome) ≡ frames_asked said → n ≡ noted (told (entry old.moment said ∷ []) (option_to_list outcome)) → new.moment.machine ≡ machine_after old.moment.machine said →
-    new.moment.number ≡ old.moment.number + 1 → new.moment.frame ≡ old.moment.frame + length (option_to_list outcome) → new.noted ≡ (old.noted || n) → HasSizes new.output.panel old.moment.machine.scene.limits → GoesOn old new (said ∷ [])
-goes_on_one old new said outcome n effects asked notes_are machine number frame noted_is sizes = record {
+    new.moment.number ≡ old.moment.number + 1 → new.moment.frame ≡ old.moment.frame + length (option_to_list outcome) → new.noted ≡ (old.noted || n) → HasSizes new.output.panel old.moment.machine.scene.limits →
+    AgreesWith new.output.panel new.pending new.moment.machine.scene →
+    LineCounts old.moment.machine.scene.limits old.moment.machine said (option_to_list outcome) (standing_of old.output.panel old.pending) (standing_of new.output.panel new.pending) → GoesOn old new (said ∷ [])
+goes_on_one old new said outcome n effects asked notes_are machine number frame noted_is sizes agrees counts = record {
   from = λ first start before h.
       let now = first_moment first in
       let ts = told (entries now before) h.answers.outcomes in
       let more = told_more now old.moment before (said ∷ []) h.answers.outcomes (option_to_list outcome) h.moment h.answers.each in
+      let each : length (h.answers.outcomes ++ option_to_list outcome) ≡ frame_count (entries now (before ++ said ∷ [])) = omega (arith, length-append h.answers.outcomes (option_to_list outcome), frame_count_more now old.moment before (said ∷ []) h.moment, h.answers.each, asked, frames_asked-entry old.moment said) in
+      let account = accounted_line first _ before h.answers.outcomes old.moment said (option_to_list outcome) _ _ h.moment h.answers.each counts h.accounted in
       record {
         answers = record {
           outcomes = h.answers.outcomes ++ option_to_list outcome;
-          each = omega (arith, length-append h.answers.outcomes (option_to_list outcome), frame_count_more now old.moment before (said ∷ []) h.moment, h.answers.each, asked, frames_asked-entry old.moment said);
+          each = each;
           effects = subst (Effects start new.output None) (sym more) (Effects-more start old.output new.output None ts _ h.answers.effects (effects _ h.answers.effects.panel.shown));
           slices = first_sizes first start new.output old before h sizes;
+          owed = sends_as_owed first start.panel new.output.panel new.pending (before ++ said ∷ []) (h.answers.outcomes ++ option_to_list outcome) (omega (arith, each)) account;
         };
         moment = next ∙ (ap (λ (m : Moment). after m said) h.moment ∙ sym (after_all-append now before (said ∷ [])));
         noted_is = noted_is ∙ (ap (λ (m : Bool). m || n) h.noted_is ∙ (ap (λ (m : Bool). noted ts || m) notes_are ∙ (sym (list_any-append notes ts _) ∙ ap noted (sym more))));
+        accounted = account;
       };
   ready = λ room h. record {
     sizes = subst (HasSizes new.output.panel) (sym (ap (λ (m : Machine). m.scene.limits) machine ∙ after-limits old.moment said)) sizes;
+    agrees = agrees;
     number = omega (arith, h.number);
     frame = omega (arith, after_all-frame old.moment (said ∷ []), h.frame);
   };
@@ -64,19 +75,38 @@ goes_on_one old new said outcome n effects asked notes_are machine number frame 
 pub goes_on_said : (old new : Running) (lines others : List Said) → lines ≡ others → GoesOn old new lines → GoesOn old new others
 goes_on_said old new lines others e h = subst (GoesOn old new) e h
 
-pub halts_at : (old : Running) (new : Output) (said : Said) → Breaks old.output new (entry old.moment said) → HasSizes new.panel old.moment.machine.scene.limits → Halts old new (said ∷ [])
-halts_at old new said breaks sizes = record {
-  from = λ first start before h. record {
-    answered = before;
-    said = said;
-    unreached = [];
-    lines_are = refl;
-    between = old.output;
-    answers = h.answers;
-    breaks = subst (λ (m : Moment). Breaks old.output new (entry m said)) h.moment breaks;
-    slices = first_sizes first start new old before h sizes;
-  };
+pub halts_said : (old : Running) (new : Output) (lines others : List Said) → lines ≡ others → Halts old new lines → Halts old new others
+halts_said old new lines others e h = subst (Halts old new) e h
+
+pub halts_at : (old : Running) (new : Output) (pending : Pending) (said : Said) → LineBreaks old.moment.machine old.moment.number old.moment.frame said old.output new old.pending pending →
+    HasSizes new.panel old.moment.machine.scene.limits → Halts old new (said ∷ [])
+halts_at old new pending said broke sizes = record {
+  from = λ first start before h.
+      let now = after_all (first_moment first) before in
+      let there : LineBreaks now.machine now.number now.frame said old.output new old.pending pending = subst (λ (m : Moment). LineBreaks m.machine m.number m.frame said old.output new old.pending pending) h.moment broke in
+      let account = accounted_line first _ before h.answers.outcomes now said there.breaks.last _ _ refl h.answers.each there.counts h.accounted in
+      record {
+        answered = before;
+        said = said;
+        unreached = [];
+        lines_are = refl;
+        between = old.output;
+        answers = h.answers;
+        breaks = there.breaks;
+        slices = first_sizes first start new old before h sizes;
+        owed = halted_as_owed first start.panel new.panel pending before said [] h.answers.outcomes there.breaks.last h.answers.each there.breaks.one account;
+      };
 }
+
+-- the outcomes of a halted run are those of its frames
+halted_few : (first : Machine) (start now : Output) (lines : List Said) (h : Halted first start now lines) → length (h.answers.outcomes ++ h.breaks.last) ≤ frame_count (entries (first_moment first) lines)
+halted_few first start now lines h =
+    let at = after_all (first_moment first) h.answered in
+    let many = frame_count_more (first_moment first) at h.answered (h.said ∷ h.unreached) refl in
+    let one = frame_count-cons (entry at h.said) (entries (after at h.said) h.unreached) in
+    let alone = frame_count-cons (entry at h.said) [] in
+    let all = ap (λ (ls : List Said). frame_count (entries (first_moment first) ls)) h.lines_are in
+    omega (arith, length-append h.answers.outcomes h.breaks.last, h.answers.each, h.breaks.one, many, one, alone, all)
 
 -- more lines, which were not reached, change nothing of it
 pub halted_on : (first : Machine) (start now : Output) (lines more all : List Said) → all ≡ lines ++ more → Halted first start now lines → Halted first start now all
@@ -89,6 +119,8 @@ halted_on first start now lines more all e h = record {
   answers = h.answers;
   breaks = h.breaks;
   slices = h.slices;
+  owed = subst (λ (ls : List Said). SendsAsOwed first start.panel now.panel ls (h.answers.outcomes ++ h.breaks.last)) (sym e)
+      (owed_more first start.panel now.panel lines more (h.answers.outcomes ++ h.breaks.last) (halted_few first start now lines h) h.owed);
 }
 
 -- the count of failed writes rose since the start

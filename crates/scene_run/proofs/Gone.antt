@@ -12,41 +12,49 @@ use Rattle.run_defs.specs.Script.{Whole, says, says_cut, rest_of, open_says, max
 use Rattle.gui_edge.specs.Source.{SourceState}
 use Rattle.gui_edge.specs.Sink.{SinkState}
 use Rattle.gui_edge.specs.Panel.{PanelState, HasSizes}
-use Rattle.gui_core.specs.Machines.{machine_of}
+use Rattle.scene_defs.specs.Place.{panel_of}
+use Rattle.gui_core.specs.Machines.{machine_of, pending_in}
 use Rattle.scene_script.specs.Cutting.{HasTaken}
-use Rattle.scene_run.specs.Effects.{Output, output, PanelEffects, WriteFailed, Halted}
-use Rattle.scene_run.specs.Running.{Running, Reading, reading, HasRead, Reads, Stops, Ends, StopsAtEnd}
+use Rattle.scene_run.specs.Effects.{Output, output, SinceOpening, WriteFailed, Halted}
+use Rattle.scene_run.specs.Running.{Running, Reading, reading, HasRead, Reads, Stops, Ends, StopsAtEnd, Gone}
 use Rattle.scene_run.specs.Headline.{Outside, outside, AnswersScript, end_of, end_reached, Ended, Runs}
 use Rattle.scene_run.specs.declared.runner.Runner.{Runner}
 use Rattle.scene_run.specs.declared.status.Status.TheVariants.{Done, Noted, ReadFault, WriteFault, TooLong}
+use Rattle.scene_run.proofs.Effects.{PanelEffects-none}
 use Rattle.scene_run.proofs.Going.{halted_on, halted_cause}
+use Rattle.scene_run.proofs.Owing.{accounted_start, sends_as_owed}
 
 abbrev at : SourceState → Output → Outside
 at source output = record { source = source; output = output }
 
--- At most `room` further bytes may be taken, and the lines of those that were taken are answered.
-pub record Gone (first : Machine) (old : Outside) (source : SourceState) (now : Reading) (room : ℕ) : Type 0 where
-  pub taken : List ℕ
-  pub source_is : Consumes old.source.left source.left taken
-  pub many : length taken + room ≡ max_script
-  pub read : HasRead first old.output now taken
+-- nothing came to a panel since now
+pub since_none : (p : PanelState) → SinceOpening p p
+since_none p = record { effects = PanelEffects-none p None tt; sent = refl; flush_faults = refl }
 
 -- nothing is read yet, and nothing came to the panel since it was `before`
 pub gone_start : (first : Machine) (source : SourceState) (log : SinkState) (before panel : PanelState) (runner : Runner) → machine_of runner.gui ≡ first → HasTaken runner.cutter [] → runner.number ≡ 1 → runner.frame ≡ 1 → runner.noted ≡ false →
-    HasSizes panel first.scene.limits → PanelEffects before panel None [] → Gone first (outside source log before) source (reading runner log panel) 16777216
-gone_start first source log before panel runner is line number frame noted sizes since = record {
-  taken = [];
-  source_is = Consumes-nil source.left;
-  many = refl;
-  read = record {
-    answered = record {
-      answers = record { outcomes = []; each = refl; effects = record { panel = since; log = Appends-nil log.held; log_faults = omega arith }; slices = sizes };
-      moment = cc;
-      noted_is = noted;
-    };
-    line = line;
-  };
-}
+    (pending_in runner.gui).areas ≡ panel_of first.scene ∷ [] → HasSizes panel first.scene.limits → SinceOpening before panel → Gone first (outside source log before) source (reading runner log panel) 16777216
+gone_start first source log before panel runner is line number frame noted whole sizes since =
+    let account = accounted_start first before panel (pending_in runner.gui) whole since in record {
+      taken = [];
+      source_is = Consumes-nil source.left;
+      many = refl;
+      read = record {
+        answered = record {
+          answers = record {
+            outcomes = [];
+            each = refl;
+            effects = record { panel = since.effects; log = Appends-nil log.held; log_faults = omega arith };
+            slices = sizes;
+            owed = sends_as_owed first before panel (pending_in runner.gui) [] [] (omega arith) account;
+          };
+          moment = cc;
+          noted_is = noted;
+          accounted = account;
+        };
+        line = line;
+      };
+    }
 
 pub all_taken : (bytes : List ℕ) (room : ℕ) → length bytes ≤ room → take room bytes ≡ bytes
 all_taken bytes room few = let least : min room (length bytes) ≡ length bytes = omega arith in sym (take_min room bytes) ∙ (ap (λ (k : ℕ). take k bytes) least ∙ take-length bytes)

@@ -1,5 +1,5 @@
 -- The headline from the reading.
-use Rattle.std.proofs.Common.{◌≡◌, subst, sym, [], arith}
+use Rattle.std.proofs.Common.{◌≡◌, ap, subst, sym, [], arith}
 use Rattle.std.specs.Prelude.{Some, None, ℕ}
 use Rattle.std.specs.declared.option.Option.{Option}
 use Rattle.std.proofs.KnownBytes.{Appends-nil}
@@ -7,13 +7,13 @@ use Rattle.gui_base.specs.Limits.{Bounds}
 use Rattle.run_defs.specs.Machine.{Machine, first_machine}
 use Rattle.gui_edge.specs.Panel.{PanelState, Opens}
 use Rattle.gui_edge.proofs.Telling.{keeps_telling-some}
-use Rattle.scene_run.specs.Effects.{PanelEffects}
+use Rattle.scene_run.specs.Effects.{PanelEffects, SinceOpening}
 use Rattle.scene_run.specs.Headline.{Outside, Runs, Headline}
 use Rattle.scene_run.specs.declared.status.Status.{Status}
 use Rattle.scene_run.specs.declared.status.Status.TheVariants.{PanelFault, NoMemory}
 
 -- opening a panel answers no line
-pub opened_effects : (old new : PanelState) (width height limit : ℕ) → Opens old new width height limit → PanelEffects old new None []
+opened_effects : (old new : PanelState) (width height limit : ℕ) → Opens old new width height limit → PanelEffects old new None []
 opened_effects old new width height limit opens =
     subst (λ (s : PanelState). PanelEffects old s None []) (sym opens.is) (record {
       frames = λ t. Appends-nil old.frames;
@@ -21,6 +21,13 @@ opened_effects old new width height limit opens =
       faults = omega arith;
       keeps = record { told = keeps_telling-some old.shows new.shows _ opens.shows; flush_faults = omega arith; present_faults = omega arith };
     })
+
+pub since_opening : (old new : PanelState) (width height limit : ℕ) → Opens old new width height limit → SinceOpening old new
+since_opening old new width height limit opens = record {
+  effects = opened_effects old new width height limit opens;
+  sent = ap (λ (p : PanelState). p.sent) opens.is;
+  flush_faults = ap (λ (p : PanelState). p.flush_faults) opens.is;
+}
 
 headline_by : (limits : Bounds) (old new : Outside) (status : Status) → Runs (first_machine limits) old new status → Headline (Some limits) old new status
 headline_by limits old new PanelFault h = tt

@@ -4,3 +4,4 @@ pub mod Going
 pub mod Gone
 pub mod Headlines
 pub mod Owing
+pub mod Sent

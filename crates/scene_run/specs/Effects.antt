@@ -1,17 +1,22 @@
 -- What lines of the script do to the log and to the panel.
-use Rattle.std.specs.Prelude.{◌≡◌, ◌+◌, ◌≤◌, ◌⊎◌, List, [], ◌∷◌, ◌++◌, length, IsSome, IfSome, None}
+use Rattle.std.specs.Prelude.{◌≡◌, ℕ, ◌+◌, ◌-◌, ◌≤◌, ◌⊎◌, List, [], ◌∷◌, ◌++◌, length, IsSome, IfSome, None}
 use Rattle.std.specs.declared.option.Option.{Option}
 use Rattle.std.specs.Io.KnownBytes.{Appends}
 use Rattle.scene_defs.specs.Scene.{Scene}
 use Rattle.run_defs.specs.declared.Outcome.{Outcome}
 use Rattle.run_defs.specs.Script.{Said}
 use Rattle.run_defs.specs.Machine.{Machine}
-use Rattle.run_defs.specs.Run.{Entry, Told, first_moment, entry, after_all, entries, told, frame_count}
+use Rattle.run_defs.specs.Run.{Entry, Told, moment, first_moment, entry, after_all, entries, told}
+use Rattle.run_defs.specs.Run.{frame_count}
 use Rattle.run_defs.specs.Run.{log_text, frame_file, frame_files, file_asked, last_done, fault_count}
 use Rattle.gui_edge.specs.Causes.{Rose}
 use Rattle.gui_edge.specs.Sink.{SinkState, AppendsPrefix}
 use Rattle.gui_edge.specs.Panel.{PanelState, HasSizes}
+use Rattle.gui_damage.specs.Pending.{Pending}
+use Rattle.gui_refresh.specs.Owing.{standing_of}
 use Rattle.gui_core.specs.Panels.{ShowsScene}
+use Rattle.run_debts.specs.Accounts.{LineCounts}
+use Rattle.run_debts.specs.Owing.{may_send}
 
 -- what a run writes to
 pub record Output : Type 0 where
@@ -59,6 +64,13 @@ pub record Breaks (old new : Output) (e : Entry) : Type 0 where
   pub faults : old.panel.flush_faults + fault_count (told (e ∷ []) last) ≤ new.panel.flush_faults
   pub cause : WriteFailed old new
 
+-- The panel was asked for no more pixels than these lines owe with these outcomes: in each window what its
+-- commands owe, and the whole panel for each time that the list can have overflowed; and for each flush that
+-- failed a slice and the whole panel.
+abbrev pub SendsAsOwed : Machine → PanelState → PanelState → List Said → List Outcome → Type 0
+SendsAsOwed first old new lines outcomes =
+    new.sent ≤ old.sent + may_send first lines outcomes (new.flush_faults - old.flush_faults)
+
 -- These lines were answered from this machine on, each with its reply, and each frame line with its outcome.
 pub record Answers (first : Machine) (old new : Output) (lines : List Said) : Type 0 where
   -- each frame line has an outcome
@@ -68,6 +80,8 @@ pub record Answers (first : Machine) (old new : Output) (lines : List Said) : Ty
   pub effects : Effects old new None (told (entries (first_moment first) lines) outcomes)
   -- the panel is opened with the limits' sizes
   pub slices : HasSizes new.panel first.scene.limits
+  -- no more was sent than is owed
+  pub owed : SendsAsOwed first old.panel new.panel lines outcomes
 
 -- A write failed at one of these lines: those before it were answered, and those after it were not reached.
 pub record Halted (first : Machine) (old new : Output) (lines : List Said) : Type 0 where
@@ -80,6 +94,22 @@ pub record Halted (first : Machine) (old new : Output) (lines : List Said) : Typ
   pub answers : Answers first old between answered
   pub breaks : Breaks between new (entry (after_all (first_moment first) answered) said)
   pub slices : HasSizes new.panel first.scene.limits
+  -- no more was sent than all these lines owe
+  pub owed : SendsAsOwed first old.panel new.panel lines (answers.outcomes ++ breaks.last)
+
+-- A write failed at a line, before which the first areas were pending and after which the others are.
+pub record LineBreaks (machine : Machine) (number frame : ℕ) (said : Said) (old new : Output)
+    (before after : Pending) : Type 0 where
+  pub breaks : Breaks old new (entry (moment machine number frame) said)
+  -- what it sent by then
+  pub counts : LineCounts machine.scene.limits machine said breaks.last
+      (standing_of old.panel before) (standing_of new.panel after)
+
+-- a panel was opened, and nothing came to it since
+pub record SinceOpening (old new : PanelState) : Type 0 where
+  pub effects : PanelEffects old new None []
+  pub sent : new.sent ≡ old.sent
+  pub flush_faults : new.flush_faults ≡ old.flush_faults
 
 -- a frame could not be presented whole
 pub record FrameBroke (old new : PanelState) (scene : Scene) : Type 0 where

@@ -1,13 +1,23 @@
 -- A run under way.
 use Rattle.std.specs.Prelude.{◌≡◌, ℕ, Bool, ◌+◌, ◌^◌, ◌<◌, List, ◌++◌, length}
+use Rattle.std.specs.Io.KnownBytes.{Consumes}
 use Rattle.run_defs.specs.Machine.{Machine}
-use Rattle.run_defs.specs.Script.{Said, Whole, says, says_cut}
+use Rattle.run_defs.specs.Script.{Said, Whole, says, says_cut, max_script}
 use Rattle.run_defs.specs.Run.{Moment, moment, first_moment, after_all, entries, told, noted}
 use Rattle.gui_edge.specs.Panel.{PanelState, HasSizes}
 use Rattle.gui_edge.specs.Sink.{SinkState}
-use Rattle.gui_core.specs.Machines.{machine_of}
+use Rattle.gui_edge.specs.Source.{SourceState}
+use Rattle.gui_base.specs.Limits.{Bounds}
+use Rattle.gui_damage.specs.Pending.{Pending}
+use Rattle.gui_refresh.specs.Owing.{standing_of}
+use Rattle.gui_core.specs.Machines.{machine_of, pending_in}
+use Rattle.gui_core.specs.Panels.{AgreesWith}
+use Rattle.owed_defs.specs.Standings.{Standing}
+use Rattle.run_debts.specs.Accounts.{IsRunAccounted}
+use Rattle.run_debts.specs.Owing.{panel_size}
 use Rattle.scene_script.specs.Cutting.{Cutting, HasTaken}
 use Rattle.scene_run.specs.Effects.{Output, output, Answers, Halted}
+use Rattle.scene_run.specs.Headline.{Outside}
 use Rattle.scene_run.specs.declared.runner.Runner.{Runner}
 
 -- how far a run has come, and what it writes to
@@ -16,12 +26,15 @@ pub record Running : Type 0 where
   -- whether a line was refused or a frame faulted
   pub noted : Bool
   pub output : Output
+  -- the areas that are pending
+  pub pending : Pending
 
 abbrev pub running : Runner → SinkState → PanelState → Running
 running runner log panel = record {
   moment = moment (machine_of runner.gui) runner.number runner.frame;
   noted = runner.noted;
   output = output log panel;
+  pending = pending_in runner.gui;
 }
 
 -- the same with the line that is read
@@ -32,17 +45,31 @@ pub record Reading : Type 0 where
 abbrev pub reading : Runner → SinkState → PanelState → Reading
 reading runner log panel = record { run = running runner log panel; cutter = runner.cutter }
 
--- the panel has the machine's sizes, and there are numbers for so many lines more
+-- The panel has the machine's sizes, each of its pixels is pending or right, and there are numbers for so
+-- many lines more.
 pub record IsReady (now : Running) (room : ℕ) : Type 0 where
   pub sizes : HasSizes now.output.panel now.moment.machine.scene.limits
+  pub agrees : AgreesWith now.output.panel now.pending now.moment.machine.scene
   pub number : now.moment.number + room < 2 ^ 32
   pub frame : now.moment.frame + room < 2 ^ 32
+
+-- how a panel stands at the opening: the whole of it is pending
+abbrev pub opening : Bounds → PanelState → Standing
+opening limits panel = record {
+  sent = panel.sent;
+  pending = panel_size limits;
+  listed = 1;
+  faults = panel.flush_faults;
+}
 
 -- These lines were answered from a machine on, and the run came here.
 pub record Answered (first : Machine) (start : Output) (now : Running) (lines : List Said) : Type 0 where
   pub answers : Answers first start now.output lines
   pub moment : now.moment ≡ after_all (first_moment first) lines
   pub noted_is : now.noted ≡ noted (told (entries (first_moment first) lines) answers.outcomes)
+  -- what was sent and what is pending is within what the lines owe
+  pub accounted : IsRunAccounted first lines answers.outcomes (opening first.scene.limits start.panel)
+      (standing_of now.output.panel now.pending)
 
 -- These bytes were read from the start on, and the lines that they make whole were answered.
 pub record HasRead (first : Machine) (start : Output) (now : Reading) (bytes : List ℕ) : Type 0 where
@@ -80,3 +107,11 @@ pub record Ends (old : Reading) (new : Running) : Type 0 where
 pub record StopsAtEnd (old : Reading) (new : Output) : Type 0 where
   pub from : (first : Machine) (start : Output) (script : List ℕ) →
       HasRead first start old script → Halted first start new (says Whole script)
+
+-- At most `room` further bytes may be taken, and the lines of those that were taken are answered.
+pub record Gone (first : Machine) (old : Outside) (source : SourceState) (now : Reading) (room : ℕ) :
+    Type 0 where
+  pub taken : List ℕ
+  pub source_is : Consumes old.source.left source.left taken
+  pub many : length taken + room ≡ max_script
+  pub read : HasRead first old.output now taken

@@ -11,9 +11,13 @@ ghost use Rattle.run_defs.specs.Run.{Replied, Framed, reply_line, frame_line, lo
 ghost use Rattle.gui_edge.specs.Causes.{HasCause};
 ghost use Rattle.gui_edge.specs.Panel.{HasSizes};
 ghost use Rattle.gui_edge.specs.Sink.{AppendsPrefix};
-ghost use Rattle.gui_core.specs.Machines.{machine_of};
-ghost use Rattle.gui_core.specs.Panels.{ShowsScene, Refreshes};
-ghost use Rattle.scene_run.specs.Effects.{output, PanelEffects, Effects, Breaks, FrameBroke};
+ghost use Rattle.gui_damage.specs.Adding.{AddsAll};
+ghost use Rattle.gui_refresh.specs.Owing.{standing_of};
+ghost use Rattle.gui_core.specs.Machines.{machine_of, pending_in};
+ghost use Rattle.gui_core.specs.Panels.{ShowsScene, AgreesWith, GoesOnAgreeing, Refreshes};
+ghost use Rattle.run_debts.specs.Accounts.{FrameCounts, LineCounts};
+ghost use Rattle.run_debts.specs.Owing.{command_owes};
+ghost use Rattle.scene_run.specs.Effects.{output, PanelEffects, Effects, LineBreaks, FrameBroke};
 
 use arrayvec::ArrayVec;
 use gui_base::{Refusal, Steps};
@@ -83,36 +87,50 @@ fn make<L: Sink>(gui: &mut Gui, command: &Command, number: u32, log: &mut L) -> 
         (log_lines (Replied number (step (machine_of gui.old) command.now).lines
         (step (machine_of gui.old) command.now).reply))) }
     ensures cause { HasCause (L.state log.old).faults (L.state log.new).faults result }
+    ensures damage { AddsAll (pending_in gui.old) (pending_in gui.new)
+        (command_owes (machine_of gui.old) command.now) }
+    ensures agrees { GoesOnAgreeing (pending_in gui.old) (pending_in gui.new) (machine_of gui.old).scene
+        (machine_of gui.new).scene }
 {
     let reply = gui.apply(command, log)?;
     log.put(reply_text(number, reply).as_slice())?;
     Ok(is_noted(reply))
 }
 
-/// Sends the picture to the panel with an empty count of steps, which no clause of a run speaks of.
+/// Sends what is pending to the panel with an empty count of steps, which no clause of a run speaks of.
 fn refresh_counted<P: Panel, B: Ledger>(gui: &mut Gui, panel: &mut P, blank: Blank) -> Refreshed
     requires name { blank.name ≡ B.name }
     requires parts { blank.parts ≡ B.parts }
     requires some { 0 < blank.parts }
     requires sizes { HasSizes (P.state panel.old) (machine_of gui.old).scene.limits }
     ensures machine { machine_of gui.new ≡ machine_of gui.old }
-    ensures refreshes { Refreshes (P.state panel.old) (P.state panel.new) (machine_of gui.old).scene result }
+    ensures refreshes { Refreshes (P.state panel.old) (P.state panel.new) (pending_in gui.old)
+        (pending_in gui.new) (machine_of gui.old).scene result }
 {
     let (book, all) = blank.open::<B>();
     let mut steps = Steps::new(book, all);
     gui.refresh(panel, &mut steps)
 }
 
-/// Sends the picture, and presents the frame where all of it arrived.
+/// Sends what is pending of the picture, and presents the frame where all of it arrived.
 fn show<P: Panel>(gui: &mut Gui, panel: &mut P) -> Result<Outcome, Failed>
-    requires { HasSizes (P.state panel.old) (machine_of gui.old).scene.limits }
+    requires sizes { HasSizes (P.state panel.old) (machine_of gui.old).scene.limits }
+    requires agrees { AgreesWith (P.state panel.old) (pending_in gui.old) (machine_of gui.old).scene }
     ensures machine { machine_of gui.new ≡ machine_of gui.old }
     ensures sizes { HasSizes (P.state panel.new) (machine_of gui.old).scene.limits }
     ensures ok { IfOk result (λ outcome. (number frame : ℕ) (seen : Option Scene) →
         PanelEffects (P.state panel.old) (P.state panel.new) seen
         (Framed number frame (machine_of gui.old).scene outcome ∷ [])) }
+    ensures counts { IfOk result (λ outcome. FrameCounts (machine_of gui.old).scene.limits (outcome ∷ [])
+        (standing_of (P.state panel.old) (pending_in gui.old))
+        (standing_of (P.state panel.new) (pending_in gui.new))) }
+    ensures agrees { IfOk result (λ outcome.
+        AgreesWith (P.state panel.new) (pending_in gui.new) (machine_of gui.old).scene) }
     ensures err { OnErr result
         (FrameBroke (P.state panel.old) (P.state panel.new) (machine_of gui.old).scene) }
+    ensures err_counts { OnErr result (FrameCounts (machine_of gui.old).scene.limits []
+        (standing_of (P.state panel.old) (pending_in gui.old))
+        (standing_of (P.state panel.new) (pending_in gui.new))) }
 {
     match refresh_counted::<P, Brand>(gui, panel, Blank::new(1)) {
         Refreshed::Done => {
@@ -140,6 +158,7 @@ pub fn answer<L: Sink, P: Panel>(
     panel: &mut P,
 ) -> Result<LineEnd, Failed>
     requires sizes { HasSizes (P.state panel.old) (machine_of gui.old).scene.limits }
+    requires agrees { AgreesWith (P.state panel.old) (pending_in gui.old) (machine_of gui.old).scene }
     requires in_range { IsInRange said.now }
     ensures machine { machine_of gui.new ≡ machine_after (machine_of gui.old) said.now }
     ensures sizes { HasSizes (P.state panel.new) (machine_of gui.old).scene.limits }
@@ -151,9 +170,14 @@ pub fn answer<L: Sink, P: Panel>(
     ensures noted { IfOk result (λ end. end.noted ≡ noted
         (told (entry (moment (machine_of gui.old) number frame) said.now ∷ [])
         (option_to_list end.outcome))) }
-    ensures err { OnErr result (Breaks (output (L.state log.old) (P.state panel.old))
-        (output (L.state log.new) (P.state panel.new))
-        (entry (moment (machine_of gui.old) number frame) said.now)) }
+    ensures counts { IfOk result (λ end. LineCounts (machine_of gui.old).scene.limits (machine_of gui.old)
+        said.now (option_to_list end.outcome) (standing_of (P.state panel.old) (pending_in gui.old))
+        (standing_of (P.state panel.new) (pending_in gui.new))) }
+    ensures agrees { IfOk result (λ end.
+        AgreesWith (P.state panel.new) (pending_in gui.new) (machine_of gui.new).scene) }
+    ensures err { OnErr result (LineBreaks (machine_of gui.old) number frame said.now
+        (output (L.state log.old) (P.state panel.old)) (output (L.state log.new) (P.state panel.new))
+        (pending_in gui.old) (pending_in gui.new)) }
 {
     let mut end = LineEnd {
         outcome: None,

@@ -1,10 +1,15 @@
 //! Reads the script in pieces.
-ghost use Rattle.std.specs.Prelude.{◌≡◌, ◌⊎◌, [], None};
+ghost use Rattle.std.specs.Prelude.{◌≡◌, ◌⊎◌, ◌+◌, ◌∷◌, []};
+ghost use Rattle.scene_defs.specs.Place.{panel_of};
+ghost use Rattle.run_defs.specs.Machine.{Machine};
+ghost use Rattle.run_defs.specs.Script.{max_script};
 ghost use Rattle.gui_edge.specs.Causes.{Rose};
-ghost use Rattle.gui_core.specs.Machines.{machine_of};
+ghost use Rattle.gui_core.specs.Machines.{machine_of, pending_in};
+ghost use Rattle.gui_core.specs.Panels.{AgreesWith};
 ghost use Rattle.gui_edge.specs.Panel.{PanelState, HasSizes};
-ghost use Rattle.scene_run.specs.Effects.{PanelEffects};
-ghost use Rattle.scene_run.specs.Headline.{outside, Runs, IfUnstarted};
+ghost use Rattle.scene_run.specs.Effects.{SinceOpening};
+ghost use Rattle.scene_run.specs.Headline.{Outside, outside, Runs, IfUnstarted};
+ghost use Rattle.scene_run.specs.Running.{running, reading, IsReady, Gone};
 
 use crate::runner::Runner;
 use crate::status::Status;
@@ -22,8 +27,10 @@ pub fn read_script<S: Source, L: Sink, P: Panel>(
     log: &mut L,
     panel: &mut P,
 ) -> Status
-    requires { HasSizes (P.state panel.old) (machine_of gui).scene.limits }
-    ensures runs { (before : PanelState) → PanelEffects before (P.state panel.old) None [] →
+    requires sizes { HasSizes (P.state panel.old) (machine_of gui).scene.limits }
+    requires whole { (pending_in gui).areas ≡ panel_of (machine_of gui).scene ∷ [] }
+    requires agrees { AgreesWith (P.state panel.old) (pending_in gui) (machine_of gui).scene }
+    ensures runs { (before : PanelState) → SinceOpening before (P.state panel.old) →
         Runs (machine_of gui) (outside (S.state source.old) (L.state log.old) before)
         (outside (S.state source.new) (L.state log.new) (P.state panel.new)) result }
     ensures started { IfUnstarted result ⊥ }
@@ -33,6 +40,25 @@ pub fn read_script<S: Source, L: Sink, P: Panel>(
         ⊎ Rose (P.state panel.old).present_faults (P.state panel.new).present_faults }
 {
     let mut runner = Runner::new(gui);
+    read_pieces(&mut runner, source, log, panel)
+}
+
+/// The same with a runner that has read nothing yet.
+fn read_pieces<S: Source, L: Sink, P: Panel>(
+    runner: &mut Runner,
+    source: &mut S,
+    log: &mut L,
+    panel: &mut P,
+) -> Status
+    requires { IsReady (running runner.old (L.state log.old) (P.state panel.old)) (max_script + 1) }
+    ensures runs { (first : Machine) (start : Outside) →
+        Gone first start (S.state source.old)
+        (reading runner.old (L.state log.old) (P.state panel.old)) max_script →
+        Runs first start (outside (S.state source.new) (L.state log.new) (P.state panel.new)) result }
+    ensures started { IfUnstarted result ⊥ }
+    ensures read_fault { result ≡ Status.ReadFault →
+        Rose (S.state source.old).faults (S.state source.new).faults }
+{
     let mut buffer = [0; 4096];
     let mut room = MAX_SCRIPT;
     for _ in 0..=MAX_SCRIPT {

@@ -61,7 +61,7 @@ impl Runner {
     }
 
     /// Answers the line that the cutter's last answer made whole, if it made one.
-    #[tactic(auto, using(crate::proofs::Going::goes_on_none, crate::proofs::Going::halts_at))]
+    #[tactic(auto, using(crate::proofs::Going::goes_on_none))]
     fn take_cut<L: Sink, P: Panel>(
         &mut self,
         cut: Cut,

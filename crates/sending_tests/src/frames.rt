@@ -1,0 +1,150 @@
+//! How many pixels come to the panel by each frame.
+
+use crate::counting::run;
+use scene_run::Status;
+use std::alloc::Global;
+use std::process::Abort;
+use std::test::Fail;
+
+/// A run and what each of its frames is sent.
+struct Case {
+    name: &'static str,
+    words: [&'static str; 3],
+    script: &'static str,
+    counts: &'static [u64],
+}
+
+/// Runs a case, of which no line is refused and no frame faults.
+fn try_case(rt: &impl Abort, alloc: Global, case: &Case) -> Result<(), Fail> {
+    let name = case.name;
+    let ran = run(alloc, &case.words, case.script.as_bytes(), &[])?;
+    assert!(rt; ran.status == Status::Done, "{name}");
+    assert_eq!(rt; ran.counts.as_slice(), case.counts, "{name}");
+    Ok(())
+}
+
+const MOVED: Case = Case {
+    name: "an object that moves by one pixel: its old place and its new one, which are joined",
+    words: ["8", "6", "6"],
+    script: "new 10 3 obj\nsize 10 3 2\npos 10 1 1\nlocal 10 main bg_opa 255\n\
+        local 10 main bg_color #000000\nframe\npos 10 2 1\nframe\n",
+    counts: &[48, 8],
+};
+
+const COLOURED: Case = Case {
+    name: "an object that changes its colour: its place, once",
+    words: ["8", "6", "6"],
+    script: "new 10 3 obj\nsize 10 3 2\npos 10 1 1\nlocal 10 main bg_opa 255\n\
+        local 10 main bg_color #000000\nframe\nlocal 10 main bg_color #00FF00\nframe\n",
+    counts: &[48, 6],
+};
+
+const MOVED_WITH_CHILD: Case = Case {
+    name: "an object that moves with its child: both places of both, of 40 pixels, join to 20",
+    words: ["8", "4", "4"],
+    script: "new 10 3 obj\nsize 10 4 4\nlocal 10 main bg_opa 255\nlocal 10 main bg_color #000000\n\
+        new 11 10 obj\nsize 11 4 2\npos 11 2 0\nlocal 11 main bg_opa 255\n\
+        local 11 main bg_color #0000FF\nframe\npos 10 1 0\nframe\n",
+    counts: &[32, 20],
+};
+
+const TO_FRONT: Case = Case {
+    name: "an object that comes to the front, also where it stands there: its place",
+    words: ["4", "1", "1"],
+    script: "new 10 3 obj\nsize 10 2 1\nlocal 10 main bg_opa 255\nlocal 10 main bg_color #FF0000\n\
+        new 11 3 obj\nsize 11 2 1\npos 11 1 0\nlocal 11 main bg_opa 255\n\
+        local 11 main bg_color #00FF00\nframe\nfront 10\nframe\nfront 10\nframe\n",
+    counts: &[4, 2, 2],
+};
+
+const SHARED_STYLE: Case = Case {
+    name: "a style that two objects share: the places of both",
+    words: ["8", "2", "2"],
+    script: "style 1\nnew 10 3 obj\nsize 10 2 1\nlocal 10 main bg_opa 255\nuse 10 1 main\n\
+        new 11 3 obj\nsize 11 2 1\npos 11 4 0\nlocal 11 main bg_opa 255\nuse 11 1 main\n\
+        frame\nset 1 bg_color #FF0000\nframe\n",
+    counts: &[16, 4],
+};
+
+#[test]
+fn a_moved_object_sends_both_its_places(rt: HostRuntime) -> Result<(), Fail> {
+    try_case(&rt, rt.alloc(), &MOVED)
+}
+
+#[test]
+fn a_new_colour_sends_one_place(rt: HostRuntime) -> Result<(), Fail> {
+    try_case(&rt, rt.alloc(), &COLOURED)
+}
+
+#[test]
+fn a_child_that_moves_along_sends_its_places(rt: HostRuntime) -> Result<(), Fail> {
+    try_case(&rt, rt.alloc(), &MOVED_WITH_CHILD)
+}
+
+#[test]
+fn the_named_object_is_sent_though_it_stays(rt: HostRuntime) -> Result<(), Fail> {
+    try_case(&rt, rt.alloc(), &TO_FRONT)
+}
+
+#[test]
+fn a_shared_style_sends_all_its_users(rt: HostRuntime) -> Result<(), Fail> {
+    try_case(&rt, rt.alloc(), &SHARED_STYLE)
+}
+
+/// 33 objects of a pixel become black: one area more than the list has room for.
+#[test]
+fn a_list_that_overflows_sends_the_panel(rt: HostRuntime) -> Result<(), Fail> {
+    let alloc = rt.alloc();
+    let mut script = String::new(alloc);
+    for i in 0..33 {
+        let h = i + 10;
+        let x = 2 * i;
+        let lines = format!(in alloc;
+            "new {h} 3 obj\nsize {h} 1 1\npos {h} {x} 0\nlocal {h} main bg_opa 255\n"
+        )?;
+        script.push_str(lines.as_str())?;
+    }
+    script.push_str("frame\n")?;
+    for i in 0..33 {
+        let h = i + 10;
+        let line = format!(in alloc; "local {h} main bg_color #000000\n")?;
+        script.push_str(line.as_str())?;
+    }
+    script.push_str("frame\n")?;
+    let ran = run(alloc, &["66", "1", "1"], script.as_bytes(), &[])?;
+    assert!(rt; ran.status == Status::Done);
+    assert_eq!(rt; ran.counts.as_slice(), [66, 66].as_slice());
+    Ok(())
+}
+
+/// What is refused sends nothing.
+#[test]
+fn a_refused_line_sends_nothing(rt: HostRuntime) -> Result<(), Fail> {
+    let script = b"new 10 3 obj\nframe\nnew 11 3 obj\nframe\n";
+    let ran = run(rt.alloc(), &["4", "2", "1", "objects=4"], script, &[])?;
+    assert!(rt; ran.status == Status::Noted);
+    assert_eq!(rt; ran.counts.as_slice(), [8, 0].as_slice());
+    Ok(())
+}
+
+/// The frame after a fault sends the slice that failed, and nothing that had arrived.
+#[test]
+fn a_slice_that_failed_is_sent_again(rt: HostRuntime) -> Result<(), Fail> {
+    let ran = run(rt.alloc(), &["4", "2", "1"], b"frame\nframe\n", &[2])?;
+    assert!(rt; ran.status == Status::Noted);
+    assert_eq!(rt; ran.log.bytes(), &b"1 frame 1 fault\n2 frame 2 done\n"[..]);
+    assert_eq!(rt; ran.counts.as_slice(), [12].as_slice());
+    assert_eq!(rt; ran.sent, 12);
+    Ok(())
+}
+
+/// The second slice of a change fails: the next frame sends that slice again, and nothing else.
+#[test]
+fn after_a_fault_only_what_was_pending_is_sent(rt: HostRuntime) -> Result<(), Fail> {
+    let script = b"new 10 3 obj\nsize 10 4 2\nlocal 10 main bg_opa 255\nframe\n\
+        local 10 main bg_color #FF0000\nframe\nframe\nframe\n";
+    let ran = run(rt.alloc(), &["4", "4", "1"], script, &[6])?;
+    assert!(rt; ran.status == Status::Noted);
+    assert_eq!(rt; ran.counts.as_slice(), [16, 12, 0].as_slice());
+    Ok(())
+}

@@ -108,8 +108,8 @@ impl Look {
         Ok(Look { order, seen })
     }
 
-    /// Sees what is shown of a store. Before, nothing is seen. What is known of objects that a change does not
-    /// concern is kept, where they stay in their places.
+    /// Sees what is shown of a store. Before, nothing is seen. What is known of objects that a change does
+    /// not concern is kept, where they stay in their places.
     pub(crate) fn take(
         &mut self,
         store: &Store,

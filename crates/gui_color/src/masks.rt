@@ -33,7 +33,7 @@ pub fn mask_row(row: &mut [Rgb565], bits: &[u8], first: u32, fg: Rgb565, opa: u8
     }
 }
 
-/// Makes each pixel whose bit is 1 `fg`. Each is chosen and written, so that no branch waits for its bit.
+/// Makes each pixel whose bit is 1 `fg`.
 fn cover_masked(row: &mut [Rgb565], bits: &[u8], first: u32, fg: Rgb565)
     requires { first + length row.old ≤ 8 * length bits.now }
     ensures { (k : ℕ) → k < length row.old → slice_index_or row.new k black

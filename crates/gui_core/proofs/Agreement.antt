@@ -1,6 +1,6 @@
 -- How a panel goes on agreeing with the scene.
-use Rattle.std.proofs.Common.{◌≡◌, ◌∙◌, sym, ap, subst, refl, ℤ, true, false, List, [], ◌∷◌}
-use Rattle.gui_base.specs.Area.{Rect, has, area_at}
+use Rattle.std.proofs.Common.{◌≡◌, ◌∙◌, sym, ap, subst, refl, List, [], ◌∷◌}
+use Rattle.gui_base.specs.Area.{Rect, area_at}
 use Rattle.std.specs.Prelude.{pos}
 use Rattle.gui_base.specs.Limits.{Bounds}
 use Rattle.gui_damage.specs.Adding.{AddsAll}

@@ -1,8 +1,8 @@
 -- What a run sends against what its lines owe.
-use Rattle.std.proofs.Common.{◌≡◌, ◌∙◌, refl, sym, ap, subst, ℕ, ◌+◌, ◌-◌, ◌*◌, ◌≤◌, List, [], ◌∷◌, ◌++◌, length, length-append, append_assoc, append-nil, arith}
+use Rattle.std.proofs.Common.{◌≡◌, ◌∙◌, refl, sym, ap, subst, ℕ, ◌-◌, ◌≤◌, List, [], ◌∷◌, ◌++◌, length, length-append, append_assoc, append-nil, arith}
 use Rattle.std.proofs.lemmas.Int.{ints}
 use Rattle.std.proofs.lemmas.List.Sums.{sum_by-cons}
-use Rattle.gui_base.specs.Area.{Rect, size_of, width_of, height_of}
+use Rattle.gui_base.specs.Area.{size_of, width_of, height_of}
 use Rattle.gui_base.specs.Limits.{Bounds}
 use Rattle.gui_damage.specs.Adding.{AddsAll}
 use Rattle.gui_damage.specs.Pending.{Pending, total}
@@ -20,7 +20,7 @@ use Rattle.run_defs.proofs.Runs.{after_all-limits, frame_count_more}
 use Rattle.owed_defs.specs.Happenings.{debt_of as sizes_of}
 use Rattle.owed_defs.specs.Standings.{Standing, Changes}
 use Rattle.run_debts.specs.Accounts.{IsRunAccounted, LineCounts}
-use Rattle.run_debts.specs.Owing.{command_owes, panel_size, may_send}
+use Rattle.run_debts.specs.Owing.{command_owes, panel_size}
 use Rattle.run_debts.proofs.Runs.{run_opens, line_keeps_account, may_send_more, account_bounds}
 use Rattle.scene_run.specs.Effects.{SinceOpening, SendsAsOwed}
 use Rattle.scene_run.specs.Running.{opening}

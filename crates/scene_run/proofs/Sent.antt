@@ -1,5 +1,5 @@
 -- What a line sends, and what it leaves pending.
-use Rattle.std.proofs.Common.{◌≡◌, sym, ap, subst, refl, ℕ, List, [], ◌∷◌, length}
+use Rattle.std.proofs.Common.{◌≡◌, sym, ap, subst, refl, ℕ, [], ◌∷◌, length}
 use Rattle.std.specs.Prelude.{None, Ok, Err}
 use Rattle.gui_damage.specs.Adding.{AddsAll}
 use Rattle.gui_damage.specs.Pending.{Pending, total}
@@ -9,7 +9,7 @@ use Rattle.gui_edge.specs.Sink.{SinkState, AppendsPrefix}
 use Rattle.gui_core.specs.Panels.{AgreesWith, Refreshes}
 use Rattle.gui_refresh.specs.Owing.{standing_of}
 use Rattle.gui_refresh.specs.declared.Refreshed.{Refreshed}
-use Rattle.gui_refresh.specs.declared.Refreshed.TheVariants.{Done, Fault}
+use Rattle.gui_refresh.specs.declared.Refreshed.TheVariants.{Done}
 use Rattle.scene_defs.specs.Place.{panel_of}
 use Rattle.scene_defs.specs.Scene.{Scene}
 use Rattle.run_defs.specs.declared.Command.{Command}

@@ -51,19 +51,20 @@ type Row = (
     u64,
 );
 
-/// Each frame is sent whole, in two flushes, and written in two puts.
+/// The first frame is sent whole, in two flushes, and a later one sends what flushes that failed have left. Each
+/// is written in two puts.
 const ROWS: &[Row] = &[
-    (TWO, 64, &[], 0, BOTH, 2, false, 16),
-    (MIXED, 1, &[], 1, MIXED_LOG, 3, false, 24),
-    (MIXED, 3, &[], 1, MIXED_LOG, 3, false, 24),
+    (TWO, 64, &[], 0, BOTH, 2, false, 8),
+    (MIXED, 1, &[], 1, MIXED_LOG, 3, false, 8),
+    (MIXED, 3, &[], 1, MIXED_LOG, 3, false, 8),
     (TWO, 64, &[Read(1)], 3, "", 0, false, 0),
-    (TWO, 64, &[Read(2)], 3, BOTH, 2, false, 16),
-    (TWO, 64, &[Read(3)], 0, BOTH, 2, false, 16),
+    (TWO, 64, &[Read(2)], 3, BOTH, 2, false, 8),
+    (TWO, 64, &[Read(3)], 0, BOTH, 2, false, 8),
     (TWO, 1, &[Read(3)], 3, "", 0, false, 0),
     (TWO, 1, &[Read(7)], 3, FIRST, 1, false, 8),
-    (TWO, 1, &[Read(13)], 3, BOTH, 2, false, 16),
+    (TWO, 1, &[Read(13)], 3, BOTH, 2, false, 8),
     (TWO, 3, &[Read(4)], 3, FIRST, 1, false, 8),
-    (MIXED, 3, &[Read(13)], 3, MIXED_UP_TO_5, 2, false, 16),
+    (MIXED, 3, &[Read(13)], 3, MIXED_UP_TO_5, 2, false, 8),
     (TWO, 64, &[Log(1)], 4, "1 frame", 1, false, 8),
     (
         TWO,
@@ -73,7 +74,7 @@ const ROWS: &[Row] = &[
         "1 frame 1 done\n2 frame",
         2,
         false,
-        16,
+        8,
     ),
     (
         MIXED,
@@ -93,13 +94,13 @@ const ROWS: &[Row] = &[
         "1 frame 1 done\n3 refused syntax\n5 frame 2 done\n6 frame",
         3,
         false,
-        24,
+        8,
     ),
     (TWO, 64, &[Frames(1)], 4, "", 0, true, 8),
     (TWO, 64, &[Frames(2)], 4, "", 0, true, 8),
-    (TWO, 64, &[Frames(3)], 4, FIRST, 1, true, 16),
-    (TWO, 64, &[Frames(4)], 4, FIRST, 1, true, 16),
-    (MIXED, 3, &[Frames(6)], 4, MIXED_UP_TO_5, 2, true, 24),
+    (TWO, 64, &[Frames(3)], 4, FIRST, 1, true, 8),
+    (TWO, 64, &[Frames(4)], 4, FIRST, 1, true, 8),
+    (MIXED, 3, &[Frames(6)], 4, MIXED_UP_TO_5, 2, true, 8),
     (TWO, 64, &[Open], 5, "", 0, false, 0),
     (
         TWO,
@@ -112,18 +113,18 @@ const ROWS: &[Row] = &[
         0,
     ),
     (TWO, 64, &[Flush(1)], 1, SECOND, 1, false, 12),
-    (TWO, 64, &[Flush(2)], 1, SECOND, 1, false, 16),
+    (TWO, 64, &[Flush(2)], 1, SECOND, 1, false, 12),
     (TWO, 64, &[Flush(1), Flush(2)], 1, NEITHER, 0, false, 8),
-    (TWO, 64, &[Flush(2), Flush(4)], 1, NEITHER, 0, false, 16),
+    (TWO, 64, &[Flush(2), Flush(3)], 1, NEITHER, 0, false, 12),
     (
         MIXED,
         3,
-        &[Flush(3), Flush(5)],
+        &[Flush(1), Flush(3)],
         1,
-        "1 frame 1 done\n3 refused syntax\n5 frame 2 fault\n6 frame 3 fault\n",
+        "1 frame 1 fault\n3 refused syntax\n5 frame 2 fault\n6 frame 3 done\n",
         1,
         false,
-        20,
+        16,
     ),
     (
         TWO,
@@ -154,7 +155,7 @@ const ROWS: &[Row] = &[
         "1 frame 1 done\n2 frame",
         2,
         false,
-        16,
+        8,
     ),
 ];
 

@@ -1,9 +1,8 @@
 use Rattle.gui_edge.proofs.Prefixes.{on_err}
 use Rattle.scene_run.proofs.Effects.{effects_frame}
-use Rattle.scene_run.proofs.Owing.{command_counts}
 use Rattle.scene_run.proofs.Sent.{broke_reply, broke_show, broke_frame, broke_fault}
 use Rattle.std.proofs.Common.{refl}
-use Rattle.std.specs.Prelude.{None, []}
+use Rattle.std.specs.Prelude.{None}
 use Rattle.scene_run.proofs.answer.answer.Goals as goal
 
 pub returns-in_err-end-in-Make-clause-err : goal.returns-in_err-end-in-Make-clause-err

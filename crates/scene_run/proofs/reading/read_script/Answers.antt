@@ -1,4 +1,4 @@
-use Rattle.std.proofs.Common.{◌≡◌, ap, arith}
+use Rattle.std.proofs.Common.{ap, arith}
 use Rattle.gui_core.specs.Machines.{machine_of}
 use Rattle.scene_run.proofs.Gone.{gone_start, runs_cause, since_none}
 use Rattle.scene_run.proofs.reading.read_script.Goals as goal

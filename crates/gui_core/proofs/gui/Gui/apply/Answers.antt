@@ -1,4 +1,4 @@
-use Rattle.std.proofs.Common.{◌≡◌, ◌∙◌, ap, sym, subst}
+use Rattle.std.proofs.Common.{◌∙◌, ap, sym, subst}
 use Rattle.gui_damage.specs.Adding.{AddsAll}
 use Rattle.gui_core.specs.Machines.{machine_of, pending_in}
 use Rattle.run_defs.specs.declared.Command.{Command}

@@ -27,7 +27,10 @@ fn is_plain(change: &Change) -> bool
 fn make(store: &mut Store, change: &Change) -> Result<(), &'static str>
     ensures { (scene_of store.new).limits ≡ (scene_of store.old).limits }
 {
-    if !is_plain(change) || store.apply(change).is_err() {
+    if !is_plain(change) {
+        return Err("no plain object");
+    }
+    if store.apply(change).is_err() {
         return Err("refused");
     }
     Ok(())
@@ -152,8 +155,8 @@ const REMOVED: [Change; 5] = [
 fn remove(store: &mut Store) -> Result<(), &'static str>
     ensures { (scene_of store.new).limits ≡ (scene_of store.old).limits }
 {
-    make(store, Change::Delete(Handle(10)))?;
-    make(store, Change::New(Handle(13), SCREEN, Kind::Obj))
+    make(store, &Change::Delete(Handle(10)))?;
+    make(store, &Change::New(Handle(13), SCREEN, Kind::Obj))
 }
 
 /// Places that were solved again after that.

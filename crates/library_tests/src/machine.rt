@@ -68,7 +68,7 @@ fn two_slices_of_a_white_frame(rt: HostRuntime) -> Result<(), Fail> {
 
 /// What the machine replies to a change.
 fn reply(gui: &mut Gui, log: &mut MemSink, change: Change) -> Option<Reply>
-    requires { IsChange change.entry }
+    requires { IsChange change }
 {
     gui.apply(&Command::Change(change), log).ok()
 }

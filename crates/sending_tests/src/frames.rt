@@ -91,16 +91,15 @@ fn a_shared_style_sends_all_its_users(rt: HostRuntime) -> Result<(), Fail> {
     try_case(&rt, rt.alloc(), &SHARED_STYLE)
 }
 
-/// 33 objects of a pixel become black: one area more than the list has room for.
+/// 33 objects of a pixel, ten pixels from each other, become black: one area more than the list has room for.
 #[test]
 fn a_list_that_overflows_sends_the_panel(rt: HostRuntime) -> Result<(), Fail> {
     let alloc = rt.alloc();
     let mut script = String::new(alloc);
     for i in 0..33 {
         let h = i + 10;
-        let x = 2 * i;
         let lines = format!(in alloc;
-            "new {h} 3 obj\nsize {h} 1 1\npos {h} {x} 0\nlocal {h} main bg_opa 255\n"
+            "new {h} 3 obj\nsize {h} 1 1\npos {h} {h}0 0\nlocal {h} main bg_opa 255\n"
         )?;
         script.push_str(lines.as_str())?;
     }
@@ -111,9 +110,9 @@ fn a_list_that_overflows_sends_the_panel(rt: HostRuntime) -> Result<(), Fail> {
         script.push_str(line.as_str())?;
     }
     script.push_str("frame\n")?;
-    let ran = run(alloc, &["66", "1", "1"], script.as_bytes(), &[])?;
+    let ran = run(alloc, &["430", "1", "1"], script.as_bytes(), &[])?;
     assert!(rt; ran.status == Status::Done);
-    assert_eq!(rt; ran.counts.as_slice(), [66, 66].as_slice());
+    assert_eq!(rt; ran.counts.as_slice(), [430, 430].as_slice());
     Ok(())
 }
 

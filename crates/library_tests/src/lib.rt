@@ -8,7 +8,3 @@ mod color;
 mod edge;
 #[cfg(test)]
 mod machine;
-#[cfg(test)]
-mod store;
-#[cfg(test)]
-mod styles;

@@ -1,0 +1,5 @@
+//! Tests over the public calls of styles.
+#![tactic(auto)]
+
+#[cfg(test)]
+mod styles;

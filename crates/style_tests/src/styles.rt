@@ -1,0 +1,202 @@
+//! Cascades with winners that were worked out by hand, and each pool of the styles at its last slot.
+use gui_base::{Handle, NoMemory, Pool, Refusal};
+use gui_style::{Part, Prop, Selector, Styles};
+use std::alloc::Global;
+use std::test::Fail;
+
+const OBJECT: Handle = Handle(10);
+
+const CHECKED: u16 = 0x0001;
+
+const PRESSED: u16 = 0x0020;
+
+/// Styles with so many slots in each pool.
+fn opened(alloc: Global, slots: u32) -> Result<Styles, &'static str> {
+    match Styles::open(alloc, slots, slots, slots) {
+        Ok(styles) => Ok(styles),
+        Err(NoMemory) => Err("no memory"),
+    }
+}
+
+fn on(part: Part, states: u16) -> Selector {
+    Selector { part, states }
+}
+
+/// The styles 1 and 2, which set an opacity of 10 and of 20.
+fn two_styles(alloc: Global) -> Result<Styles, &'static str> {
+    let mut styles = opened(alloc, 8)?;
+    for (id, opacity) in [(1, 10), (2, 20)] {
+        if styles.style(id).is_err() || styles.style_prop(id, Prop::BgOpa, opacity).is_err() {
+            return Err("refused");
+        }
+    }
+    Ok(styles)
+}
+
+/// The opacity that wins at the object in no state, checked, pressed, and in both.
+fn winners(styles: &Styles, part: Part) -> [Option<i32>; 4] {
+    let none = styles.lookup(OBJECT, part, 0, Prop::BgOpa);
+    let checked = styles.lookup(OBJECT, part, CHECKED, Prop::BgOpa);
+    let pressed = styles.lookup(OBJECT, part, PRESSED, Prop::BgOpa);
+    let both = styles.lookup(OBJECT, part, CHECKED | PRESSED, Prop::BgOpa);
+    [none, checked, pressed, both]
+}
+
+fn spare(styles: &Styles) -> [u32; 3] {
+    [
+        styles.spare_styles(),
+        styles.spare_entries(),
+        styles.spare_uses(),
+    ]
+}
+
+#[test]
+fn greater_states_win(rt: HostRuntime) -> Result<(), Fail> {
+    let mut styles = two_styles(rt.alloc())?;
+    let answers = [
+        styles.add_style(OBJECT, 1, on(Part::Main, PRESSED)),
+        styles.set_local(OBJECT, on(Part::Main, CHECKED), Prop::BgOpa, 30),
+    ];
+    assert_eq!(rt; answers, [Ok(()), Ok(())]);
+    assert_eq!(rt;
+        winners(&styles, Part::Main),
+        [None, Some(30), Some(10), Some(10)]
+    );
+
+    // What is set for two states applies in both of them alone.
+    let both = on(Part::Main, CHECKED | PRESSED);
+    assert_eq!(rt; styles.set_local(OBJECT, both, Prop::BgOpa, 40), Ok(()));
+    assert_eq!(rt;
+        winners(&styles, Part::Main),
+        [None, Some(30), Some(10), Some(40)]
+    );
+
+    // Another part, another property and another object have nothing.
+    assert_eq!(rt; winners(&styles, Part::Knob), [None; 4]);
+    let others = [
+        styles.lookup(OBJECT, Part::Main, PRESSED, Prop::BgColor),
+        styles.lookup(Handle(11), Part::Main, PRESSED, Prop::BgOpa),
+    ];
+    assert_eq!(rt; others, [None; 2]);
+    Ok(())
+}
+
+#[test]
+fn local_entries_win_where_states_are_equal(rt: HostRuntime) -> Result<(), Fail> {
+    let mut styles = two_styles(rt.alloc())?;
+    let answers = [
+        styles.set_local(OBJECT, on(Part::Knob, 0), Prop::BgOpa, 30),
+        styles.add_style(OBJECT, 1, on(Part::Knob, 0)),
+    ];
+    assert_eq!(rt; answers, [Ok(()), Ok(())]);
+    assert_eq!(rt; winners(&styles, Part::Knob), [Some(30); 4]);
+    assert_eq!(rt;
+        styles.unset_local(OBJECT, on(Part::Knob, 0), Prop::BgOpa),
+        Ok(())
+    );
+    assert_eq!(rt; winners(&styles, Part::Knob), [Some(10); 4]);
+    Ok(())
+}
+
+#[test]
+fn a_style_that_is_used_again_is_the_last(rt: HostRuntime) -> Result<(), Fail> {
+    let mut styles = two_styles(rt.alloc())?;
+    let main = on(Part::Main, 0);
+    let answers = [
+        styles.add_style(OBJECT, 1, main),
+        styles.add_style(OBJECT, 2, main),
+    ];
+    assert_eq!(rt; answers, [Ok(()), Ok(())]);
+    assert_eq!(rt; winners(&styles, Part::Main), [Some(20); 4]);
+    let answers = [
+        styles.remove_style(OBJECT, 1, main),
+        styles.add_style(OBJECT, 1, main),
+    ];
+    assert_eq!(rt; answers, [Ok(()), Ok(())]);
+    assert_eq!(rt; winners(&styles, Part::Main), [Some(10); 4]);
+
+    // A property that a style loses is given by the other.
+    assert_eq!(rt; styles.unset_prop(1, Prop::BgOpa), Ok(()));
+    assert_eq!(rt; winners(&styles, Part::Main), [Some(20); 4]);
+    Ok(())
+}
+
+#[test]
+fn the_last_slot_of_each_pool(rt: HostRuntime) -> Result<(), Fail> {
+    let mut styles = opened(rt.alloc(), 1)?;
+    let main = on(Part::Main, 0);
+    let answers = [
+        styles.style(999),
+        styles.style(999),
+        styles.style(1),
+        styles.style_prop(1, Prop::PadTop, 1),
+        styles.style_prop(999, Prop::PadTop, 1),
+        // A value is replaced in its slot.
+        styles.style_prop(999, Prop::PadTop, 2),
+        styles.set_local(OBJECT, main, Prop::PadTop, 3),
+    ];
+    assert_eq!(rt;
+        answers,
+        [
+            Ok(()),
+            Err(Refusal::Taken),
+            Err(Refusal::Full(Pool::Styles)),
+            Err(Refusal::Unknown),
+            Ok(()),
+            Ok(()),
+            Err(Refusal::Full(Pool::Entries)),
+        ]
+    );
+    let answers = [
+        styles.add_style(OBJECT, 1, main),
+        styles.add_style(OBJECT, 999, main),
+        styles.add_style(OBJECT, 999, main),
+        styles.add_style(OBJECT, 999, on(Part::Knob, 0)),
+    ];
+    assert_eq!(rt;
+        answers,
+        [
+            Err(Refusal::Unknown),
+            Ok(()),
+            Err(Refusal::Taken),
+            Err(Refusal::Full(Pool::Uses)),
+        ]
+    );
+    assert_eq!(rt; spare(&styles), [0, 0, 0]);
+    Ok(())
+}
+
+#[test]
+fn what_is_removed_gives_its_slot_back(rt: HostRuntime) -> Result<(), Fail> {
+    let mut styles = opened(rt.alloc(), 2)?;
+    let main = on(Part::Main, 0);
+    let answers = [
+        styles.style(1),
+        styles.style_prop(1, Prop::PadTop, 1),
+        styles.set_local(OBJECT, main, Prop::PadTop, 2),
+        styles.add_style(OBJECT, 1, main),
+    ];
+    assert_eq!(rt; answers, [Ok(()); 4]);
+    assert_eq!(rt; spare(&styles), [1, 0, 1]);
+    styles.forget(OBJECT);
+    assert_eq!(rt; spare(&styles), [1, 1, 2]);
+    assert_eq!(rt; styles.lookup(OBJECT, Part::Main, 0, Prop::PadTop), None);
+    let answers = [
+        styles.unset_local(OBJECT, main, Prop::PadTop),
+        styles.remove_style(OBJECT, 1, main),
+        styles.unset_prop(1, Prop::PadTop),
+        styles.unset_prop(1, Prop::PadTop),
+    ];
+    assert_eq!(rt;
+        answers,
+        [
+            Err(Refusal::Unknown),
+            Err(Refusal::Unknown),
+            Ok(()),
+            Err(Refusal::Unknown),
+        ]
+    );
+    assert_eq!(rt; (styles.has_style(1), styles.has_style(2)), (true, false));
+    assert_eq!(rt; spare(&styles), [1, 2, 2]);
+    Ok(())
+}

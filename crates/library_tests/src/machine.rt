@@ -1,0 +1,98 @@
+//! What no clause says: that a machine opens where memory is ample, and that a whole refresh comes to a
+//! panel in its slices.
+ghost use Rattle.std.specs.Prelude.{◌≡◌, ◌<◌, IfOk};
+ghost use Rattle.gui_base.specs.Limits.{with_sizes};
+ghost use Rattle.gui_core.specs.Machines.{machine_of};
+ghost use Rattle.gui_edge.specs.Panel.{HasSizes};
+ghost use Rattle.scene_defs.specs.Valid.{IsChange};
+
+use gui_base::{Handle, Kind, Limits, Refusal, Rgb565, Steps};
+use gui_core::{Gui, Refreshed, Reply};
+use gui_edge::{MemSink, Panel, SimPanel, SimPlan};
+use run_defs::Command;
+use scene_defs::Change;
+use std::alloc::Global;
+use std::marker::Brand;
+use std::process::Abort;
+use std::sync::ledger::{Blank, Ledger};
+use std::test::Fail;
+
+/// A panel of five by three pixels that takes slices of two lines.
+fn opened_panel(alloc: Global) -> Result<SimPanel<MemSink>, Fail>
+    ensures { IfOk result (λ panel. HasSizes (⟦<SimPanel<MemSink> as Panel>⟧.state panel) (with_sizes 5 3 2)) }
+{
+    let frames = MemSink::with_capacity(alloc, 0, Vec::new(alloc))?;
+    let plan = SimPlan {
+        fail_open: false,
+        fail_flush: Vec::new(alloc),
+    };
+    let mut panel = SimPanel::new(frames, plan);
+    match panel.open(alloc, 5, 3, 10) {
+        Ok(()) => Ok(panel),
+        Err(fault) => Err(Fail::from(fault)),
+    }
+}
+
+/// Refreshes a white panel of five by three pixels in slices of two lines.
+fn refresh_white<L: Ledger>(
+    rt: &impl Abort,
+    gui: &mut Gui,
+    panel: &mut SimPanel<MemSink>,
+    blank: Blank,
+)
+    requires name { blank.name ≡ L.name }
+    requires parts { blank.parts ≡ L.parts }
+    requires some { 0 < blank.parts }
+    requires limits { (machine_of gui.old).scene.limits ≡ with_sizes 5 3 2 }
+    requires sizes { HasSizes (⟦<SimPanel<MemSink> as Panel>⟧.state panel.old) (with_sizes 5 3 2) }
+{
+    let (book, all) = blank.open::<L>();
+    let mut steps = Steps::new(book, all);
+    assert_eq!(rt; gui.refresh(panel, &mut steps), Refreshed::Done);
+    assert_eq!(rt; panel.sent(), 15);
+    for y in 0..3 {
+        for x in 0..5 {
+            assert_eq!(rt; panel.shown(x, y), Rgb565::WHITE, "{x}, {y}");
+        }
+    }
+}
+
+#[test]
+fn two_slices_of_a_white_frame(rt: HostRuntime) -> Result<(), Fail> {
+    let alloc = rt.alloc();
+    let mut panel = opened_panel(alloc)?;
+    let mut gui = Gui::open(alloc, &Limits::with_sizes(5, 3, 2))?;
+    refresh_white::<Brand>(&rt, &mut gui, &mut panel, Blank::new(1));
+    Ok(())
+}
+
+/// What the machine replies to a change.
+fn reply(gui: &mut Gui, log: &mut MemSink, change: Change) -> Option<Reply>
+    requires { IsChange change }
+{
+    gui.apply(&Command::Change(change), log).ok()
+}
+
+/// Changes an object, and looks at the replies and at the scene.
+fn change_object(rt: &impl Abort, gui: &mut Gui, log: &mut MemSink) {
+    let (h, done) = (Handle(10), Some(Reply::Ok { noted: false }));
+    let range = Some(Reply::Refused(Refusal::Range));
+    assert_eq!(rt; reply(gui, log, Change::New(h, Handle(3), Kind::Obj)), done);
+    assert_eq!(rt; reply(gui, log, Change::Pos(h, -1, 2)), done);
+    assert_eq!(rt; reply(gui, log, Change::Pos(h, 4001, 0)), range);
+    assert!(rt;
+        gui.store()
+            .row(h)
+            .is_some_and(|row| row.x == -1 && row.y == 2)
+    );
+    assert!(rt; log.bytes().is_empty());
+}
+
+#[test]
+fn replies_to_changes_and_lends_the_scene(rt: HostRuntime) -> Result<(), Fail> {
+    let alloc = rt.alloc();
+    let mut log = MemSink::with_capacity(alloc, 0, Vec::new(alloc))?;
+    let mut gui = Gui::open(alloc, &Limits::with_sizes(4, 2, 1))?;
+    change_object(&rt, &mut gui, &mut log);
+    Ok(())
+}

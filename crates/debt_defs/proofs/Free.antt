@@ -80,13 +80,13 @@ module _ {I : Type 0} (same : I → I → Bool) (named : Option ℕ) (before aft
   named-area-out (Some h) e = named-out h e
 
   -- each object lays the same
-  pub laid-same : LaySame same before after → (k : ℕ) → laid_by before x y k ≡ laid_by after x y k
+  pub laid-same : LaySame same named before after → (k : ℕ) → laid_by before x y k ≡ laid_by after x y k
   laid-same lays k = elim (cases_Bool (is_touched same named before after k)) [
     | inl touches ↦ let out = touched-out k touches in rw (out.0, out.1) refl
     | inr untouched ↦
         let p = or_parts _ _ untouched in
         let q = or_parts _ _ p.1 in
         let seen = visible-is (before.visible k) (after.visible k) (not-false _ q.0) in
-        let items = lays k x y (not-false _ q.1) in
+        let items = lays k x y p.0 (not-false _ q.1) in
         rw (seen, items) refl
   ]

@@ -8,33 +8,32 @@ use Rattle.gui_base.proofs.Forests.{map-with_row_by}
 use Rattle.style_defs.specs.Book.{Book}
 use Rattle.scene_defs.specs.declared.Change.{Change}
 use Rattle.scene_defs.specs.declared.Change.TheVariants as change
-use Rattle.scene_defs.specs.declared.Row.{Row}
 use Rattle.scene_defs.specs.Scene.{Object, Scene, handle_of, is_at, new_object}
 use Rattle.scene_defs.specs.Row.{Setter, setter_of}
 use Rattle.scene_defs.specs.Assets.{AssetChange}
 use Rattle.scene_defs.specs.Styling.{Styling}
-use Rattle.scene_defs.specs.Change.{answer_of, after_by, styling_in, asset_change_in, scene_after, scene_by, over_row, parent_object, last_below, at_index_below}
+use Rattle.scene_defs.specs.Change.{answer_of, after_by, styling_in, asset_change_in, scene_after, scene_by, over_row, over_text, parent_object, last_below, at_index_below}
 use Rattle.scene_defs.specs.Visible.{root_tree}
 use Rattle.scene_defs.specs.Shown.{order}
 use Rattle.scene_defs.specs.Valid.{IsValid}
 use Rattle.scene_defs.proofs.Distinct.{IsDistinct, distinct_once, distinct-three, three}
 use Rattle.scene_defs.proofs.Validity.{change_keeps_valid}
 use Rattle.debt_defs.specs.Named.{named}
-use Rattle.debt_defs.specs.Orders.{remains, KeepOrder, OthersKeepOrder, SettersKeepOrder}
+use Rattle.debt_defs.specs.Orders.{remains, sets_text, KeepOrder, OthersKeepOrder, SettersKeepOrder}
 use Rattle.debt_defs.proofs.Inside.{handles_in}
 use Rattle.debt_defs.proofs.Orders.{order-kept, handles-then, cut-last, cut-added, cut-moved, cut-moved_last, cut-deleted}
 use Rattle.debt_defs.proofs.Roots.{load-kept}
 
 -- Changes that leave the trees.
-module _ (h : ℕ) (f : Row → Row) where
+module _ (h : ℕ) (f : Object → Object) (stays : (object : Object) → (f object).handle ≡ object.handle) where
   abbrev set : Forest Object → Forest Object
-  set = with_row_by (is_at h) (over_row f)
+  set = with_row_by (is_at h) f
 
   handles-set : (g : Forest Object) → handles_in (set g) ≡ handles_in g
-  handles-set g = ap preorder (map-with_row_by handle_of (λ k. true) (is_at h) (over_row f) (λ object. refl) g)
+  handles-set g = ap preorder (map-with_row_by handle_of (λ k. true) (is_at h) f stays g)
 
-  one-set : (object : Object) → (cond (is_at h object) (over_row f object) object).handle ≡ object.handle
-  one-set object = elim (cases_Bool (is_at h object)) [ inl is ↦ rw is refl | inr isnt ↦ rw isnt refl ]
+  one-set : (object : Object) → (cond (is_at h object) (f object) object).handle ≡ object.handle
+  one-set object = elim (cases_Bool (is_at h object)) [ inl is ↦ rw is (stays object) | inr isnt ↦ rw isnt refl ]
 
   root-set : (g : Forest Object) (a : ℕ) → handles_in (root_tree (set g) a) ≡ handles_in (root_tree g a)
   root-set Empty a = refl
@@ -47,10 +46,12 @@ module _ (h : ℕ) (f : Row → Row) where
   order-set g a = simp (handles-then, root-set)
 
 pub after-order : (scene : Scene) (change : Change) (setter : Option Setter) (styling : Option Styling) (assets : Option AssetChange) →
-    (is_some (option_map (λ (s : Setter). s.handle) setter) || (is_some styling || is_some assets)) ≡ true → order (after_by setter styling assets scene change) ≡ order scene
-after-order scene change (Some setter) styling assets leaves = order-set setter.handle.0 setter.after scene.trees scene.active
+    (is_some (option_map (λ (s : Setter). s.handle) setter) || (sets_text change || (is_some styling || is_some assets))) ≡ true → order (after_by setter styling assets scene change) ≡ order scene
+after-order scene change (Some setter) styling assets leaves = order-set setter.handle.0 (over_row setter.after) (λ object. refl) scene.trees scene.active
 after-order scene change None (Some styling) assets leaves = refl
 after-order scene change None None (Some assets) leaves = refl
+after-order scene (change.Text h text) None None None leaves = order-set h.0 (over_text text) (λ object. refl) scene.trees scene.active
+after-order scene (change.Screen n) None None None leaves = absurd (false≢true leaves)
 after-order scene change None None None leaves = absurd (false≢true leaves)
 
 pub setters_keep_order : SettersKeepOrder

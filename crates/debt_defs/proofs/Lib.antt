@@ -6,9 +6,11 @@ pub mod Looks
 pub mod Moved
 pub mod Orders
 pub mod Paths
+pub mod Ready
 pub mod Roots
 pub mod SameRows
 pub mod SameTrees
 pub mod Samenesses
 pub mod Scenes
+pub mod Texts
 pub mod Wins

@@ -13,13 +13,13 @@ use Rattle.scene_defs.specs.Change.{below, parent_object, last_below, at_index_b
 use Rattle.scene_defs.specs.Valid.{IsValid}
 use Rattle.scene_defs.proofs.Distinct.{there, IsDistinct, distinct_once}
 use Rattle.debt_defs.specs.Look.{is_among}
-use Rattle.debt_defs.specs.Concerns.{lies_in, loses, holds_place, IsSame}
+use Rattle.debt_defs.specs.Concerns.{lies_in, loses, holds_place}
 use Rattle.debt_defs.proofs.Inside.{among-handles, there-tree}
 use Rattle.debt_defs.proofs.Paths.{avoids, not-in, path-cut, children-cut, Spares, spares-last, spares-put, path-with, children-with, children-none}
 use Rattle.scene_defs.proofs.RowKinds.{parent-left}
 use Rattle.debt_defs.proofs.Moved.{lies-in-tree, parent-avoids, Puts, path-kept, children-kept, IsTreeAt, tree-at, puts-at, puts-last}
 use Rattle.debt_defs.proofs.Wins.{map-same}
-use Rattle.debt_defs.proofs.SameRows.{same-row, same-edit}
+use Rattle.debt_defs.proofs.SameRows.{IsAlike, same-object, same-edit}
 
 -- Edits of trees.
 list_any-map : (h : ℕ) (objects : List Object) → is_among (map handle_of objects) h ≡ list_any (is_at h) objects
@@ -103,7 +103,7 @@ module _ (scene : Scene) (v : IsValid scene) (h k : ℕ) (off : loses scene h k 
   kids = sym (list_any-map h (roots (children_by (is_at k) scene.trees))) ∙ (or_parts _ _ off).1
 
   -- the tree at h goes below p, which is not k
-  pub moved-same : (p : ℕ) (g : Forest Object → Forest Object) → Spares (is_at k) g → eqb k p ≡ false → IsSame scene (record scene { trees = with_children_by (is_at p) g (cut_by (is_at h) scene.trees) }) k
+  pub moved-same : (p : ℕ) (g : Forest Object → Forest Object) → Spares (is_at k) g → eqb k p ≡ false → IsAlike scene (record scene { trees = with_children_by (is_at p) g (cut_by (is_at h) scene.trees) }) k
   moved-same p g spares isnt =
       let other = λ (object : Object) (is : is_at k object ≡ true). other-at object is in
       same-edit scene (with_children_by (is_at p) g (cut_by (is_at h) scene.trees)) k
@@ -153,7 +153,7 @@ module _ (scene : Scene) (v : IsValid scene) (h k : ℕ) (off : holds_place scen
   not-parent p child = false_from_ne_true _ (λ is. both_ways _ not-child (ap (λ j. list_any (is_at h) (roots (children_by (is_at j) scene.trees))) (eqb-true k p.handle is) ∙ child))
 
   moved-beside : (p : Object) (g : Forest Object → Forest Object) → parent_object scene h ≡ Some p → (IsTreeAt h moved_tree → Puts h moved_tree g) → (there moved_tree k ≡ false → Spares (is_at k) g) →
-      IsDistinct (with_children_by (is_at p.handle) g left_trees) → IsSame scene (record scene { trees = with_children_by (is_at p.handle) g left_trees }) k
+      IsDistinct (with_children_by (is_at p.handle) g left_trees) → IsAlike scene (record scene { trees = with_children_by (is_at p.handle) g left_trees }) k
   moved-beside p g parent_is puts spares e =
       let d = place-distinct in
       let child = parent-child scene.trees h p d parent_is in
@@ -171,16 +171,16 @@ module _ (scene : Scene) (v : IsValid scene) (h k : ℕ) (off : holds_place scen
             moved-same scene v h k away p.handle g (spares (not-in-tree scene.trees h k d outside)) (not-parent p child.1)
       ]
 
-  pub to-index : (n : ℕ) → IsDistinct (at_index_below (parent_object scene h) scene.trees h n) → IsSame scene (record scene { trees = at_index_below (parent_object scene h) scene.trees h n }) k
+  pub to-index : (n : ℕ) → IsDistinct (at_index_below (parent_object scene h) scene.trees h n) → IsAlike scene (record scene { trees = at_index_below (parent_object scene h) scene.trees h n }) k
   to-index n e = by (parent_object scene h) refl e where
-    by : (parent : Option Object) → parent_object scene h ≡ parent → IsDistinct (at_index_below parent scene.trees h n) → IsSame scene (record scene { trees = at_index_below parent scene.trees h n }) k
-    by None parent_is d = record { row = refl; children = refl; values = λ part prop. refl }
+    by : (parent : Option Object) → parent_object scene h ≡ parent → IsDistinct (at_index_below parent scene.trees h n) → IsAlike scene (record scene { trees = at_index_below parent scene.trees h n }) k
+    by None parent_is d = record { object = refl; children = refl; values = λ part prop. refl }
     by (Some p) parent_is d = moved-beside p (put_at n moved_tree) parent_is (puts-at h n moved_tree) (λ out. spares-put (is_at k) moved_tree out n) d
 
-  pub to-end : IsDistinct (last_below (parent_object scene h) scene.trees h) → IsSame scene (record scene { trees = last_below (parent_object scene h) scene.trees h }) k
+  pub to-end : IsDistinct (last_below (parent_object scene h) scene.trees h) → IsAlike scene (record scene { trees = last_below (parent_object scene h) scene.trees h }) k
   to-end e = by (parent_object scene h) refl e where
-    by : (parent : Option Object) → parent_object scene h ≡ parent → IsDistinct (last_below parent scene.trees h) → IsSame scene (record scene { trees = last_below parent scene.trees h }) k
-    by None parent_is d = record { row = refl; children = refl; values = λ part prop. refl }
+    by : (parent : Option Object) → parent_object scene h ≡ parent → IsDistinct (last_below parent scene.trees h) → IsAlike scene (record scene { trees = last_below parent scene.trees h }) k
+    by None parent_is d = record { object = refl; children = refl; values = λ part prop. refl }
     by (Some p) parent_is d = moved-beside p (λ cs. and_then cs moved_tree) parent_is (puts-last h moved_tree) (λ out. spares-last (is_at k) moved_tree out) d
 
 -- What is left of a tree stands in no tree that is cut out.
@@ -242,7 +242,7 @@ uses-left (h ∷ hs) book j off =
     uses-left hs (forgotten book h) j parts.1 ∙ get_or-set_other book.uses h j [] [] (λ e. eqb-false h j parts.0 (sym e))
 
 pub deleted-same : (scene : Scene) (v : IsValid scene) (h k : ℕ) → loses scene h k ≡ false →
-    IsSame scene (record scene { trees = cut_by (is_at h) scene.trees; book = all_forgotten scene.book (below scene h) }) k
+    IsAlike scene (record scene { trees = cut_by (is_at h) scene.trees; book = all_forgotten scene.book (below scene h) }) k
 deleted-same scene v h k off =
     let left = cut_by (is_at h) scene.trees in
     let after : Scene = record scene { trees = left; book = all_forgotten scene.book (below scene h) } in
@@ -254,7 +254,7 @@ deleted-same scene v h k off =
     (λ object stays. rw (locals-left (below scene h) scene.book object.handle stays, uses-left (below scene h) scene.book object.handle stays) refl)
     (path_at after k) none in
     record {
-      row = same-row scene after k path;
+      object = same-object scene after k path;
       children = ap (map handle_of) (children-cut (is_at k) (is_at h) [] scene.trees (up scene v h k off) (kids scene v h k off));
       values = λ part prop.
           ap (λ styles. value_on styles (map (styled_of after.book) (path_at after k)) part prop) (all_forgets (below scene h) scene.book).styles_left
@@ -264,7 +264,7 @@ deleted-same scene v h k off =
 
 -- New objects.
 pub made-same : (scene : Scene) (k p : ℕ) (object : Object) → eqb k object.handle ≡ false → eqb k p ≡ false →
-    IsSame scene (record scene { trees = with_children_by (is_at p) (λ cs. and_then cs (leaf object)) scene.trees }) k
+    IsAlike scene (record scene { trees = with_children_by (is_at p) (λ cs. and_then cs (leaf object)) scene.trees }) k
 made-same scene k p object new isnt =
     same-edit scene (with_children_by (is_at p) (λ cs. and_then cs (leaf object)) scene.trees) k
     (path-with (is_at k) (is_at p) (λ cs. and_then cs (leaf object)) spares other [] scene.trees)
@@ -279,7 +279,7 @@ made-same scene k p object new isnt =
     other : (o : Object) → is_at k o ≡ true → is_at p o ≡ false
     other o is = grind (arith, nat_tests)
 
-pub screen-same : (scene : Scene) (k : ℕ) (object : Object) → eqb k object.handle ≡ false → IsSame scene (record scene { trees = and_then scene.trees (leaf object) }) k
+pub screen-same : (scene : Scene) (k : ℕ) (object : Object) → eqb k object.handle ≡ false → IsAlike scene (record scene { trees = and_then scene.trees (leaf object) }) k
 screen-same scene k object new =
     let off : there (leaf object) k ≡ false = grind (arith, nat_tests) in
     let spares = spares-last (is_at k) (leaf object) off in

@@ -1,6 +1,7 @@
 -- The laws of scenes and their debts.
 use Rattle.std.proofs.Common.{◌≡◌, ◌⊎◌, ◌∙◌, sym, ap, ℕ, Bool, true, false, ◌++◌, Option, Some, None, is_some, List, [], ◌∷◌, map, refl, inl, inr, ℤ}
 use Rattle.std.specs.Prelude.{if◌then◌else◌, pos}
+use Rattle.std.specs.Str.{chars}
 use Rattle.std.specs.List.{list_all, filter, flat_map, fold}
 use Rattle.std.proofs.lemmas.Bool.{cases_Bool, and_from, and_cases, not-false, false≢true}
 use Rattle.std.proofs.lemmas.Grind.{fold-append}
@@ -10,11 +11,14 @@ use Rattle.gui_base.specs.declared.refusal.Refusal.{Refusal}
 use Rattle.gui_base.specs.Area.{Rect, area_at, has, is_within}
 use Rattle.gui_base.specs.Color.{black}
 use Rattle.gui_base.specs.Limits.{Bounds}
-use Rattle.scene_defs.specs.Scene.{Scene}
+use Rattle.scene_defs.specs.Scene.{Object, Scene, object_at}
+use Rattle.widget_defs.specs.Items.{Item}
+use Rattle.scene_defs.specs.declared.Change.{Change}
 use Rattle.scene_defs.specs.Change.{answer_of, scene_after, scene_by}
 use Rattle.scene_defs.specs.Place.{panel_of, place}
 use Rattle.scene_defs.specs.Visible.{holds, visible, shown_trees}
-use Rattle.scene_defs.specs.Items.{Item, items}
+use Rattle.gui_base.specs.Coats.{Coat}
+use Rattle.scene_defs.specs.Items.{items, coats, chars_at}
 use Rattle.scene_defs.specs.Shown.{Seen, seen, order}
 use Rattle.scene_defs.specs.Picture.{paint_seen, paint}
 use Rattle.scene_defs.specs.Valid.{IsValid}
@@ -22,29 +26,31 @@ use Rattle.scene_defs.specs.Walk.{IsShowable}
 use Rattle.scene_defs.proofs.Changes.{after_keeps}
 use Rattle.scene_defs.proofs.Validity.{change_keeps_valid, valid_is_showable}
 use Rattle.debt_defs.specs.Look.{laid_by, over}
-use Rattle.debt_defs.specs.Same.{same_visible, same_item}
+use Rattle.debt_defs.specs.Same.{same_visible, same_item, same_by}
 use Rattle.debt_defs.specs.Debt.{listed, owed_by, touched}
 use Rattle.debt_defs.specs.Named.{named}
-use Rattle.debt_defs.specs.Scenes.{dab_of, look_of, debt_by}
-use Rattle.debt_defs.specs.Frame.{covered, IsInside, KeepsOrder}
+use Rattle.debt_defs.specs.Scenes.{dab_at, look_of, debt_by}
+use Rattle.debt_defs.specs.Frame.{covered, IsInside, KeepsOrder, LaySame}
 use Rattle.debt_defs.specs.Orders.{is_shown, is_part_of, remains, KeepOrder}
 use Rattle.debt_defs.specs.Laws.{FrameOfScenes, PaintedByLook, RefusedOwesNothing, DebtWithinPanel}
 use Rattle.debt_defs.proofs.Samenesses.{items-lay}
 use Rattle.debt_defs.proofs.Looks.{frame_of_looks}
 use Rattle.debt_defs.proofs.Inside.{fits, visible_fits, visible-none, seen_inside_above, scene_is_look}
 use Rattle.debt_defs.proofs.Kept.{others_keep_order}
+use Rattle.debt_defs.proofs.Ready.{assets-stay, scene-ready}
+use Rattle.debt_defs.proofs.Texts.{text-stays}
 
 -- The paint of a scene is that of its look.
 abbrev is_seen : Seen → Bool
 is_seen s = is_some s.visible
 
 module _ (x y : ℤ) where
-  one-painted : (v : Option Rect) (shown : List Item) (h : ℕ) (c : Rgb565) (more : List Seen) →
-      fold (paint_seen x y) c (filter is_seen (record { handle = h; visible = v; items = shown } ∷ more))
-      ≡ fold (paint_seen x y) (fold over c (if holds v x y then map (dab_of x y) shown else [])) (filter is_seen more)
+  one-painted : (v : Option Rect) (shown : List Coat) (h : ℕ) (c : Rgb565) (more : List Seen) →
+      fold (paint_seen x y) c (filter is_seen (record { handle = h; visible = v; coats = shown } ∷ more))
+      ≡ fold (paint_seen x y) (fold over c (if holds v x y then map (dab_at x y) shown else [])) (filter is_seen more)
   one-painted None shown h c more = refl
   one-painted (Some area) shown h c more = elim (cases_Bool (has area x y)) [
-    | inl inside ↦ rw inside (ap (λ d. fold (paint_seen x y) d (filter is_seen more)) (sym (fold-map over (dab_of x y) c shown)))
+    | inl inside ↦ rw inside (ap (λ d. fold (paint_seen x y) d (filter is_seen more)) (sym (fold-map over (dab_at x y) c shown)))
     | inr outside ↦ rw outside refl
   ]
 
@@ -52,7 +58,7 @@ module _ (x y : ℤ) where
   painted scene [] c = refl
   painted scene (k ∷ ks) c =
       let laid = laid_by (look_of scene) x y in
-      one-painted (visible scene k) (items scene k) k c (map (seen scene) ks)
+      one-painted (visible scene k) (coats scene k) k c (map (seen scene) ks)
       ∙ painted scene ks (fold over c (laid k))
       ∙ sym (fold-append over c (laid k) (flat_map laid ks))
 
@@ -82,20 +88,48 @@ others-inside n before after k b a off = elim (and_cases _ _ off) [
   ]
 ]
 
+-- What a change does not name lays the same where it has the same items.
+none-before : (bs : List Item) → same_by same_item [] bs ≡ true → bs ≡ []
+none-before [] same = refl
+none-before (b ∷ bs) same = cc
+
+none-after : (as' : List Item) → same_by same_item as' [] ≡ true → as' ≡ []
+none-after [] same = refl
+none-after (a ∷ as') same = cc
+
+scenes-lay : (scene : Scene) (change : Change) → IsValid scene → answer_of scene change ≡ None →
+    LaySame same_item (named change) (look_of scene) (look_of (scene_after scene change))
+scenes-lay scene change v done k x y other same = by (object_at scene k) (object_at (scene_after scene change) k) refl refl where
+  after : Scene
+  after = scene_after scene change
+
+  by : (old new : Option Object) → object_at scene k ≡ old → object_at after k ≡ new → map (dab_at x y) (coats scene k) ≡ map (dab_at x y) (coats after k)
+  by None new was is =
+      let before : items scene k ≡ [] = rw was refl in
+      let later = none-before (items after k) (rw before at same) in
+      rw (before, later) refl
+  by (Some old) None was is =
+      let later : items after k ≡ [] = rw is refl in
+      let before = none-after (items scene k) (rw later at same) in
+      rw (before, later) refl
+  by (Some old) (Some new) was is =
+      let text : chars_at after k ≡ chars_at scene k = rw (is, was) (ap chars (text-stays scene change k old new v other was is)) in
+      rw text (items-lay scene.fonts after.fonts scene.images after.images (chars_at scene k) (assets-stay scene change v done) x y (items scene k) (items after k) (scene-ready scene k v) same)
+
 pub frame_of_scenes : FrameOfScenes
 frame_of_scenes scene change x y v c free =
-    by (answer_of scene change) (change_keeps_valid scene change v c) (others_keep_order scene change v c) free
+    by (answer_of scene change) refl (change_keeps_valid scene change v c) (others_keep_order scene change v c) free
   where
-    by : (answer : Option Refusal) → IsValid (scene_by answer scene change) → KeepOrder (named change) scene (scene_by answer scene change) →
+    by : (answer : Option Refusal) → answer_of scene change ≡ answer → IsValid (scene_by answer scene change) → KeepOrder (named change) scene (scene_by answer scene change) →
         covered (debt_by answer scene change) x y ≡ false → paint (scene_by answer scene change) x y ≡ paint scene x y
-    by (Some refusal) w keeps out = refl
-    by None w keeps out =
+    by (Some refusal) done w keeps out = refl
+    by None done w keeps out =
         let after = scene_after scene change in
         let n = named change in
         let kept : KeepsOrder n (look_of scene) (look_of after) (remains n scene after) =
         record { order = keeps; others = λ k off. others-inside n scene after k (valid_is_showable scene v) (valid_is_showable after w) off } in
         let laid = frame_of_looks same_item n (look_of scene) (look_of after) (remains n scene after) x y (scene_is_look scene) (scene_is_look after)
-        (λ k x y same. items-lay (items scene k) (items after k) x y same) kept out in
+        (scenes-lay scene change v done) kept out in
         painted_by_look after x y ∙ ap (fold over black) laid ∙ sym (painted_by_look scene x y)
 
 -- What debts are.

@@ -1,5 +1,7 @@
 -- What a change concerns: the objects that may differ after it.
-use Rattle.std.specs.Prelude.{◌≡◌, ℕ, Bool, false, ◌||◌, ◌==◌, if◌then◌else◌, List, [], ◌∷◌, map}
+use Rattle.std.specs.Prelude.{◌≡◌, ℕ, Bool, false, ◌||◌, ◌==◌, if◌then◌else◌, Some, None, option_map}
+use Rattle.std.specs.Prelude.{List, [], ◌∷◌, map}
+use Rattle.std.specs.declared.option.Option.{Option}
 use Rattle.std.specs.List.{list_any}
 use Rattle.gui_base.specs.Forest.{children_by, roots}
 use Rattle.gui_base.specs.Props.{inherits}
@@ -9,10 +11,16 @@ use Rattle.style_defs.specs.declared.Setting.{Setting}
 use Rattle.style_defs.specs.declared.Use.{Use}
 use Rattle.style_defs.specs.Cascade.{settings_of}
 use Rattle.style_defs.specs.Book.{Book, uses_of}
+use Rattle.text_defs.specs.Face.{Face}
+use Rattle.text_defs.specs.Fonts.{face}
+use Rattle.widget_defs.specs.declared.ImageLook.{ImageLook}
+use Rattle.widget_defs.specs.Looks.{Look}
+use Rattle.scene_defs.specs.declared.Row.{Row}
 use Rattle.scene_defs.specs.declared.Change.{Change}
 use Rattle.scene_defs.specs.declared.Change.TheVariants as change
-use Rattle.scene_defs.specs.Scene.{Object, Scene, handle_of, is_at, row_at, path_at, value}
-use Rattle.scene_defs.specs.Change.{changed}
+use Rattle.scene_defs.specs.Scene.{Object, Scene, handle_of, is_at, object_at, row_at, path_at, value}
+use Rattle.scene_defs.specs.Looks.{font_at, image_look, look_of}
+use Rattle.scene_defs.specs.Change.{text_at, changed}
 use Rattle.scene_defs.specs.Valid.{IsValid, IsChange}
 use Rattle.debt_defs.specs.Look.{is_among}
 
@@ -84,6 +92,10 @@ concerns scene (change.Flex h flow) k = k == h.0
 concerns scene (change.Places h main cross track) k = k == h.0
 concerns scene (change.Grow h n) k = k == h.0
 concerns scene (change.State h state on) k = k == h.0 || lies_in scene h.0 k
+concerns scene (change.Text h text) k = k == h.0
+concerns scene (change.Value h n) k = k == h.0
+concerns scene (change.Range h low high) k = k == h.0
+concerns scene (change.Source h i) k = k == h.0
 concerns scene (change.Style s) k = false
 concerns scene (change.Set s prop value) k = asks_user scene (inherits prop) s k
 concerns scene (change.Unset s prop) k = asks_user scene (inherits prop) s k
@@ -97,9 +109,25 @@ concerns scene (change.EndFont f) k = false
 concerns scene (change.Image i format width height) k = false
 concerns scene (change.ImageRow i y bytes) k = false
 
--- h is the same in both scenes: its row, its children, and all its values
+-- the font of the text of h
+abbrev pub face_at : Scene → ℕ → Face
+face_at scene h = face scene.fonts (font_at scene h)
+
+abbrev pub image_of : Option Row → Option ℕ
+image_of None = None
+image_of (Some row) = row.image
+
+-- the image that h shows, with its size
+abbrev pub picture_at : Scene → ℕ → Option ImageLook
+picture_at scene h = image_look scene.images (image_of (row_at scene h))
+
+-- h is the same in both scenes: its row and its text, the font and the image that these are shown by, its
+-- children, and all its values
 pub record IsSame (before after : Scene) (h : ℕ) : Type 0 where
   pub row : row_at after h ≡ row_at before h
+  pub text : text_at after h ≡ text_at before h
+  pub face : face_at after h ≡ face_at before h
+  pub picture : picture_at after h ≡ picture_at before h
   pub children : children after h ≡ children before h
   pub values : (part : Part) (prop : Prop) → value after h part prop ≡ value before h part prop
 
@@ -108,3 +136,13 @@ abbrev pub OthersAreSame : Type 0
 OthersAreSame =
     (scene : Scene) (change : Change) (k : ℕ) → IsValid scene → IsChange change →
     concerns scene change k ≡ false → IsSame scene (changed scene change) k
+
+-- what the items of h are made of, if it is there
+abbrev pub look_at : Scene → ℕ → Option Look
+look_at scene h = option_map (look_of scene) (object_at scene h)
+
+-- so its items are made of the same as before
+abbrev pub OthersLookSame : Type 0
+OthersLookSame =
+    (scene : Scene) (change : Change) (k : ℕ) → IsValid scene → IsChange change →
+    concerns scene change k ≡ false → look_at (changed scene change) k ≡ look_at scene k

@@ -1,12 +1,13 @@
 -- Debts that were worked out by hand.
-use Rattle.std.specs.Prelude.{◌≡◌, ℕ, true, pos, List, [], ◌∷◌, ◌++◌, replicate}
+use Rattle.std.specs.Prelude.{◌≡◌, ℕ, true, pos, List, [], ◌∷◌, ◌++◌, replicate, codes}
 use Rattle.std.specs.List.{filter}
 use Rattle.gui_base.specs.declared.Handle.{Handle}
 use Rattle.gui_base.specs.declared.props.Prop.TheVariants.{BgColor, BgOpa, TextColor}
 use Rattle.gui_base.specs.declared.words.State.TheVariants.{Pressed}
 use Rattle.gui_base.specs.declared.words.Flag.TheVariants.{Hidden}
 use Rattle.gui_base.specs.declared.words.Flow.TheVariants.{Row}
-use Rattle.gui_base.specs.declared.words.Kind.TheVariants.{Screen, Layer, Obj}
+use Rattle.gui_base.specs.declared.words.Kind.{Kind}
+use Rattle.gui_base.specs.declared.words.Kind.TheVariants.{Screen, Layer, Obj, Label, Slider}
 use Rattle.gui_base.specs.declared.words.Length.TheVariants.{Pixels}
 use Rattle.gui_base.specs.declared.words.Part.TheVariants.{Main}
 use Rattle.gui_base.specs.declared.words.Selector.{Selector}
@@ -28,12 +29,16 @@ use Rattle.debt_defs.specs.Scenes.{touched_of, debt_of}
 abbrev handle : ℕ → Handle
 handle h = record { 0 = h }
 
--- an object of these sizes at a place
-abbrev object : ℕ → ℕ → ℕ → ℕ → ℕ → Object
-object h x y width height = record {
+-- an object of a kind, with a text, of these sizes at a place
+abbrev widget : Kind → List ℕ → ℕ → ℕ → ℕ → ℕ → ℕ → Object
+widget kind text h x y width height = record {
   handle = h;
-  row = record (new_row Obj) { x = pos x; y = pos y; width = Pixels width; height = Pixels height };
+  row = record (new_row kind) { x = pos x; y = pos y; width = Pixels width; height = Pixels height };
+  text = text;
 }
+
+abbrev object : ℕ → ℕ → ℕ → ℕ → ℕ → Object
+object = widget Obj []
 
 abbrev main : Selector
 main = record { part = Main; states = 0 }
@@ -102,6 +107,22 @@ two_screens =
     let last = Tree (new_object 4 Screen) (Tree (object 11 0 0 1 1) Empty Empty) Empty in
     record one { trees = and_then one.trees last }
 
+-- a slider with its knob at the left
+abbrev pub sliding : Scene
+sliding = scene 8 4 (Tree (widget Slider [] 10 0 0 8 2) Empty Empty) []
+
+-- a red text
+abbrev pub labelled : Scene
+labelled =
+    scene 8 8 (Tree (widget Label (codes "I") 10 1 0 6 8) Empty Empty)
+    ((an_entry main TextColor (pos 16711680) ∷ []) ∷ [])
+
+abbrev pub slides : Change
+slides = change.Value (handle 10) (pos 100)
+
+abbrev pub says_other : Change
+says_other = change.Text (handle 10) (codes "H")
+
 abbrev pub goes_to_front : Change
 goes_to_front = change.Front (handle 10)
 
@@ -136,6 +157,10 @@ pub record DebtsAreWorked : Type 0 where
       debt_of in_row narrows ≡ area 0 0 1 0 ∷ area 0 0 0 0 ∷ area 2 0 3 0 ∷ area 1 0 2 0 ∷ []
   -- all users of a style that turns green owe their places
   pub both_users : debt_of styled turns_green ≡ area 0 0 1 0 ∷ area 1 0 2 0 ∷ []
+  -- a slider whose knob moves owes its place once
+  pub slid : debt_of sliding slides ≡ area 0 0 7 1 ∷ []
+  -- one that shows another text owes its place, though its items are the same
+  pub said : debt_of labelled says_other ≡ area 1 0 6 7 ∷ []
   -- a hidden one owes what was seen of it and of what lies in it
   pub hidden : debt_of nested (change.Flag (handle 10) Hidden true) ≡ area 0 0 3 3 ∷ area 2 0 3 1 ∷ []
   -- one that is deleted too, though it is gone
@@ -163,6 +188,9 @@ pub record ConcernsAreWorked : Type 0 where
   pub text : concerned nested (change.Local (handle 10) main TextColor (pos 0)) ≡ 10 ∷ 11 ∷ []
   -- so does a state
   pub state : concerned nested (change.State (handle 10) Pressed true) ≡ 10 ∷ 11 ∷ []
+  -- a value and a text concern the object that has it
+  pub value : concerned sliding slides ≡ 10 ∷ []
+  pub words : concerned labelled says_other ≡ 10 ∷ []
   -- a style concerns its users
   pub style : concerned styled turns_green ≡ 10 ∷ 11 ∷ []
   -- an order concerns the object that is moved and its parent

@@ -6,7 +6,7 @@ use Rattle.gui_base.specs.Area.{Rect, has}
 use Rattle.scene_defs.specs.Visible.{holds}
 use Rattle.debt_defs.specs.Look.{Look, IsLook, layers}
 use Rattle.debt_defs.specs.Same.{same_by}
-use Rattle.debt_defs.specs.Debt.{debt}
+use Rattle.debt_defs.specs.Debt.{is_named, debt}
 
 -- whether one of the areas has the pixel
 abbrev pub covered : List Rect → ℤ → ℤ → Bool
@@ -28,14 +28,14 @@ pub record KeepsOrder {I : Type 0} (named : Option ℕ) (before after : Look I) 
   pub order : filter test before.order ≡ filter test after.order
   pub others : (k : ℕ) → test k ≡ false → IsInside before named k ⊎ IsInside after named k
 
--- objects with the same items lay the same
-abbrev pub LaySame : {I : Type 0} → (I → I → Bool) → Look I → Look I → Type 0
-LaySame same before after =
-    (k : ℕ) (x y : ℤ) → same_by same (before.items k) (after.items k) ≡ true →
+-- objects with the same items lay the same, but for the one that a change names
+abbrev pub LaySame : {I : Type 0} → (I → I → Bool) → Option ℕ → Look I → Look I → Type 0
+LaySame same named before after =
+    (k : ℕ) (x y : ℤ) → is_named named k ≡ false → same_by same (before.items k) (after.items k) ≡ true →
     before.lays k x y ≡ after.lays k x y
 
 abbrev pub FrameOfLooks : Type 0 → Type 0
 FrameOfLooks I =
     (same : I → I → Bool) (named : Option ℕ) (before after : Look I) (test : ℕ → Bool) (x y : ℤ) →
-    IsLook before → IsLook after → LaySame same before after → KeepsOrder named before after test →
+    IsLook before → IsLook after → LaySame same named before after → KeepsOrder named before after test →
     covered (debt same named before after) x y ≡ false → layers after x y ≡ layers before x y

@@ -4,6 +4,7 @@ use Rattle.std.specs.declared.option.Option.{Option}
 use Rattle.std.specs.List.{filter}
 use Rattle.gui_base.specs.Forest.{has_by, tree_by}
 use Rattle.scene_defs.specs.declared.Change.{Change}
+use Rattle.scene_defs.specs.declared.Change.TheVariants as change
 use Rattle.scene_defs.specs.Scene.{Scene, is_at}
 use Rattle.scene_defs.specs.Row.{row_set}
 use Rattle.scene_defs.specs.Change.{changed, styling_in, asset_change_in}
@@ -42,11 +43,15 @@ OthersKeepOrder =
     (scene : Scene) (change : Change) → IsValid scene → IsChange change →
     KeepOrder (named change) scene (changed scene change)
 
--- whether a change sets a row, styles, fonts or images, and so leaves the trees
+abbrev pub sets_text : Change → Bool
+sets_text (change.Text h text) = true
+sets_text change = false
+
+-- whether a change sets a row, a text, styles, fonts or images, and so leaves the trees
 abbrev pub leaves_trees : Scene → Change → Bool
 leaves_trees scene change =
     is_some (row_set change)
-    || (is_some (styling_in scene change) || is_some (asset_change_in scene change))
+    || (sets_text change || (is_some (styling_in scene change) || is_some (asset_change_in scene change)))
 
 -- then all is painted in the same order
 abbrev pub SettersKeepOrder : Type 0

@@ -3,28 +3,29 @@ use Rattle.std.specs.Prelude.{ℕ, Some, None, List, [], map, ℤ}
 use Rattle.std.specs.declared.option.Option.{Option}
 use Rattle.gui_base.specs.declared.refusal.Refusal.{Refusal}
 use Rattle.gui_base.specs.Area.{Rect}
-use Rattle.gui_base.specs.Coats.{Dab}
+use Rattle.gui_base.specs.Coats.{Dab, Coat}
+use Rattle.widget_defs.specs.Items.{Item}
 use Rattle.scene_defs.specs.declared.Change.{Change}
 use Rattle.scene_defs.specs.Scene.{Scene}
 use Rattle.scene_defs.specs.Change.{answer_of, scene_after}
 use Rattle.scene_defs.specs.Visible.{visible}
-use Rattle.scene_defs.specs.Items.{Item, items, coat_of}
+use Rattle.scene_defs.specs.Items.{items, coats}
 use Rattle.scene_defs.specs.Shown.{order}
 use Rattle.debt_defs.specs.Look.{Look}
 use Rattle.debt_defs.specs.Same.{same_item}
 use Rattle.debt_defs.specs.Debt.{touched, debt}
 use Rattle.debt_defs.specs.Named.{named}
 
--- what an item lays on a pixel
-abbrev pub dab_of : ℤ → ℤ → Item → Option Dab
-dab_of x y item = coat_of item.area item.paint x y
+-- what a coat is at a pixel
+abbrev pub dab_at : ℤ → ℤ → Coat → Option Dab
+dab_at x y coat = coat x y
 
 abbrev pub look_of : Scene → Look Item
 look_of scene = record {
   order = order scene;
   visible = visible scene;
   items = items scene;
-  lays = λ h x y. map (dab_of x y) (items scene h);
+  lays = λ h x y. map (dab_at x y) (coats scene h);
 }
 
 -- the objects that a change with this answer touches: a refused one touches none

@@ -13,7 +13,7 @@ use Rattle.debt_defs.specs.Named.{named}
 use Rattle.debt_defs.specs.Scenes.{look_of, touched_of}
 use Rattle.debt_defs.specs.Frame.{covered}
 use Rattle.debt_defs.specs.Examples.{one, moves, in_row, narrows, overlapping, goes_to_front}
-use Rattle.debt_defs.specs.Examples.{styled, turns_green}
+use Rattle.debt_defs.specs.Examples.{styled, turns_green, labelled, says_other}
 
 -- in a scene that is in order, the change paints a pixel anew that none of the areas has
 pub record Misses (areas : List Rect) (scene : Scene) (change : Change) (x y : ℕ) : Type 0 where
@@ -59,3 +59,5 @@ pub record TooLittleIsOwed : Type 0 where
   pub one_user : Misses (one_user_only styled turns_green) styled turns_green 2 0
   -- what was covered is seen
   pub differing : Misses (differing_only overlapping goes_to_front) overlapping goes_to_front 1 0
+  -- another text is seen, though the items are the same
+  pub text : Misses (differing_only labelled says_other) labelled says_other 1 0

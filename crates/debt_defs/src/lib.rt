@@ -2,13 +2,13 @@
 //! There is no code here: each function does nothing, and its contract is a law, which is proved.
 #![tactic(auto)]
 
-ghost use Rattle.debt_defs.specs.Concerns.{OthersAreSame};
+ghost use Rattle.debt_defs.specs.Concerns.{OthersAreSame, OthersLookSame};
 ghost use Rattle.debt_defs.specs.Examples.{DebtsAreWorked, ConcernsAreWorked};
 ghost use Rattle.debt_defs.specs.Frame.{FrameOfLooks};
 ghost use Rattle.debt_defs.specs.Laws.{FrameOfScenes, PaintedByLook, RefusedOwesNothing, DebtWithinPanel};
 ghost use Rattle.debt_defs.specs.Orders.{OthersKeepOrder, SettersKeepOrder, SeenInsideAbove};
 ghost use Rattle.debt_defs.specs.TooLittle.{TooLittleIsOwed};
-ghost use Rattle.scene_defs.specs.Items.{Item};
+ghost use Rattle.widget_defs.specs.Items.{Item};
 
 /// A pixel that no area of the debt of a change has keeps its paint. It holds for any look of scenes whose
 /// objects keep their order but for what is seen inside the named one.
@@ -45,8 +45,10 @@ pub fn less_is_too_little()
     ensures { TooLittleIsOwed }
 {}
 
-/// What a change does not concern is the same after it: its row, its children, and all values of its
-/// properties. So only what it concerns has to be looked at again.
+/// What a change does not concern is the same after it: its row, its text, its children, and all values of
+/// its properties. So are the items that it shows in the same place, and only what a change concerns has to
+/// be looked at again.
 pub fn others_stay_the_same()
-    ensures { OthersAreSame }
+    ensures same { OthersAreSame }
+    ensures looks { OthersLookSame }
 {}

@@ -1,7 +1,6 @@
 pub mod Area
 pub mod Bits
 pub mod Bounded
-pub mod Bytes
 pub mod Coats
 pub mod Color
 pub mod Corners

@@ -3,7 +3,6 @@
 
 pub mod area;
 pub mod bits;
-pub mod bytes;
 pub mod color;
 pub mod events;
 pub mod intervals;
@@ -17,7 +16,6 @@ pub mod words;
 
 pub use area::Area;
 pub use bits::Bits;
-pub use bytes::Bytes;
 pub use color::Rgb565;
 pub use events::{Action, Aim, EventKind, Key, Path, Var};
 pub use limits::{Limits, Pool};

@@ -10,10 +10,33 @@ pub enum Kind {
     Layer,
     /// A plain object.
     Obj,
+    /// A text, in as many lines as it takes.
+    Label,
+    /// An object to press.
+    Button,
+    /// A picture.
+    Image,
+    /// A share of a range, as a filled part of its width.
+    Bar,
+    /// A bar with a knob that sets the share.
+    Slider,
+    /// A box to check, with a text beside it.
+    Checkbox,
+    /// A column of objects.
+    List,
 }
 
 /// The kinds that `new` makes.
-pub const KINDS: [(&'static str, Kind); 1] = [("obj", Kind::Obj)];
+pub const KINDS: [(&'static str, Kind); 8] = [
+    ("obj", Kind::Obj),
+    ("label", Kind::Label),
+    ("button", Kind::Button),
+    ("image", Kind::Image),
+    ("bar", Kind::Bar),
+    ("slider", Kind::Slider),
+    ("checkbox", Kind::Checkbox),
+    ("list", Kind::List),
+];
 
 /// What may be switched on and off at an object.
 #[derive(Clone, Copy, Debug, PartialEq, Eq)]

@@ -7,9 +7,10 @@ use Rattle.std.proofs.lemmas.Grind.{flat_map-append}
 use Rattle.gui_base.specs.Area.{Rect}
 use Rattle.gui_pool.specs.Table.{value_at}
 use Rattle.gui_tree.specs.Handles.{numbers}
-use Rattle.scene_defs.specs.Items.{Item, items}
+use Rattle.widget_defs.specs.Items.{Item}
+use Rattle.scene_defs.specs.Items.{items}
 use Rattle.scene_defs.specs.Scene.{Scene, handles_of}
-use Rattle.scene_defs.specs.Shown.{Seen as Shown, order}
+use Rattle.scene_defs.specs.Shown.{order}
 use Rattle.scene_defs.specs.Visible.{shown_trees, visible}
 use Rattle.scene_defs.proofs.Handles.{has-handles}
 use Rattle.debt_defs.specs.Debt.{is_named, owed_by, shown_in_either, is_touched as is_touched_in, debt}
@@ -69,8 +70,8 @@ module _ (objects : ℕ) (look : Look) (scene : Scene) (shows : Shows objects lo
       let none : visible scene h ≡ None = scene_is_look scene h out in
       (sym none, λ some. absurd (false≢true (sym (ap is_some none) ∙ some)))
   right_by h (Some s) e =
-      let is = (shows.seen h s e).seen in
-      (ap (λ (x : Shown). x.visible) is, λ some. ap (λ (x : Shown). x.items) is)
+      let is = shows.seen h s e in
+      (is.visible, λ some. is.items)
 
   right : (h : ℕ) → Right h (value_at look.seen h)
   right h = right_by h (value_at look.seen h) refl

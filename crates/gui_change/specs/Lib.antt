@@ -1,7 +1,6 @@
 pub mod Canvas
 pub mod Concerned
 pub mod Handles
-pub mod Items
 pub mod Looks
 pub mod Owed
 pub mod Seen

@@ -43,6 +43,8 @@ pub(crate) fn concerned_by(change: &Change) -> Concerned
         Change::Flag(h, _, _) | Change::Pos(h, _, _) | Change::Size(h, _, _) => Concerned::One(*h),
         Change::Align(h, _, _, _) | Change::Places(h, _, _, _) => Concerned::One(*h),
         Change::Flex(h, _) | Change::Grow(h, _) => Concerned::One(*h),
+        Change::Text(h, _) | Change::Value(h, _) | Change::Range(h, _, _) => Concerned::One(*h),
+        Change::Source(h, _) => Concerned::One(*h),
         Change::Local(h, _, prop, _) if !prop.inherits() => Concerned::One(*h),
         Change::Unlocal(h, _, prop) if !prop.inherits() => Concerned::One(*h),
         Change::Style(_) | Change::EndFont(_) | Change::Font(_, _, _) => Concerned::Nobody,

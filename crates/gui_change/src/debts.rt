@@ -6,18 +6,18 @@ ghost use Rattle.debt_defs.specs.Debt.{is_named};
 ghost use Rattle.gui_base.specs.Corners.{rect_of};
 ghost use Rattle.gui_damage.specs.Adding.{added_all};
 ghost use Rattle.gui_tree.specs.Handles.{numbers};
+ghost use Rattle.gui_widgets.specs.Looks.{items_of};
 ghost use Rattle.gui_change.specs.Handles.{number_of};
-ghost use Rattle.gui_change.specs.Items.{all_of};
 ghost use Rattle.debt_defs.specs.Debt.{listed};
 ghost use Rattle.gui_change.specs.Owed.{sight_of, is_touched, owed, owed_now, owed_before, owed_all};
 
-use crate::items::Item;
 use crate::look::Look;
 use crate::same::{same_items, same_visible};
 use crate::seen::Seen;
 use gui_base::{Area, Handle};
 use gui_damage::Damage;
 use gui_pool::Table;
+use gui_widgets::Item;
 
 /// Where an object is seen, if it is known and something is seen of it.
 fn visible_of(seen: Option<&Seen>) -> Option<Area>
@@ -31,7 +31,7 @@ fn visible_of(seen: Option<&Seen>) -> Option<Area>
 
 /// What an object paints that is known.
 fn items_of<'a>(seen: Option<&'a Seen>) -> &'a [Item]
-    ensures { all_of result.now ≡ (sight_of (option_copied seen.entry)).items }
+    ensures { items_of result.now ≡ (sight_of (option_copied seen.entry)).items }
 {
     match seen {
         Some(seen) => seen.items.as_slice(),

@@ -10,13 +10,10 @@
 mod canvas;
 mod concerned;
 mod debts;
-mod items;
 mod look;
 mod named;
 mod same;
 mod seen;
 mod shown;
-mod values;
 
 pub use canvas::Canvas;
-pub use items::{Item, ItemPaint, Items};

@@ -1,31 +1,42 @@
 //! What is seen of one object.
 ghost use Rattle.std.specs.Prelude.{◌≡◌, true, IfSome, option_map};
 ghost use Rattle.gui_base.specs.Corners.{rect_of};
+ghost use Rattle.layout_defs.specs.Reach.{IsNear};
+ghost use Rattle.gui_widgets.specs.Looks.{items_of};
 ghost use Rattle.scene_defs.specs.Scene.{is_there};
 ghost use Rattle.scene_defs.specs.Place.{place};
 ghost use Rattle.scene_defs.specs.Items.{items};
 ghost use Rattle.scene_defs.specs.Visible.{some_area, visible};
 ghost use Rattle.gui_layout.specs.Solved.{AreSolved};
 ghost use Rattle.gui_store.specs.Views.{scene_of};
-ghost use Rattle.gui_change.specs.Items.{items_in};
-ghost use Rattle.gui_change.specs.Seen.{IsSeen, KeepsItems};
+ghost use Rattle.gui_change.specs.Seen.{IsSeen, KeepsItems, place_in};
 
-use crate::items::{Items, items_of};
 use crate::same::same_visible;
 use arrayvec::ArrayVec;
 use gui_base::{Area, Handle};
 use gui_layout::Places;
 use gui_store::Store;
+use gui_widgets::{Item, items};
 
 /// What is seen of an object of the trees that are shown.
 #[derive(Drop)]
 pub(crate) struct Seen {
-    /// Where it stands, if it stands somewhere.
-    pub(crate) place: Option<Area>,
     /// Where it is seen, if something is seen of it.
     pub(crate) visible: Option<Area>,
-    /// All that it paints.
-    pub(crate) items: Items,
+    /// All that it paints. The first covers its place.
+    pub(crate) items: ArrayVec<Item, 6>,
+}
+
+impl Seen {
+    /// Where the object stands, if it stands somewhere.
+    fn place(&self) -> Option<Area>
+        ensures { option_map rect_of result ≡ place_in (items_of self.now.items.items) }
+    {
+        match self.items.as_slice().first() {
+            Some(first) => Some(first.area),
+            None => None,
+        }
+    }
 }
 
 /// The area, where it has a pixel.
@@ -44,19 +55,22 @@ fn visible(store: &Store, places: &Places, h: Handle) -> Option<Area>
 }
 
 /// All that an object paints which is there and stands here.
-fn items_at(store: &Store, h: Handle, at: Option<Area>) -> Items
+fn items_at(store: &Store, places: &Places, h: Handle, at: Option<Area>) -> ArrayVec<Item, 6>
     requires place { option_map rect_of at ≡ place (scene_of store.now) h.0 }
+    requires near { IfSome at (λ area. IsNear (rect_of area)) }
     requires there { is_there (scene_of store.now) h.0 ≡ true }
-    ensures { items_in result ≡ items (scene_of store.now) h.0 }
+    ensures { items_of result.items ≡ items (scene_of store.now) h.0 }
 {
-    match at {
-        Some(place) => items_of(store, h, place),
-        None => ArrayVec::new(),
-    }
+    let Some(area) = at else {
+        return ArrayVec::new();
+    };
+    let mut text = ArrayVec::new();
+    let look = places.look(store, h, &mut text);
+    items(&look, area)
 }
 
 /// The same items once more.
-fn copied(items: &Items) -> Items
+fn copied(items: &ArrayVec<Item, 6>) -> ArrayVec<Item, 6>
     ensures { result.items ≡ items.now.items }
 {
     let mut copy = ArrayVec::new();
@@ -66,16 +80,17 @@ fn copied(items: &Items) -> Items
     copy
 }
 
-/// The same, where it may be known: where it was seen in the same place, it paints what is known.
-fn items_again(store: &Store, h: Handle, at: Option<Area>, known: Option<&Seen>) -> Items
-    requires place { option_map rect_of at ≡ place (scene_of store.now) h.0 }
+/// All that an object paints which is there. Where it was seen in the same place, it paints what is known.
+fn items_again(store: &Store, places: &Places, h: Handle, known: Option<&Seen>) -> ArrayVec<Item, 6>
+    requires solved { AreSolved places.now (scene_of store.now) }
     requires there { is_there (scene_of store.now) h.0 ≡ true }
     requires known { IfSome known (λ s. KeepsItems (scene_of store.now) h.0 s.now) }
-    ensures { items_in result ≡ items (scene_of store.now) h.0 }
+    ensures { items_of result.items ≡ items (scene_of store.now) h.0 }
 {
+    let place = places.place(h);
     match known {
-        Some(known) if same_visible(known.place, at) => copied(&known.items),
-        _ => items_at(store, h, at),
+        Some(known) if same_visible(known.place(), place) => copied(&known.items),
+        _ => items_at(store, places, h, place),
     }
 }
 
@@ -86,10 +101,8 @@ pub(crate) fn see(store: &Store, places: &Places, h: Handle, known: Option<&Seen
     requires known { IfSome known (λ s. KeepsItems (scene_of store.now) h.0 s.now) }
     ensures { IsSeen (scene_of store.now) h.0 result }
 {
-    let place = places.place(h);
     Seen {
-        place,
         visible: visible(store, places, h),
-        items: items_again(store, h, place, known),
+        items: items_again(store, places, h, known),
     }
 }

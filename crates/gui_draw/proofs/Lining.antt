@@ -12,7 +12,7 @@ use Rattle.text_defs.specs.Lines.{Setting, TextLine, run_width, lines, lines_of,
 use Rattle.std.proofs.Common.{option_map}
 use Rattle.gui_font.specs.Walks.{setting}
 use Rattle.gui_font.proofs.Inking.{text_inked}
-use Rattle.gui_draw.specs.Items.{ink_coat}
+use Rattle.text_defs.specs.Coats.{ink_coat}
 use Rattle.gui_draw.proofs.Running.{both_in, one_in, apart_in, draws_none_from, draws_later}
 
 and_false : (a : Bool) → (a && false) ≡ false

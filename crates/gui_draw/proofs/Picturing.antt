@@ -9,7 +9,7 @@ use Rattle.gui_base.specs.declared.words.Format.{Format}
 use Rattle.std.specs.Prelude.{IfSome}
 use Rattle.text_defs.specs.declared.Texel.{Texel}
 use Rattle.text_defs.specs.Images.{Image, size_or, size_in, is_done, finished, image_of, texel_of, texel_in, texel_size}
-use Rattle.gui_draw.specs.Items.{dab_of, is_pictured, texel_coat, picture_coat}
+use Rattle.text_defs.specs.Coats.{dab_of, is_pictured, texel_coat, picture_coat}
 use Rattle.gui_draw.specs.Texels.{row_over, texel_over, texels_in, HasTexels, HasTexelRow, first_pixels}
 use Rattle.gui_draw.specs.declared.texels.Texels.{Texels}
 use Rattle.gui_draw.proofs.Drawing.{line_drawn}

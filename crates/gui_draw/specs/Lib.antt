@@ -2,7 +2,6 @@ pub mod Counts
 pub mod Dots
 pub mod Drawing
 pub mod Glyphs
-pub mod Items
 pub mod Letters
 pub mod Parts
 pub mod Rings

@@ -7,7 +7,7 @@ use Rattle.gui_base.specs.Area.{Rect, width_of, height_of}
 use Rattle.gui_base.specs.Coats.{Dab, Coat, laid}
 use Rattle.gui_color.specs.Buffer.{distance}
 use Rattle.text_defs.specs.Images.{size_in, texel_of, texel_in, texel_size}
-use Rattle.gui_draw.specs.Items.{dab_of}
+use Rattle.text_defs.specs.Coats.{dab_of}
 use Rattle.gui_draw.specs.declared.texels.Texels.{Texels}
 
 -- what the texel in a column and a row lays

@@ -9,7 +9,7 @@ ghost use Rattle.gui_base.specs.Corners.{rect_of};
 ghost use Rattle.gui_color.specs.Buffer.{distance};
 ghost use Rattle.gui_draw.specs.Drawing.{Draws};
 ghost use Rattle.gui_draw.specs.Parts.{IsInside, HasLine, line_of};
-ghost use Rattle.gui_draw.specs.Items.{picture_coat};
+ghost use Rattle.text_defs.specs.Coats.{picture_coat};
 ghost use Rattle.gui_draw.specs.Texels.{texels_in, texel_over, HasTexels, HasTexelRow, first_pixels};
 
 use crate::rows::{line_mut, part_of};

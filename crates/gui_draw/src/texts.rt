@@ -10,7 +10,7 @@ ghost use Rattle.text_defs.specs.Fonts.{finished, has_font};
 ghost use Rattle.text_defs.specs.Ink.{line_at};
 ghost use Rattle.gui_font.specs.LinesLeft.{runs_left, setting_of};
 ghost use Rattle.gui_font.specs.Sets.{face_in};
-ghost use Rattle.gui_draw.specs.Items.{ink_coat};
+ghost use Rattle.text_defs.specs.Coats.{ink_coat};
 ghost use Rattle.gui_draw.specs.Runs.{run_at, lines_at, letter_count, DrawsIn, IsPen};
 ghost use Rattle.gui_draw.specs.Spans.{IsFar};
 
@@ -40,7 +40,7 @@ pub fn ink<L: Ledger>(
     requires letter { look.letter ≤ 100 }
     requires line { look.line ≤ 100 }
     requires short { length text.now ≤ 1000 }
-    requires wide { width_of (rect_of area) ≤ 200000 }
+    requires wide { width_of (rect_of area) ≤ 400000 }
     ensures { DrawsIn (length (chars text.now)) buf.old buf.new steps.old steps.new (within (rect_of clip)
         (ink_coat (rect_of area) (face_in fonts.now look.font) look (chars text.now) fg opa)) }
 {
@@ -93,7 +93,7 @@ fn ink_lines<L: Ledger>(
     requires line { look.line ≤ 100 }
     requires face { (setting_of lines).face ≡ face_in fonts.now look.font }
     requires letter_is { (setting_of lines).letter ≡ look.letter }
-    requires wide { whole ≤ 200000 }
+    requires wide { whole ≤ 400000 }
     requires lines { length (runs_left lines) ≤ 1001 }
     requires letters { letter_count (runs_left lines) ≤ 1000 }
     ensures { let pitch = (face_in fonts.now look.font).height + look.line in

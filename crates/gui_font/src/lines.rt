@@ -67,13 +67,15 @@ impl Fonts {
         requires line { look.line ≤ 100 }
         requires short { length text.now ≤ 1000 }
         requires width { ForSome width (λ w. pos 0 ≤ℤ w) }
-        ensures { let s = setting (face_in self.now look.font) look (option_map nat_of width) in
+        ensures size { let s = setting (face_in self.now look.font) look (option_map nat_of width) in
             let size = measured s look.line (chars text.now) in result ≡ (pos size.0, pos size.1) }
+        ensures small { (result.0 ≤ℤ pos 355000) × (result.1 ≤ℤ pos 355255) }
     {
         let mut widest = 0_u32;
         let mut count = 0_u32;
-        for line in self.lines(look, text, width) {
-            widest = widest.max(line.width.unsigned_abs());
+        let mut lines = self.lines(look, text, width);
+        'lines: while let Some(run) = lines.next_run() {
+            widest = widest.max(pixels(run.line.width));
             count += 1;
         }
         (
@@ -91,6 +93,7 @@ impl<'a> Lines<'a> {
     pub fn next_run(&mut self) -> Option<Run<'a>>
         ensures run { MatchOption result ((runs_left self.old ≡ []) × (runs_left self.new ≡ []))
             (λ run. GivesRun (setting_of self.old) (runs_left self.old) (runs_left self.new) run) }
+        ensures small { IfSome result (λ run. (pos 0 ≤ℤ run.line.width) × (run.line.width ≤ℤ pos 355000)) }
         ensures same { setting_of self.new ≡ setting_of self.old }
     {
         let text = self.left?;
@@ -129,7 +132,9 @@ impl<'a> Iterator for Lines<'a> {
 fn height_of(count: u32, height: u8, gap: u8) -> i32
     requires some { 1 ≤ count }
     requires few { count ≤ 1001 }
-    ensures { result ≡ pos (height_of_lines height gap count) }
+    requires gap { gap ≤ 100 }
+    ensures value { result ≡ pos (height_of_lines height gap count) }
+    ensures small { result ≤ℤ pos 355255 }
 {
     let height = u32::from(height);
     let gap = u32::from(gap);

@@ -14,41 +14,40 @@ use Rattle.gui_tree.specs.Handles.{numbers}
 use Rattle.scene_defs.specs.Place.{place, box_of as object_box}
 use Rattle.scene_defs.specs.Scene.{Object, Scene, handle_of, handles_of}
 use Rattle.scene_defs.specs.Row.{is_row}
-use Rattle.scene_defs.specs.Valid.{IsValid, in_intervals}
+use Rattle.scene_defs.specs.Valid.{IsValid, in_order}
+use Rattle.text_defs.specs.Images.{Image}
 use Rattle.layout_defs.specs.Boxes.{Box}
 use Rattle.layout_defs.specs.Solving.{Placed, Slot, solved, place_of, nowhere}
 use Rattle.layout_defs.specs.Laws.{row_by, is_placed_at}
 use Rattle.layout_defs.proofs.Solved.{found_by_handle}
 use Rattle.gui_layout.specs.declared.position.Position.{Position}
-use Rattle.gui_layout.specs.Views.{box_at}
 use Rattle.gui_layout.specs.Found.{boxed}
 use Rattle.gui_layout.specs.Kept.{Entries}
 use Rattle.gui_layout.specs.Listing.{HasThese, AreProper}
-use Rattle.gui_layout.specs.Scenes.{HoldsBoxes, scene_box}
+use Rattle.gui_layout.specs.Scenes.{scene_box}
 use Rattle.gui_layout.specs.Slots.{HoldsPlaced, slot_of, slot_or, slots_of}
 use Rattle.gui_layout.specs.Solved.{place_in}
 use Rattle.gui_layout.specs.Tables.{sizes_of}
 use Rattle.gui_layout.specs.Walks.{trees_from}
-use Rattle.gui_layout.proofs.Kids.{named}
 use Rattle.gui_layout.proofs.Listed.{slot_in_table}
 use Rattle.gui_layout.proofs.Parts.{distinct_once, first_of, trees_from-first_of, whole}
-use Rattle.gui_layout.proofs.SceneBoxes.{boxes_are}
+use Rattle.gui_layout.proofs.SceneBoxes.{boxes_are, scene_named}
 use Rattle.gui_layout.proofs.Solves.{handles_solved, placed_handle}
 use Rattle.gui_layout.proofs.These.{proper_of, has_value}
 
 -- the handles of objects lie in their interval
-counted : (f : Forest Object) (h : ℕ) → all_by in_intervals f ≡ true → has (handles_of f) h ≡ true → is_counted HANDLE h ≡ true
-counted Empty h all there = absurd (false≢true there)
-counted (Tree a cs rest) h all there =
-    let here : (in_intervals a ≡ true) × ((all_by in_intervals cs && all_by in_intervals rest) ≡ true) = and_parts _ _ all in
-    let below : (all_by in_intervals cs ≡ true) × (all_by in_intervals rest ≡ true) = and_parts _ _ here.1 in
-    let own : (is_counted HANDLE a.handle ≡ true) × (is_row a.row ≡ true) = and_parts _ _ here.0 in
+counted : (images : List Image) (f : Forest Object) (h : ℕ) → all_by (in_order images) f ≡ true → has (handles_of f) h ≡ true → is_counted HANDLE h ≡ true
+counted images Empty h all there = absurd (false≢true there)
+counted images (Tree a cs rest) h all there =
+    let here : (in_order images a ≡ true) × ((all_by (in_order images) cs && all_by (in_order images) rest) ≡ true) = and_parts _ _ all in
+    let below : (all_by (in_order images) cs ≡ true) × (all_by (in_order images) rest ≡ true) = and_parts _ _ here.1 in
+    let own : (is_counted HANDLE a.handle ≡ true) × _ = and_parts _ _ here.0 in
     let cases : (eqb a.handle h ≡ true) ⊎ ((has (handles_of cs) h || has (handles_of rest) h) ≡ true) = or_cases _ _ there in
     elim cases [
       | inl is ↦ subst (λ k. is_counted HANDLE k ≡ true) (eqb-true a.handle h is) own.0
       | inr later ↦
           let sides : (has (handles_of cs) h ≡ true) ⊎ (has (handles_of rest) h ≡ true) = or_cases _ _ later in
-          elim sides [ inl i ↦ counted cs h below.0 i | inr i ↦ counted rest h below.1 i ]
+          elim sides [ inl i ↦ counted images cs h below.0 i | inr i ↦ counted images rest h below.1 i ]
     ]
 
 module _ (scene : Scene) (valid : IsValid scene) where
@@ -56,7 +55,7 @@ module _ (scene : Scene) (valid : IsValid scene) where
   forest = handles_of scene.trees
 
   pub low : (h : ℕ) → has forest h ≡ true → h < HANDLE.high + 1
-  low h there = let in_interval = counted scene.trees h valid.rows.numbers there in grind (arith, nat_tests)
+  low h there = let in_interval = counted scene.images scene.trees h valid.rows.numbers there in grind (arith, nat_tests)
 
   pub few : size forest ≤ scene.limits.objects
   few = let n = valid.pools.objects in omega (arith, map-size handle_of scene.trees)
@@ -74,13 +73,9 @@ module _ (scene : Scene) (valid : IsValid scene) where
     pub proper : AreProper hs
     proper = proper_of hs forest listed valid.trees.once low
 
-    -- the boxes of the table are those of the scene
-    module _ (objects : ℕ) (e : Entries) (boxes : HasThese objects e.boxes hs) (holds : HoldsBoxes e.boxes scene) where
-      same_box : (h : ℕ) → has forest h ≡ true → record (box_at e.boxes h) { handle = h } ≡ scene_box scene h
-      same_box h there = named e.boxes h ∙ holds h (has_value hs forest listed objects e.boxes boxes h ∙ there)
-
-      pub boxed_are : boxed (box_at e.boxes) forest ≡ map_forest (object_box scene) scene.trees
-      boxed_are = map-agree (λ h. record (box_at e.boxes h) { handle = h }) (scene_box scene) forest same_box ∙ sym (boxes_are scene valid.trees.once)
+  -- the boxes of all handles are those of the objects
+  pub boxed_are : boxed (scene_box scene) forest ≡ map_forest (object_box scene) scene.trees
+  boxed_are = map-agree (λ h. record (scene_box scene h) { handle = h }) (scene_box scene) forest (λ h there. scene_named scene h) ∙ sym (boxes_are scene valid.trees.once)
 
 -- one object whose width and slot are known
 joined : (o : Option Placed) (v : Option Position) (w : ℕ) → option_map (λ (p : Placed). p.tall.width) o ≡ Some w → option_map (λ (p : Placed). p.slot) o ≡ Some (slot_or v) → is_some v ≡ true →
@@ -102,13 +97,13 @@ row_none test (Tree p cs rest) out =
 -- every place is that of the scene
 module _ (scene : Scene) (valid : IsValid scene) (objects : ℕ) (e : Entries) (hs : List Handle) (listed : numbers hs ≡ preorder (handles_of scene.trees)) where
   abbrev trees : Forest Placed
-  trees = solved scene.limits.width scene.limits.height (boxed (box_at e.boxes) (handles_of scene.trees))
+  trees = solved scene.limits.width scene.limits.height (boxed (scene_box scene) (handles_of scene.trees))
 
   module _ (positions : HasThese objects e.positions hs) (placed : HoldsPlaced (sizes_of e.widths) (slots_of e.positions) trees) where
     there : (h : ℕ) → has_by (is_placed_at h) trees ≡ has (handles_of scene.trees) h
     there h =
         sym (map-has_by placed_handle (λ k. eqb k h) trees)
-        ∙ ap (λ (f : Forest ℕ). has f h) (handles_solved (box_at e.boxes) scene.limits.width scene.limits.height (handles_of scene.trees))
+        ∙ ap (λ (f : Forest ℕ). has f h) (handles_solved (scene_box scene) scene.limits.width scene.limits.height (handles_of scene.trees))
 
     found : (h : ℕ) → has_by (is_placed_at h) trees ≡ true → place_in e h ≡ option_map place_of (row_by (is_placed_at h) trees)
     found h here =
@@ -126,8 +121,8 @@ module _ (scene : Scene) (valid : IsValid scene) (objects : ℕ) (e : Entries) (
         none (value_at e.positions h) _ (has_value hs (handles_of scene.trees) listed objects e.positions positions h ∙ (sym (there h) ∙ out))
         ∙ ap (option_map place_of) (sym (row_none (is_placed_at h) trees out))
 
-    pub all_placed : HasThese objects e.boxes hs → HoldsBoxes e.boxes scene → (h : ℕ) → place_in e h ≡ place scene h
+    pub all_placed : (h : ℕ) → place_in e h ≡ place scene h
     unfolding place
-    all_placed boxes holds h =
+    all_placed h =
         elim (cases_Bool (has_by (is_placed_at h) trees)) [ inl here ↦ found h here | inr out ↦ absent h out ]
-        ∙ ap (λ (f : Forest Box). option_map place_of (row_by (is_placed_at h) (solved scene.limits.width scene.limits.height f))) (boxed_are scene valid hs listed objects e boxes holds)
+        ∙ ap (λ (f : Forest Box). option_map place_of (row_by (is_placed_at h) (solved scene.limits.width scene.limits.height f))) (boxed_are scene valid)

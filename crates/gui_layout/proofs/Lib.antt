@@ -16,4 +16,5 @@ pub mod Stands
 pub mod Heightens
 pub mod Columns
 pub mod Bridges
+pub mod OwnHeights
 pub mod Solves

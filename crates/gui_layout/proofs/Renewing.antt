@@ -5,6 +5,7 @@ use Rattle.std.proofs.lemmas.Bool.{eqb-true}
 use Rattle.gui_base.specs.declared.Handle.{Handle}
 use Rattle.gui_pool.specs.Table.{Table, value_at, value_replaced}
 use Rattle.layout_defs.specs.Boxes.{Box}
+use Rattle.layout_defs.specs.OwnHeights.{but_height}
 use Rattle.gui_layout.specs.declared.layout_box.LayoutBox.{LayoutBox}
 use Rattle.gui_layout.specs.Listing.{times, value_count}
 use Rattle.gui_layout.specs.Views.{box_of, box_or, box_at}
@@ -22,8 +23,8 @@ module _ (box : ℕ → Box) where
   pub record BoxesLeft (t : Table LayoutBox) (rest : List Handle) : Type 0 where
     -- those that are left have a box
     pub some : (k : ℕ) → 0 < times rest k → IsSome (value_at t k)
-    -- what any other has is its own
-    pub own : (k : ℕ) → IsSome (value_at t k) → times rest k ≡ 0 → box_at t k ≡ box k
+    -- what any other has is its own, but for its own height
+    pub own : (k : ℕ) → IsSome (value_at t k) → times rest k ≡ 0 → but_height (box_at t k) ≡ but_height (box k)
 
   pub left_all : (t : Table LayoutBox) (hs : List Handle) → ((k : ℕ) → value_count t k ≡ times hs k) → BoxesLeft t hs
   left_all t hs each = record {
@@ -34,20 +35,20 @@ module _ (box : ℕ → Box) where
   pub left_first : (t : Table LayoutBox) (h : Handle) (rest : List Handle) → BoxesLeft t (h ∷ rest) → IsSome (value_at t h.0)
   left_first t h rest left = left.some h.0 (rw (eq-eqb h.0 h.0 refl) (omega arith))
 
-  own_case : (h k n : ℕ) (made : LayoutBox) (old : Option LayoutBox) (b : Bool) → eqb h k ≡ b → box_of h made ≡ box h → (IsSome old → cond b 1 0 + n ≡ 0 → box_or k old ≡ box k) →
-      IsSome (cond b (Some made) old) → n ≡ 0 → box_or k (cond b (Some made) old) ≡ box k
-  own_case h k n made old true is made_is same some none = subst (λ m. box_of m made ≡ box m) (eqb-true h k is) made_is
+  own_case : (h k n : ℕ) (made : LayoutBox) (old : Option LayoutBox) (b : Bool) → eqb h k ≡ b → but_height (box_of h made) ≡ but_height (box h) → (IsSome old → cond b 1 0 + n ≡ 0 → but_height (box_or k old) ≡ but_height (box k)) →
+      IsSome (cond b (Some made) old) → n ≡ 0 → but_height (box_or k (cond b (Some made) old)) ≡ but_height (box k)
+  own_case h k n made old true is made_is same some none = subst (λ m. but_height (box_of m made) ≡ but_height (box m)) (eqb-true h k is) made_is
   own_case h k n made old false isnt made_is same some none = same some (omega arith)
 
-  pub left_put : (t u : Table LayoutBox) (h : Handle) (made : LayoutBox) (rest : List Handle) → BoxesLeft t (h ∷ rest) → u ≡ value_replaced t h.0 made → box_of h.0 made ≡ box h.0 → BoxesLeft u rest
+  pub left_put : (t u : Table LayoutBox) (h : Handle) (made : LayoutBox) (rest : List Handle) → BoxesLeft t (h ∷ rest) → u ≡ value_replaced t h.0 made → but_height (box_of h.0 made) ≡ but_height (box h.0) → BoxesLeft u rest
   left_put t u h made rest left is made_is =
       let within = within_of t h.0 (left_first t h rest left) in
       let value : (k : ℕ) → value_at u k ≡ cond (eqb h.0 k) (Some made) (value_at t k) = λ k. ap (λ (v : Table LayoutBox). value_at v k) is ∙ value-set t.values h.0 k (Some made) within in
       record {
         some = λ k more. subst (λ (o : Option LayoutBox). IsSome o) (sym (value k)) (still_some made (value_at t k) (eqb h.0 k) (left.some k (omega arith)));
-        own = λ k. subst (λ (o : Option LayoutBox). IsSome o → times rest k ≡ 0 → box_or k o ≡ box k) (sym (value k)) (own_case h.0 k (times rest k) made (value_at t k) (eqb h.0 k) refl made_is (left.own k));
+        own = λ k. subst (λ (o : Option LayoutBox). IsSome o → times rest k ≡ 0 → but_height (box_or k o) ≡ but_height (box k)) (sym (value k)) (own_case h.0 k (times rest k) made (value_at t k) (eqb h.0 k) refl made_is (left.own k));
       }
 
   -- where none is left, each has its own
-  pub left_none : (t : Table LayoutBox) → BoxesLeft t [] → (k : ℕ) → IsSome (value_at t k) → box_at t k ≡ box k
+  pub left_none : (t : Table LayoutBox) → BoxesLeft t [] → (k : ℕ) → IsSome (value_at t k) → but_height (box_at t k) ≡ but_height (box k)
   left_none t left k some = left.own k some refl

@@ -6,13 +6,17 @@ use Rattle.gui_base.specs.Forest.{Forest, Empty, Tree, map_forest, has_by, Stand
 use Rattle.gui_base.proofs.Forests.{map-has_by}
 use Rattle.gui_base.proofs.Visits.{IsDistinct, distinct_once}
 use Rattle.scene_defs.specs.declared.Row.{Row}
+use Rattle.scene_defs.specs.Change.{text_at, text_of}
 use Rattle.scene_defs.specs.Place.{box_of as object_box}
 use Rattle.scene_defs.specs.Scene.{Object, Scene, handle_of, row_of, is_at, handles_of, is_there, object_by, object_at, row_at}
+use Rattle.gui_base.specs.declared.words.Kind.{Kind}
+use Rattle.gui_base.specs.declared.words.Kind.TheVariants.{Label, Image, Checkbox}
+use Rattle.widget_defs.specs.Looks.{Look}
+use Rattle.widget_defs.specs.Sizes.{width_by, height_by, own_width, own_height}
+use Rattle.scene_defs.specs.Looks.{look_of}
 use Rattle.layout_defs.specs.Boxes.{Box}
-use Rattle.gui_layout.specs.Scenes.{box_or_none, scene_box}
-
-abbrev row_box : Scene → ℕ → Row → Box
-row_box scene h row = object_box scene (record { handle = h; row = row })
+use Rattle.gui_layout.specs.Own.{has_own_size}
+use Rattle.gui_layout.specs.Scenes.{object_with, box_or_none, scene_box}
 
 -- an object that is found by its handle
 pub named : (f : Forest Object) (h : ℕ) (o : Object) → object_by (is_at h) f ≡ Some o → o.handle ≡ h
@@ -40,18 +44,24 @@ found_there (Tree a cs rest) h o e =
       ]
     ]
 
--- what the row of a handle tells
-row_told : (scene : Scene) (h : ℕ) (o : Option Object) (row : Row) → object_at scene h ≡ o → Some row ≡ option_map row_of o → (is_there scene h ≡ true) × (row_box scene h row ≡ scene_box scene h)
-row_told scene h None row is e = cc
-row_told scene h (Some object) row is e =
+object_told : (scene : Scene) (h : ℕ) (o : Option Object) (row : Row) → object_at scene h ≡ o → Some row ≡ option_map row_of o → object_at scene h ≡ Some (object_with scene h row)
+object_told scene h None row is e = cc
+object_told scene h (Some object) row is e =
     let handle = named scene.trees h object is in
-    let same : row ≡ object.row = cc in (
-      map-has_by handle_of (λ k. eqb k h) scene.trees ∙ found_there scene.trees h object is,
-      ap (row_box scene h) same ∙ (ap (λ k. row_box scene k object.row) (sym handle) ∙ ap (box_or_none scene h) (sym is)),
-    )
+    let same : row ≡ object.row = cc in
+    let text : text_at scene h ≡ object.text = ap text_of is in
+    is ∙ (λ i. Some (record { handle = handle i; row = sym same i; text = sym text i }))
 
-pub row_found : (scene : Scene) (h : ℕ) (row : Row) → Some row ≡ row_at scene h → (is_there scene h ≡ true) × (row_box scene h row ≡ scene_box scene h)
-row_found scene h row e = row_told scene h (object_at scene h) row refl e
+-- what the row of a handle tells
+pub object_found : (scene : Scene) (h : ℕ) (row : Row) → Some row ≡ row_at scene h → object_at scene h ≡ Some (object_with scene h row)
+object_found scene h row e = object_told scene h (object_at scene h) row refl e
+
+pub row_found : (scene : Scene) (h : ℕ) (row : Row) → Some row ≡ row_at scene h → (is_there scene h ≡ true) × (object_box scene (object_with scene h row) ≡ scene_box scene h)
+row_found scene h row e =
+    let is = object_found scene h row e in (
+      map-has_by handle_of (λ k. eqb k h) scene.trees ∙ found_there scene.trees h (object_with scene h row) is,
+      sym (ap (box_or_none scene h) is),
+    )
 
 none_told : (scene : Scene) (h : ℕ) (o : Option Object) → None ≡ option_map row_of o → box_or_none scene h None ≡ box_or_none scene h o
 none_told scene h None e = refl
@@ -59,6 +69,69 @@ none_told scene h (Some object) e = cc
 
 pub none_found : (scene : Scene) (h : ℕ) → None ≡ row_at scene h → box_or_none scene h None ≡ scene_box scene h
 none_found scene h e = none_told scene h (object_at scene h) e
+
+-- the box of a handle has that handle
+named_told : (scene : Scene) (h : ℕ) (o : Option Object) → object_at scene h ≡ o → record (box_or_none scene h o) { handle = h } ≡ box_or_none scene h o
+named_told scene h None is = refl
+named_told scene h (Some object) is = ap (λ k. record (object_box scene object) { handle = k }) (sym (named scene.trees h object is))
+
+pub scene_named : (scene : Scene) (h : ℕ) → record (scene_box scene h) { handle = h } ≡ scene_box scene h
+scene_named scene h = named_told scene h (object_at scene h) refl
+
+pub object_some : (f : Forest Object) (h : ℕ) → has_by (is_at h) f ≡ true → is_some (object_by (is_at h) f) ≡ true
+object_some Empty h i = absurd (false≢true i)
+object_some (Tree a cs rest) h i =
+    elim (cases_Bool (is_at h a)) [
+      | inl is ↦ rw is refl
+      | inr isnt ↦ elim (cases_Bool (has_by (is_at h) cs)) [
+        | inl inner ↦ rw (isnt, inner) (object_some cs h inner)
+        | inr outer ↦ let later : has_by (is_at h) rest ≡ true = rw (isnt, outer) at i in rw (isnt, outer) (object_some rest h later)
+      ]
+    ]
+
+-- who has no row is not there
+pub row_gone : (scene : Scene) (h : ℕ) → None ≡ row_at scene h → is_there scene h ≡ false
+row_gone scene h e = by (object_at scene h) refl e where
+  by : (o : Option Object) → object_at scene h ≡ o → None ≡ option_map row_of o → is_there scene h ≡ false
+  by None is f = map-has_by handle_of (λ k. eqb k h) scene.trees ∙ false_from_ne_true _ (λ on. both_ways (is_some (object_at scene h)) (ap is_some is) (object_some scene.trees h on))
+  by (Some object) is f = cc
+
+-- What has no own size is 0 wide and high, whatever it shows.
+pub no_width-by : (kind : Kind) (look : Look) → has_own_size kind ≡ false → 0 ≡ width_by kind look
+no_width-by Label look none = cc
+no_width-by Image look none = cc
+no_width-by Checkbox look none = cc
+no_width-by kind look none = refl
+
+pub no_height-by : (kind : Kind) (look : Look) (room : ℕ) → has_own_size kind ≡ false → 0 ≡ height_by kind look room
+no_height-by Label look room none = cc
+no_height-by Image look room none = cc
+no_height-by Checkbox look room none = cc
+no_height-by kind look room none = refl
+
+pub no_width : (scene : Scene) (h : ℕ) (row : Row) → Some row ≡ row_at scene h → has_own_size row.kind ≡ false → 0 ≡ (scene_box scene h).own_width
+no_width scene h row e none =
+    no_width-by row.kind (look_of scene (object_with scene h row)) none ∙ ap (λ (b : Box). b.own_width) (row_found scene h row e).1
+
+pub no_height : (scene : Scene) (h : ℕ) (row : Row) (room : ℕ) → Some row ≡ row_at scene h → has_own_size row.kind ≡ false → 0 ≡ (scene_box scene h).own_height room
+no_height scene h row room e none =
+    no_height-by row.kind (look_of scene (object_with scene h row)) room none ∙ ap (λ (b : Box). b.own_height room) (row_found scene h row e).1
+
+pub gone_height : (scene : Scene) (h room : ℕ) → None ≡ row_at scene h → 0 ≡ (scene_box scene h).own_height room
+gone_height scene h room e = ap (λ (b : Box). b.own_height room) (none_found scene h e)
+
+-- and what has one is as large as its look says
+pub look-width : (scene : Scene) (h : ℕ) (look : Look) → Some look ≡ option_map (look_of scene) (object_at scene h) → own_width look ≡ (scene_box scene h).own_width
+look-width scene h look e = by (object_at scene h) e where
+  by : (o : Option Object) → Some look ≡ option_map (look_of scene) o → own_width look ≡ (box_or_none scene h o).own_width
+  by None f = cc
+  by (Some object) f = let same : look ≡ look_of scene object = cc in ap own_width same
+
+pub look-height : (scene : Scene) (h room : ℕ) (look : Look) → Some look ≡ option_map (look_of scene) (object_at scene h) → own_height look room ≡ (scene_box scene h).own_height room
+look-height scene h room look e = by (object_at scene h) e where
+  by : (o : Option Object) → Some look ≡ option_map (look_of scene) o → own_height look room ≡ (box_or_none scene h o).own_height room
+  by None f = cc
+  by (Some object) f = let same : look ≡ look_of scene object = cc in ap (λ (l : Look). own_height l room) same
 
 -- The boxes of all trees.
 agrees : {B : Type 0} (g : Object → B) (k : ℕ → B) (from : Option Object → B) → ((o : Object) → from (Some o) ≡ g o) → (f : Forest Object) → IsDistinct handle_of f →
@@ -79,17 +152,6 @@ agrees {B} g k from some (Tree a cs rest) distinct same =
 
     outer : (h : ℕ) → has_by (is_at h) rest ≡ true → from (object_by (is_at h) (Tree a cs rest)) ≡ from (object_by (is_at h) rest)
     outer h i = rw (other h rest distinct.2 i, false_from_ne_true _ (λ j. both_ways _ (distinct.0 h j) i)) refl
-
-pub object_some : (f : Forest Object) (h : ℕ) → has_by (is_at h) f ≡ true → is_some (object_by (is_at h) f) ≡ true
-object_some Empty h i = absurd (false≢true i)
-object_some (Tree a cs rest) h i =
-    elim (cases_Bool (is_at h a)) [
-      | inl is ↦ rw is refl
-      | inr isnt ↦ elim (cases_Bool (has_by (is_at h) cs)) [
-        | inl inner ↦ rw (isnt, inner) (object_some cs h inner)
-        | inr outer ↦ let later : has_by (is_at h) rest ≡ true = rw (isnt, outer) at i in rw (isnt, outer) (object_some rest h later)
-      ]
-    ]
 
 either : (scene : Scene) (h : ℕ) (o : Option Object) → is_some o ≡ true → box_or_none scene h o ≡ box_or_none scene 0 o
 either scene h None some = absurd (false≢true some)

@@ -1,6 +1,7 @@
 pub mod Views
 pub mod Found
 pub mod Rows
+pub mod Own
 pub mod Reaches
 pub mod Slots
 pub mod Columns
@@ -9,6 +10,7 @@ pub mod Tables
 pub mod Listing
 pub mod Walks
 pub mod Scenes
+pub mod OwnHeights
 pub mod Kept
 pub mod Kids
 pub mod Solved

@@ -3,10 +3,17 @@ use Rattle.std.specs.Prelude.{◌≡◌, ℕ, Bool, ◌==◌, ◌||◌, if◌the
 use Rattle.gui_base.specs.Area.{Rect}
 use Rattle.gui_pool.specs.Table.{Table, value_at}
 use Rattle.layout_defs.specs.Boxes.{Box}
+use Rattle.layout_defs.specs.OwnHeights.{but_height}
+use Rattle.scene_defs.specs.Change.{text_at}
 use Rattle.scene_defs.specs.Place.{panel_of, box_of}
+use Rattle.scene_defs.specs.declared.Row.{Row}
 use Rattle.scene_defs.specs.Scene.{Object, Scene, object_at}
 use Rattle.gui_layout.specs.declared.layout_box.LayoutBox.{LayoutBox}
 use Rattle.gui_layout.specs.Views.{no_box, box_at}
+
+-- the object of a handle that has this row
+abbrev pub object_with : Scene → ℕ → Row → Object
+object_with scene h row = record { handle = h; row = row; text = text_at scene h }
 
 -- the box of h: one of no size where it is not there
 abbrev pub box_or_none : Scene → ℕ → Option Object → Box
@@ -16,9 +23,10 @@ box_or_none scene h (Some object) = box_of scene object
 abbrev pub scene_box : Scene → ℕ → Box
 scene_box scene h = box_or_none scene h (object_at scene h)
 
--- a table has the box of each object that it has a value for
+-- a table has the box of each object that it has a value for, but for its own height
 abbrev pub HoldsBoxes : Table LayoutBox → Scene → Type 0
-HoldsBoxes boxes scene = (h : ℕ) → IsSome (value_at boxes h) → box_at boxes h ≡ scene_box scene h
+HoldsBoxes boxes scene =
+    (h : ℕ) → IsSome (value_at boxes h) → but_height (box_at boxes h) ≡ but_height (scene_box scene h)
 
 -- the panel, where h is the active screen or a layer
 abbrev pub is_shown : Scene → ℕ → Bool

@@ -24,6 +24,7 @@ pub(crate) struct LayoutBox {
     pub gap_across: u16,
     pub gap_down: u16,
     pub own_width: u32,
+    /// For the width that was found; it is 0 before one is.
     pub own_height: u32,
     ghost x_least: { negsuc 3999 ≤ℤ x },
     ghost x_most: { x ≤ℤ pos 4000 },

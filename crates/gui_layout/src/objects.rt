@@ -5,26 +5,32 @@ ghost use Rattle.gui_base.specs.declared.intervals.TheConstants.{PAD};
 ghost use Rattle.gui_base.specs.declared.props.Prop.TheVariants.{BorderWidth, PadTop, PadBottom, PadLeft};
 ghost use Rattle.gui_base.specs.declared.props.Prop.TheVariants.{PadRight};
 ghost use Rattle.gui_base.specs.declared.words.Part.TheVariants.{Main};
+ghost use Rattle.layout_defs.specs.OwnHeights.{but_height};
 ghost use Rattle.scene_defs.specs.Place.{box_of as object_box, pixels_of, inset_of};
+ghost use Rattle.scene_defs.specs.Row.{shown_row};
 ghost use Rattle.scene_defs.specs.Scene.{row_at, value};
 ghost use Rattle.scene_defs.specs.Valid.{IsRow};
 ghost use Rattle.gui_flex.specs.Items.{placings_of};
 ghost use Rattle.gui_layout.specs.Listing.{times, value_count};
 ghost use Rattle.gui_store.specs.Views.{scene_of};
 ghost use Rattle.gui_layout.specs.Views.{box_of};
-ghost use Rattle.gui_layout.specs.Scenes.{scene_box, HoldsBoxes};
+ghost use Rattle.gui_layout.specs.Scenes.{object_with, scene_box, HoldsBoxes};
+ghost use Rattle.gui_layout.specs.Own.{has_own_size};
 ghost use Rattle.gui_layout.specs.Tables.{listing_of};
 
 use crate::boxes::empty_box;
 use crate::layout_box::LayoutBox;
-use gui_base::{Flag, Handle, Part, Prop};
+use crate::looks::look_in;
+use arrayvec::ArrayVec;
+use gui_base::{Flag, Handle, Kind, Part, Prop};
 use gui_flex::FlexPlaces;
 use gui_pool::Table;
 use gui_store::{Row, Store};
+use gui_widgets::{own_height, own_width};
 
 /// A value of an object that has this row. None lies below 0.
 fn number(store: &Store, h: Handle, row: &Row, prop: Prop) -> u32
-    requires { Some row.now ≡ row_at (scene_of store.now) h.0 }
+    requires { Some (shown_row row.now) ≡ row_at (scene_of store.now) h.0 }
     ensures value { value (scene_of store.now) h.0 Main prop ≡ pos result }
     ensures in_range { is_value prop (pos result) ≡ true }
 {
@@ -33,7 +39,7 @@ fn number(store: &Store, h: Handle, row: &Row, prop: Prop) -> u32
 
 /// The width of an object's border, in pixels.
 fn border(store: &Store, h: Handle, row: &Row) -> u16
-    requires { Some row.now ≡ row_at (scene_of store.now) h.0 }
+    requires { Some (shown_row row.now) ≡ row_at (scene_of store.now) h.0 }
     ensures value { result ≡ pixels_of (scene_of store.now) h.0 BorderWidth }
     ensures small { result ≤ 100 }
 {
@@ -42,7 +48,7 @@ fn border(store: &Store, h: Handle, row: &Row) -> u16
 
 /// A pad or a gap of an object, in pixels.
 fn pad(store: &Store, h: Handle, row: &Row, prop: Prop) -> u16
-    requires row { Some row.now ≡ row_at (scene_of store.now) h.0 }
+    requires row { Some (shown_row row.now) ≡ row_at (scene_of store.now) h.0 }
     requires pad { values_of prop ≡ PAD }
     ensures value { result ≡ pixels_of (scene_of store.now) h.0 prop }
     ensures small { result ≤ 1000 }
@@ -52,7 +58,7 @@ fn pad(store: &Store, h: Handle, row: &Row, prop: Prop) -> u16
 
 /// How far the content of an object with such a border is from one side of its place.
 fn inset(store: &Store, h: Handle, row: &Row, border: u16, side: Prop) -> u16
-    requires row { Some row.now ≡ row_at (scene_of store.now) h.0 }
+    requires row { Some (shown_row row.now) ≡ row_at (scene_of store.now) h.0 }
     requires border { border ≡ pixels_of (scene_of store.now) h.0 BorderWidth }
     requires small_border { border ≤ 100 }
     requires pad { values_of side ≡ PAD }
@@ -72,11 +78,49 @@ fn placings(row: &Row) -> FlexPlaces
     FlexPlaces { main, cross, track }
 }
 
-/// The box of an object that has this row.
-fn row_box(store: &Store, h: Handle, row: &Row) -> LayoutBox
-    requires row { Some row.now ≡ row_at (scene_of store.now) h.0 }
+/// Whether objects of a kind have a size of their own.
+fn has_own_size(kind: Kind) -> bool
+    ensures { result ≡ has_own_size kind }
+{
+    matches!(kind, Kind::Label | Kind::Image | Kind::Checkbox)
+}
+
+/// The own width of what an object with this row shows, in pixels.
+fn own_width_of(store: &Store, h: Handle, row: &Row) -> u32
+    requires row { Some (shown_row row.now) ≡ row_at (scene_of store.now) h.0 }
     requires in_range { IsRow row.now }
-    ensures { box_of h.0 result ≡ object_box (scene_of store.now) (record { handle = h.0; row = row.now }) }
+    ensures value { result
+        ≡ (object_box (scene_of store.now) (object_with (scene_of store.now) h.0 (shown_row row.now))).own_width }
+    ensures small { result ≤ 1000000 }
+{
+    if !has_own_size(row.kind) {
+        return 0;
+    }
+    let mut text = ArrayVec::new();
+    own_width(&look_in(store, h, row, &mut text)).unsigned_abs()
+}
+
+/// The own height of what an object shows in a content area that is so wide, in pixels: 0 where the object is
+/// not there.
+pub(crate) fn own_height_of(store: &Store, h: Handle, room: u16) -> u32
+    ensures value { result ≡ (scene_box (scene_of store.now) h.0).own_height room }
+    ensures small { result ≤ 1000000 }
+{
+    match store.row(h) {
+        Some(row) if has_own_size(row.kind) => {
+            let mut text = ArrayVec::new();
+            own_height(&look_in(store, h, row, &mut text), i32::from(room)).unsigned_abs()
+        }
+        _ => 0,
+    }
+}
+
+/// The box of an object that has this row, before its own height is known.
+fn row_box(store: &Store, h: Handle, row: &Row) -> LayoutBox
+    requires row { Some (shown_row row.now) ≡ row_at (scene_of store.now) h.0 }
+    requires in_range { IsRow row.now }
+    ensures { but_height (box_of h.0 result) ≡ but_height
+        (object_box (scene_of store.now) (object_with (scene_of store.now) h.0 (shown_row row.now))) }
 {
     let border = border(store, h, row);
     LayoutBox {
@@ -95,14 +139,14 @@ fn row_box(store: &Store, h: Handle, row: &Row) -> LayoutBox
         bottom: inset(store, h, row, border, Prop::PadBottom),
         gap_across: pad(store, h, row, Prop::PadColumn),
         gap_down: pad(store, h, row, Prop::PadRow),
-        own_width: 0,
+        own_width: own_width_of(store, h, row),
         own_height: 0,
     }
 }
 
-/// The box of an object: one of no size where it is not there.
+/// The box of an object, before its own height is known: one of no size where it is not there.
 pub(crate) fn box_in(store: &Store, h: Handle) -> LayoutBox
-    ensures { box_of h.0 result ≡ scene_box (scene_of store.now) h.0 }
+    ensures { but_height (box_of h.0 result) ≡ but_height (scene_box (scene_of store.now) h.0) }
 {
     match store.row(h) {
         Some(row) => row_box(store, h, row),
@@ -110,7 +154,7 @@ pub(crate) fn box_in(store: &Store, h: Handle) -> LayoutBox
     }
 }
 
-/// Gives each listed object its box. They are the objects that have one.
+/// Gives each listed object its box, before its own height is known. They are the objects that have one.
 pub(crate) fn set_boxes(boxes: &mut Table<LayoutBox>, listed: &[Handle], store: &Store)
     requires { (h : ℕ) → value_count boxes.old h ≡ times listed.now h }
     ensures listing { listing_of boxes.new ≡ listing_of boxes.old }

@@ -1,13 +1,16 @@
 //! The places of the objects of a store.
-ghost use Rattle.std.specs.Prelude.{◌≡◌, ◌≤◌, ◌+ℤ◌, ◌-ℤ◌, pos, ℕ, [], false, None, IfOk, IfSome, option_map};
+ghost use Rattle.std.specs.Prelude.{◌≡◌, ◌≤◌, ◌+ℤ◌, ◌-ℤ◌, pos, ℕ, [], true, false, None, Some, IfOk};
+ghost use Rattle.std.specs.Prelude.{IfSome, option_map};
 ghost use Rattle.std.specs.Prelude.{length, vec_capacity};
-ghost use Rattle.gui_base.specs.Area.{area_at, is_empty};
+ghost use Rattle.gui_base.specs.Area.{area_at, is_empty, width_of};
 ghost use Rattle.gui_base.specs.Bounded.{bounds_of};
 ghost use Rattle.gui_base.specs.Corners.{rect_of};
 ghost use Rattle.gui_base.specs.Forest.{preorder};
 ghost use Rattle.gui_tree.specs.Handles.{numbers};
 ghost use Rattle.layout_defs.specs.Reach.{IsNear, IsPlaced as IsPlaceNumber};
-ghost use Rattle.scene_defs.specs.Scene.{handles_of};
+ghost use Rattle.scene_defs.specs.Looks.{look_of};
+ghost use Rattle.scene_defs.specs.Scene.{handles_of, is_there, object_at};
+ghost use Rattle.gui_widgets.specs.Looks.{IsLook, widget_of};
 ghost use Rattle.gui_store.specs.Views.{scene_of};
 ghost use Rattle.gui_layout.specs.Kept.{AreEntries};
 ghost use Rattle.scene_defs.specs.Visible.{some_area, met, visible};
@@ -19,15 +22,18 @@ use crate::all::solve_trees;
 use crate::boxes::empty_box;
 use crate::layout_box::LayoutBox;
 use crate::listing::{are_same, clear, fill, list_trees};
+use crate::looks::look_in;
 use crate::objects::set_boxes;
 use crate::position::{CORNER, Position};
 use crate::size::Size;
 use crate::tables::size_at;
+use arrayvec::ArrayVec;
 use gui_base::intervals::HANDLE;
 use gui_base::{Area, Flag, Handle, Limits, NoMemory};
 use gui_flex::FlexItem;
 use gui_pool::Table;
 use gui_store::Store;
+use gui_widgets::Look;
 use std::alloc::Global;
 use std::mem;
 
@@ -94,6 +100,7 @@ fn area_of(position: &Position, width: u16) -> Area
     requires { width ≤ 8191 }
     ensures value { rect_of result ≡ area_at position.now.x position.now.y width position.now.height }
     ensures near { IsNear (rect_of result) }
+    ensures narrow { width_of (rect_of result) ≤ 8191 }
 {
     Area {
         x1: position.x,
@@ -181,6 +188,7 @@ impl Places {
     pub fn place(&self, h: Handle) -> Option<Area>
         ensures value { option_map rect_of result ≡ place_at self.now h.0 }
         ensures near { IfSome result (λ area. IsNear (rect_of area)) }
+        ensures narrow { IfSome result (λ area. width_of (rect_of area) ≤ 8191) }
     {
         match self.positions.get(h.0 as u32) {
             Some(position) => Some(area_of(position, size_at(&self.widths, h))),
@@ -188,9 +196,27 @@ impl Places {
         }
     }
 
+    /// An object that is there as its items show it, with its text in `text`.
+    pub fn look<'a>(
+        &self,
+        store: &'a Store,
+        h: Handle,
+        text: &'a mut ArrayVec<u8, 1000>,
+    ) -> Look<'a>
+        requires there { is_there (scene_of store.now) h.0 ≡ true }
+        ensures look { IsLook result }
+        ensures shows { Some (widget_of result)
+            ≡ option_map (look_of (scene_of store.now)) (object_at (scene_of store.now) h.0) }
+    {
+        let _ = &self.limits;
+        let Some(row) = store.row(h) else {
+            unreachable!()
+        };
+        look_in(store, h, row, text)
+    }
+
     /// What is seen of an object of a store for which the places were solved: its place met with those of all
-    /// above it and with the panel. It has no pixel where the object is not there, where it or one above it
-    /// is
+    /// above it and with the panel. It has no pixel where the object is not there, where it or one above it is
     /// hidden, and where its root is not shown.
     pub fn visible(&self, store: &Store, h: Handle) -> Area
         requires { AreSolved self.now (scene_of store.now) }
@@ -266,7 +292,7 @@ impl Places {
         }
     }
 
-    /// Gives each object that has entries its box in a store.
+    /// Gives each object that has entries its box in a store, before its own height is known.
     fn set_boxes(&mut self, store: &Store)
         ensures boxes { HoldsBoxes self.new.boxes (scene_of store.now) }
         ensures listed { self.new.listed.items ≡ self.old.listed.items }
@@ -285,7 +311,8 @@ impl Places {
     {
         solve_trees(
             store.tree(),
-            &self.boxes,
+            &mut self.boxes,
+            store,
             &mut self.natural_widths,
             &mut self.widths,
             &mut self.natural_heights,

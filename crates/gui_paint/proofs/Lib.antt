@@ -1,3 +1,5 @@
-pub mod Naturals
+pub mod Coating
+pub mod Listing
 pub mod Painted
+pub mod Ready
 pub mod Trees

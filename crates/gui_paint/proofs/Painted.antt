@@ -13,7 +13,7 @@ use Rattle.scene_defs.specs.Row.{is_on}
 use Rattle.scene_defs.specs.Scene.{Object, Scene, is_at}
 use Rattle.scene_defs.specs.Place.{panel_of, place}
 use Rattle.scene_defs.specs.Visible.{some_area, met, holds, seen_of, root_tree, shown_trees}
-use Rattle.scene_defs.specs.Items.{items, paint_item}
+use Rattle.scene_defs.specs.Items.{coats, lay}
 use Rattle.scene_defs.specs.Picture.{paint_seen}
 use Rattle.scene_defs.specs.Valid.{IsValid, is_root_at}
 use Rattle.scene_defs.specs.Walk.{seen_alone, walked}
@@ -44,19 +44,19 @@ module _ (scene : Scene) (x y : ℤ) where
     | inr isnt ↦ rw isnt (holds-met x y clip (place scene object.handle))
   ]
 
-  own-seen : (area : Option Rect) (object : Object) (under : Rgb565) → fold (paint_seen x y) under (seen_alone (items scene) area object.handle) ≡ (if holds area x y then fold (paint_item x y) under (items scene object.handle) else under)
+  own-seen : (area : Option Rect) (object : Object) (under : Rgb565) → fold (paint_seen x y) under (seen_alone (coats scene) area object.handle) ≡ (if holds area x y then fold (lay x y) under (coats scene object.handle) else under)
   own-seen None object under = refl
   own-seen (Some area) object under = refl
 
   -- what the walk meets is painted so
-  walked-painted : (clip : Option Rect) (trees : Forest Object) (under : Rgb565) → fold (paint_seen x y) under (walked (place scene) (items scene) clip trees) ≡ painted scene x y (holds clip x y) trees under
+  walked-painted : (clip : Option Rect) (trees : Forest Object) (under : Rgb565) → fold (paint_seen x y) under (walked (place scene) (coats scene) clip trees) ≡ painted scene x y (holds clip x y) trees under
   walked-painted clip Empty under = refl
   walked-painted clip (Tree object cs rest) under =
       let area = seen_of (place scene) clip object in
-      let own = seen_alone (items scene) area object.handle in
-      let inner = walked (place scene) (items scene) area cs in
-      fold-append (paint_seen x y) under own (inner ++ walked (place scene) (items scene) clip rest)
-      ∙ (fold-append (paint_seen x y) (fold (paint_seen x y) under own) inner (walked (place scene) (items scene) clip rest)
+      let own = seen_alone (coats scene) area object.handle in
+      let inner = walked (place scene) (coats scene) area cs in
+      fold-append (paint_seen x y) under own (inner ++ walked (place scene) (coats scene) clip rest)
+      ∙ (fold-append (paint_seen x y) (fold (paint_seen x y) under own) inner (walked (place scene) (coats scene) clip rest)
       ∙ rw (walked-painted clip rest, walked-painted area cs, own-seen area object under, holds-seen_of clip object) refl)
 
   pub painted-unseen : (trees : Forest Object) (under : Rgb565) → painted scene x y false trees under ≡ under

@@ -1,28 +1,34 @@
 -- How trees are painted one after another.
-use Rattle.std.proofs.Common.{◌≡◌, ◌∙◌, ◌<◌, refl, sym, ap, subst, ℕ, ℤ, Bool, true, false, not, ◌&&◌, if◌then◌else◌, Option, Some, None, option_map, fold, eqb, [], ◌∷◌, arith}
+use Rattle.std.proofs.Common.{◌≡◌, ◌∙◌, ◌<◌, refl, sym, ap, subst, ℕ, ℤ, Bool, true, false, not, ◌&&◌, if◌then◌else◌, Option, Some, None, option_map, fold, eqb, List, map, arith}
 use Rattle.std.proofs.lemmas.Bool.Decides.{nat_tests}
 use Rattle.gui_base.specs.declared.color.Rgb565.{Rgb565}
+use Rattle.gui_base.specs.declared.props.Prop.TheVariants.{TextFont}
 use Rattle.gui_base.specs.declared.words.Part.TheVariants.{Main}
 use Rattle.gui_base.specs.Area.{Rect, has}
-use Rattle.gui_base.specs.Coats.{Coat, Dab, laid, within}
+use Rattle.gui_base.specs.Coats.{Coat}
 use Rattle.gui_base.specs.declared.Handle.{Handle}
 use Rattle.gui_base.specs.Forest.{Forest, Empty, Tree, size, tree_by, first_root, children_by, children_of, next_by, next_to}
 use Rattle.gui_base.proofs.Forests.{map-children_by, map-first_root, map-next_by}
 use Rattle.gui_base.proofs.Visits.{HasCome, GoesOn, walk_begins, walk_goes_on, trees_from, tree-opens, name_of}
 use Rattle.gui_color.specs.Buffer.{Buffer, pixel_at}
-use Rattle.gui_draw.specs.Drawing.{Draws}
 use Rattle.scene_defs.specs.declared.Row.{Row}
 use Rattle.gui_tree.specs.Handles.{as_handle}
 use Rattle.gui_base.specs.declared.words.Flag.TheVariants.{Hidden}
-use Rattle.scene_defs.specs.Row.{is_on}
-use Rattle.scene_defs.specs.Scene.{Object, Scene, handle_of, handles_of, is_at, is_there, object_by, row_at, row_of, value}
+use Rattle.scene_defs.specs.Row.{is_on, shown_row}
+use Rattle.scene_defs.specs.Scene.{Object, Scene, handle_of, handles_of, is_at, is_there, object_at, object_by, row_at, row_of, value}
 use Rattle.scene_defs.specs.Place.{panel_of, place}
 use Rattle.scene_defs.specs.Visible.{holds}
-use Rattle.scene_defs.specs.Items.{Item, coat_of, fill_of, items, paint_item, ring_of}
+use Rattle.scene_defs.specs.Items.{chars_of, coat_in, coats, items_of, lay}
+use Rattle.scene_defs.specs.Looks.{look_of}
 use Rattle.scene_defs.specs.Valid.{IsValid}
 use Rattle.scene_defs.proofs.Distinct.{distinct_once, there}
 use Rattle.scene_defs.proofs.Handles.{has-handles}
-use Rattle.gui_paint.specs.Painting.{Painting, Leaves, Paints, IsSeenPart, IsUnseen, no_more, is_seen, painted, painted_item, painted_object, painted_tree, painted_scene}
+use Rattle.text_defs.specs.Fonts.{Font}
+use Rattle.text_defs.specs.Images.{Image}
+use Rattle.widget_defs.specs.Items as widget
+use Rattle.widget_defs.specs.Items.{Item}
+use Rattle.widget_defs.specs.Looks.{Look}
+use Rattle.gui_paint.specs.Painting.{Painting, Leaves, Paints, IsSeenPart, IsUnseen, no_more, is_seen, painted, painted_coats, painted_object, painted_tree, painted_scene}
 use Rattle.gui_paint.proofs.Painted.{painted-unseen, three_trees}
 
 -- nothing is painted
@@ -45,33 +51,6 @@ leaves_less p q own later h = record { area_stays = h.area_stays; limit_stays = 
 pub leaves_same : (p q : Buffer) (a b c : Painting) → ((x y : ℤ) → has p.area x y ≡ true → a x y (pixel_at p x y) ≡ b x y (pixel_at p x y)) → Leaves p q a c → Leaves p q b c
 leaves_same p q a b c same h = record { area_stays = h.area_stays; limit_stays = h.limit_stays; pixels = λ x y i. h.pixels x y i ∙ same x y i }
 
--- an item where its object is seen
-laid_if : (seen : Bool) (d : Option Dab) (under : Rgb565) → laid (if seen then d else None) under ≡ (if seen then laid d under else under)
-laid_if true d under = refl
-laid_if false d under = refl
-
-pub paints_item : (old new : Buffer) (from to : ℕ) (visible : Rect) (item : Item) (coat : Coat) → coat ≡ coat_of item.area item.paint → Draws old new from to (within visible coat) → Paints old new (painted_item visible item)
-paints_item old new from to visible item coat is h =
-    record { area_stays = h.area_stays; limit_stays = h.limit_stays; pixels = λ x y i. rw (← is) (h.pixels x y i ∙ laid_if (has visible x y) (coat x y) (pixel_at old x y)) }
-
--- the fill of an object, and then its ring
-one_by_one : (seen : Bool) (paint : Rgb565 → Item → Rgb565) (a b : Item) (under : Rgb565) → (if seen then paint (if seen then paint under a else under) b else (if seen then paint under a else under)) ≡ (if seen then fold paint under (a ∷ b ∷ []) else under)
-one_by_one true paint a b under = refl
-one_by_one false paint a b under = refl
-
-pub paints_object : (old mid new : Buffer) (scene : Scene) (visible area : Rect) (h : ℕ) → place scene h ≡ Some area →
-    Paints old mid (painted_item visible (fill_of area (value scene h Main))) → Paints mid new (painted_item visible (ring_of area (value scene h Main))) → Paints old new (painted_object scene visible h)
-paints_object old mid new scene visible area h at first second =
-    let inside = fill_of area (value scene h Main) in
-    let border = ring_of area (value scene h Main) in
-    leaves_same old new (λ x y under. painted_item visible border x y (painted_item visible inside x y under)) (painted_object scene visible h) no_more
-    (λ x y i. rw at (one_by_one (has visible x y) (paint_item x y) inside border (pixel_at old x y)))
-    (leaves_then old mid new _ (painted_item visible border) no_more (leaves_less old mid (painted_item visible inside) (painted_item visible border) first) second)
-
--- the trees from `next` on, where the clip is what is seen of their parent
-abbrev pub painted_from : Scene → Rect → Option Handle → Painting
-painted_from scene clip next x y under = painted scene x y (has clip x y) (trees_from handle_of next scene.trees) under
-
 -- an object is the root of its tree
 object_root : (test : Object → Bool) (f : Forest Object) → object_by test f ≡ first_root (tree_by test f)
 object_root test Empty = refl
@@ -81,14 +60,51 @@ object_named : (f : Forest Object) (h : ℕ) (o : Object) → object_by (is_at h
 object_named Empty h o e = cc
 object_named (Tree object cs rest) h o e = grind (arith, nat_tests, object_named cs h o, object_named rest h o)
 
+-- what an object lays, by its look and its place
+coats_are : (scene : Scene) (area : Rect) (look : Look) (object : Option Object) → Some look ≡ option_map (look_of scene) object →
+    map (coat_in scene.fonts scene.images look.text) (widget.items look area) ≡ map (coat_in scene.fonts scene.images (chars_of object)) (items_of scene object (Some area))
+coats_are scene area look None is = cc
+coats_are scene area look (Some object) is =
+    let same : look ≡ look_of scene object = cc in
+    ap (λ (l : Look). map (coat_in scene.fonts scene.images l.text) (widget.items l area)) same
+
+-- its items are painted
+pub paints_object : (old new : Buffer) (scene : Scene) (visible area : Rect) (h : ℕ) (look : Look) (fonts : List Font) (images : List Image) (items : List Item) →
+    Some look ≡ option_map (look_of scene) (object_at scene h) → place scene h ≡ Some area → fonts ≡ scene.fonts → images ≡ scene.images → items ≡ widget.items look area →
+    Paints old new (painted_coats visible (map (coat_in fonts images look.text) items)) → Paints old new (painted_object scene visible h)
+paints_object old new scene visible area h look fonts images items is at fonts_are images_are items_are paints =
+    let laid = λ (f : List Font) (i : List Image) (l : List Item). map (coat_in f i look.text) l in
+    let by_place = λ (p : Option Rect). map (coat_in scene.fonts scene.images (chars_of (object_at scene h))) (items_of scene (object_at scene h) p) in
+    let same : laid fonts images items ≡ coats scene h = rw (fonts_are, images_are, items_are) (coats_are scene area look (object_at scene h) is ∙ ap by_place (sym at)) in
+    subst (λ (l : List Coat). Paints old new (painted_coats visible l)) same paints
+
+-- the value of its font is that of its main part
+pub font_is : (scene : Scene) (h : ℕ) (look : Look) → Some look ≡ option_map (look_of scene) (object_at scene h) → look.main TextFont ≡ value scene h Main TextFont
+font_is scene h look is = go (object_at scene h) refl is
+  where
+    go : (o : Option Object) → object_at scene h ≡ o → Some look ≡ option_map (look_of scene) o → look.main TextFont ≡ value scene h Main TextFont
+    go None e i = cc
+    go (Some object) e i =
+        let same : look ≡ look_of scene object = cc in
+        ap (λ (l : Look). l.main TextFont) same ∙ ap (λ (k : ℕ). value scene k Main TextFont) (object_named scene.trees h object e)
+
+-- the trees from `next` on, where the clip is what is seen of their parent
+abbrev pub painted_from : Scene → Rect → Option Handle → Painting
+painted_from scene clip next x y under = painted scene x y (has clip x y) (trees_from handle_of next scene.trees) under
+
 -- an object that has a row is there
 row_there : (f : Forest Object) (h : ℕ) (row : Row) → Some row ≡ option_map row_of (object_by (is_at h) f) → there f h ≡ true
 row_there Empty h row is = cc
 row_there (Tree object cs rest) h row is = grind (arith, nat_tests, row_there cs h row, row_there rest h row)
 
+-- the object that has a row
+object_with : (o : Option Object) (row : Row) → Some row ≡ option_map row_of o → (object : Object) × (o ≡ Some object) × (object.row ≡ row)
+object_with None row is = cc
+object_with (Some object) row is = (object, refl, cc)
+
 module _ (scene : Scene) (h : ℕ) where
-  pub is_there_row : (row : Row) → Some row ≡ row_at scene h → is_there scene h ≡ true
-  is_there_row row is = has-handles scene.trees h ∙ row_there scene.trees h row is
+  pub is_there_row : (row : Row) → Some (shown_row row) ≡ row_at scene h → is_there scene h ≡ true
+  is_there_row row is = has-handles scene.trees h ∙ row_there scene.trees h (shown_row row) is
 
   pub no_tree : None ≡ row_at scene h → tree_by (is_at h) scene.trees ≡ Empty
   no_tree none = go (tree_by (is_at h) scene.trees) (object_root (is_at h) scene.trees)
@@ -97,19 +113,9 @@ module _ (scene : Scene) (h : ℕ) where
       go Empty e = refl
       go (Tree a cs rest) e = let n : None ≡ option_map row_of (Some a) = rw e at none in cc
 
-  -- a tree by its root's row
-  tree_is : (row : Row) → Some row ≡ row_at scene h → tree_by (is_at h) scene.trees ≡ Tree (record { handle = h; row = row }) (children_by (is_at h) scene.trees) Empty
-  tree_is row is = go (object_by (is_at h) scene.trees) refl is
-    where
-      same : (o : Object) → o.handle ≡ h → row ≡ o.row → o ≡ record { handle = h; row = row }
-      same o p q = rw (← p, q) refl
-
-      go : (o : Option Object) → object_by (is_at h) scene.trees ≡ o → Some row ≡ option_map row_of o → tree_by (is_at h) scene.trees ≡ Tree (record { handle = h; row = row }) (children_by (is_at h) scene.trees) Empty
-      go None e i = cc
-      go (Some o) e i =
-          let q : row ≡ o.row = cc in
-          tree-opens handle_of scene.trees h o (sym (object_root (is_at h) scene.trees) ∙ e)
-          ∙ ap (λ (a : Object). Tree a (children_by (is_at h) scene.trees) Empty) (same o (object_named scene.trees h o e) q)
+  -- a tree by its root
+  tree_is : (object : Object) → object_at scene h ≡ Some object → tree_by (is_at h) scene.trees ≡ Tree object (children_by (is_at h) scene.trees) Empty
+  tree_is object is = tree-opens handle_of scene.trees h object (sym (object_root (is_at h) scene.trees) ∙ is)
 
 -- the walkers of a tree of handles, over objects
 named : (o : Option Object) → option_map as_handle (option_map handle_of o) ≡ name_of handle_of o
@@ -130,49 +136,49 @@ walk_starts scene h forest first valid same is =
     walk_begins handle_of scene.trees h first (distinct_once scene.trees valid.trees.once)
     (is ∙ (ap (λ (f : Forest ℕ). option_map as_handle (first_root (children_of f h))) same ∙ first_named scene.trees h))
 
--- what painting an object and all below it comes to
-tree_painted : (scene : Scene) (clip : Rect) (h : ℕ) (row : Row) (area : Rect) (x y : ℤ) (under : Rgb565) → Some row ≡ row_at scene h → place scene h ≡ Some area →
-    painted_tree scene clip h x y under ≡
-    painted scene x y (has clip x y && is_seen row (has area x y)) (children_by (is_at h) scene.trees)
-    (if has clip x y && is_seen row (has area x y) then fold (paint_item x y) under (items scene h) else under)
-tree_painted scene clip h row area x y under is at =
-    let by : Option Rect → Rgb565 = λ (p : Option Rect).
-    let here = has clip x y && is_seen row (holds p x y) in
-    painted scene x y here (children_by (is_at h) scene.trees) (if here then fold (paint_item x y) under (items scene h) else under) in
-    ap (λ (t : Forest Object). painted scene x y (has clip x y) t under) (tree_is scene h row is) ∙ ap by at
+-- What painting an object and all below it comes to, where it is known whether it is seen.
+module _ (scene : Scene) (clip : Rect) (h : ℕ) (x y : ℤ) (under : Rgb565) where
+  abbrev painted_where : Bool → Rgb565
+  painted_where here = painted scene x y here (children_by (is_at h) scene.trees) (if here then fold (lay x y) under (coats scene h) else under)
+
+  tree_painted : (row : Row) → Some (shown_row row) ≡ row_at scene h →
+      painted_tree scene clip h x y under ≡ painted_where (has clip x y && is_seen row (holds (place scene h) x y))
+  tree_painted row is =
+      let found = object_with (object_at scene h) (shown_row row) is in
+      let object = found.0 in
+      let by = λ (k : ℕ) (r : Row).
+      let here = has clip x y && is_seen r (holds (place scene k) x y) in
+      painted scene x y here (children_by (is_at h) scene.trees) (if here then fold (lay x y) under (coats scene k) else under) in
+      ap (λ (t : Forest Object). painted scene x y (has clip x y) t under) (tree_is scene h object found.1)
+      ∙ (ap (λ (k : ℕ). by k object.row) (object_named scene.trees h object found.1) ∙ ap (by h) found.2)
+
+  painted_at : (row : Row) (area : Option Rect) (here : Bool) → Some (shown_row row) ≡ row_at scene h → place scene h ≡ area → (has clip x y && is_seen row (holds area x y)) ≡ here →
+      painted_tree scene clip h x y under ≡ painted_where here
+  painted_at row area here is at seen = tree_painted row is ∙ (ap (λ (p : Option Rect). painted_where (has clip x y && is_seen row (holds p x y))) at ∙ ap painted_where seen)
 
 -- an object of which nothing is seen
-pub unseen_tree : (scene : Scene) (clip : Rect) (h : ℕ) (row : Row) (area : Rect) (x y : ℤ) (under : Rgb565) → Some row ≡ row_at scene h → place scene h ≡ Some area → IsUnseen clip row area →
+pub unseen_tree : (scene : Scene) (clip : Rect) (h : ℕ) (row : Row) (area : Rect) (x y : ℤ) (under : Rgb565) → Some (shown_row row) ≡ row_at scene h → place scene h ≡ Some area → IsUnseen clip row area →
     painted_tree scene clip h x y under ≡ under
 unseen_tree scene clip h row area x y under is at unseen =
-    tree_painted scene clip h row area x y under is at
-    ∙ (ap (λ (here : Bool). painted scene x y here (children_by (is_at h) scene.trees) (if here then fold (paint_item x y) under (items scene h) else under)) (unseen.pixels x y)
-    ∙ painted-unseen scene x y (children_by (is_at h) scene.trees) under)
+    painted_at scene clip h x y under row (Some area) false is at (unseen.pixels x y) ∙ painted-unseen scene x y (children_by (is_at h) scene.trees) under
 
 -- an object that stands nowhere
 nowhere : (clip hidden : Bool) → (clip && (not hidden && false)) ≡ false
 nowhere clip hidden = grind arith
 
-pub placeless_tree : (scene : Scene) (clip : Rect) (h : ℕ) (row : Row) (x y : ℤ) (under : Rgb565) → Some row ≡ row_at scene h → place scene h ≡ None →
+pub placeless_tree : (scene : Scene) (clip : Rect) (h : ℕ) (row : Row) (x y : ℤ) (under : Rgb565) → Some (shown_row row) ≡ row_at scene h → place scene h ≡ None →
     painted_tree scene clip h x y under ≡ under
 placeless_tree scene clip h row x y under is none =
-    let by : Option Rect → Rgb565 = λ (p : Option Rect).
-    let here = has clip x y && is_seen row (holds p x y) in
-    painted scene x y here (children_by (is_at h) scene.trees) (if here then fold (paint_item x y) under (items scene h) else under) in
-    ap (λ (t : Forest Object). painted scene x y (has clip x y) t under) (tree_is scene h row is)
-    ∙ (ap by none
-    ∙ (ap (λ (here : Bool). painted scene x y here (children_by (is_at h) scene.trees) (if here then fold (paint_item x y) under (items scene h) else under)) (nowhere (has clip x y) (is_on row.flags Hidden))
-    ∙ painted-unseen scene x y (children_by (is_at h) scene.trees) under))
+    painted_at scene clip h x y under row None false is none (nowhere (has clip x y) (is_on row.flags Hidden)) ∙ painted-unseen scene x y (children_by (is_at h) scene.trees) under
 
 -- an object where it is seen, and then all below it
-pub seen_tree : (old mid new : Buffer) (scene : Scene) (clip visible : Rect) (h : ℕ) (row : Row) (area : Rect) (first : Option Handle) → Some row ≡ row_at scene h → place scene h ≡ Some area → IsSeenPart clip row area visible →
+pub seen_tree : (old mid new : Buffer) (scene : Scene) (clip visible : Rect) (h : ℕ) (row : Row) (area : Rect) (first : Option Handle) → Some (shown_row row) ≡ row_at scene h → place scene h ≡ Some area → IsSeenPart clip row area visible →
     trees_from handle_of first scene.trees ≡ children_by (is_at h) scene.trees → Paints old mid (painted_object scene visible h) → Leaves mid new (painted_from scene visible first) no_more → Paints old new (painted_tree scene clip h)
 seen_tree old mid new scene clip visible h row area first is at seen from own below =
     leaves_same old new (λ x y under. painted_from scene visible first x y (painted_object scene visible h x y under)) (painted_tree scene clip h) no_more (λ x y i.
     let under = pixel_at old x y in
     ap (λ (t : Forest Object). painted scene x y (has visible x y) t (painted_object scene visible h x y under)) from
-    ∙ (ap (λ (here : Bool). painted scene x y here (children_by (is_at h) scene.trees) (if here then fold (paint_item x y) under (items scene h) else under)) (seen.pixels x y)
-    ∙ sym (tree_painted scene clip h row area x y under is at)))
+    ∙ sym (painted_at scene clip h x y under row (Some area) (has visible x y) is at (sym (seen.pixels x y))))
     (leaves_then old mid new _ (painted_from scene visible first) no_more (leaves_less old mid (painted_object scene visible h) (painted_from scene visible first) own) below)
 
 -- a child, and the trees after it
@@ -183,8 +189,10 @@ module _ (scene : Scene) (h : ℕ) (child : Handle) (valid : IsValid scene) (com
   on : GoesOn handle_of scene.trees h child (name_of handle_of (next_by (is_at child.0) scene.trees))
   on = goes (name_of handle_of (next_by (is_at child.0) scene.trees)) refl
 
-  pub child_small : (row : Row) → Some row ≡ row_at scene h → size (tree_by (is_at child.0) scene.trees) < size (tree_by (is_at h) scene.trees)
-  child_small row is = rw (on.tree, tree_is scene h row is) (omega (arith, on.small))
+  pub child_small : (row : Row) → Some (shown_row row) ≡ row_at scene h → size (tree_by (is_at child.0) scene.trees) < size (tree_by (is_at h) scene.trees)
+  child_small row is =
+      let found = object_with (object_at scene h) (shown_row row) is in
+      rw (on.tree, tree_is scene h found.0 found.1) (omega (arith, on.small))
 
   module _ (forest : Forest ℕ) (next : Option Handle) (same : forest ≡ handles_of scene.trees) (is : next ≡ option_map as_handle (next_to forest child.0)) where
     gone : GoesOn handle_of scene.trees h child next

@@ -1,1 +1,2 @@
+pub mod Paintable
 pub mod Painting

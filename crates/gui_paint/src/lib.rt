@@ -1,8 +1,8 @@
 //! The picture of a scene: what is shown of it, back to front.
 #![tactic(auto)]
 
+mod items;
 mod paint;
 mod shown;
-mod values;
 
 pub use shown::Shown;

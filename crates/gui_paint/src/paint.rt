@@ -1,21 +1,23 @@
 //! Painting a scene into a draw buffer.
-ghost use Rattle.std.specs.Prelude.{◌≡◌, true, MatchOption, Some};
+ghost use Rattle.std.specs.Prelude.{◌≡◌, ◌≤◌, true, MatchOption, Some};
+ghost use Rattle.gui_base.specs.Area.{width_of};
 ghost use Rattle.gui_base.specs.Corners.{rect_of};
-ghost use Rattle.gui_base.specs.declared.words.Part.TheVariants.{Main};
-ghost use Rattle.scene_defs.specs.Items.{fill_of, ring_of};
+ghost use Rattle.layout_defs.specs.Reach.{IsNear};
 ghost use Rattle.scene_defs.specs.Place.{place as place_of};
-ghost use Rattle.scene_defs.specs.Scene.{is_there, value};
+ghost use Rattle.scene_defs.specs.Scene.{is_there};
 ghost use Rattle.scene_defs.specs.Valid.{IsValid};
 ghost use Rattle.gui_store.specs.Views.{scene_of};
-ghost use Rattle.gui_paint.specs.Painting.{Paints, IsSeenPart, IsUnseen, painted_item, painted_object};
+ghost use Rattle.gui_paint.specs.Painting.{Paints, IsSeenPart, IsUnseen, painted_object};
 ghost use Rattle.gui_paint.specs.Painting.{painted_tree, painted_scene};
 
+use crate::items::paint_items;
 use crate::shown::Shown;
-use crate::values::{color, number};
-use gui_base::{Area, Flag, Handle, Prop, Steps};
+use arrayvec::ArrayVec;
+use gui_base::{Area, Flag, Handle, Steps};
 use gui_color::DrawBuf;
-use gui_draw::{Picture, fill, ring};
-use gui_store::{Row, Store};
+use gui_draw::Picture;
+use gui_store::Row;
+use gui_widgets::items;
 use std::sync::ledger::Ledger;
 
 /// The layer above the active screen.
@@ -67,7 +69,7 @@ fn paint_tree<L: Ledger>(
     let Some(visible) = seen_part(row, clip, place) else {
         return;
     };
-    paint_object(store, buf, visible, place, h, steps);
+    paint_object(shown, buf, visible, place, h, steps);
     let Some(first) = tree.first_child(h) else {
         return;
     };
@@ -90,57 +92,34 @@ fn seen_part(row: &Row, clip: Area, place: Area) -> Option<Area>
     if part.is_empty() { None } else { Some(part) }
 }
 
-/// Paints the items of an object where they are seen: the fill of its place, and the ring of its border.
+/// Paints the items of an object where they are seen.
 fn paint_object<L: Ledger>(
-    store: &Store,
+    shown: &Shown,
     buf: &mut DrawBuf,
     visible: Area,
     place: Area,
     h: Handle,
     steps: &mut Steps<L>,
 )
-    requires valid { IsValid (scene_of store.now) }
-    requires there { is_there (scene_of store.now) h.0 ≡ true }
-    requires place { place_of (scene_of store.now) h.0 ≡ Some (rect_of place) }
-    ensures { Paints buf.old buf.new (painted_object (scene_of store.now) (rect_of visible) h.0) }
-{
-    paint_fill(store, buf, visible, place, h, steps);
-    paint_border(store, buf, visible, place, h, steps);
-}
-
-fn paint_fill<L: Ledger>(
-    store: &Store,
-    buf: &mut DrawBuf,
-    visible: Area,
-    place: Area,
-    h: Handle,
-    steps: &mut Steps<L>,
-)
-    requires valid { IsValid (scene_of store.now) }
-    requires there { is_there (scene_of store.now) h.0 ≡ true }
+    requires valid { IsValid (scene_of shown.now.store.now) }
+    requires there { is_there (scene_of shown.now.store.now) h.0 ≡ true }
+    requires place { place_of (scene_of shown.now.store.now) h.0 ≡ Some (rect_of place) }
+    requires near { IsNear (rect_of place) }
+    requires narrow { width_of (rect_of place) ≤ 8191 }
     ensures { Paints buf.old buf.new
-        (painted_item (rect_of visible) (fill_of (rect_of place) (value (scene_of store.now) h.0 Main))) }
+        (painted_object (scene_of shown.now.store.now) (rect_of visible) h.0) }
 {
-    let fg = color(store, h, Prop::BgColor);
-    let opa = number(store, h, Prop::BgOpa) as u8;
-    fill(buf, visible, place, fg, opa, steps);
-}
-
-fn paint_border<L: Ledger>(
-    store: &Store,
-    buf: &mut DrawBuf,
-    visible: Area,
-    place: Area,
-    h: Handle,
-    steps: &mut Steps<L>,
-)
-    requires valid { IsValid (scene_of store.now) }
-    requires there { is_there (scene_of store.now) h.0 ≡ true }
-    ensures { Paints buf.old buf.new
-        (painted_item (rect_of visible) (ring_of (rect_of place) (value (scene_of store.now) h.0 Main))) }
-{
-    let width = number(store, h, Prop::BorderWidth) as u8;
-    let fg = color(store, h, Prop::BorderColor);
-    let opa = number(store, h, Prop::BorderOpa) as u8;
-    ring(buf, visible, place, width, fg, opa, steps);
+    let store = shown.store;
+    let mut text = ArrayVec::new();
+    let look = shown.places.look(store, h, &mut text);
+    let items = items(&look, place);
+    paint_items(
+        buf,
+        visible,
+        items.as_slice(),
+        store.fonts(),
+        store.images(),
+        look.text,
+        steps,
+    );
 }

@@ -1,5 +1,7 @@
 pub mod AllocSteps
 pub mod Calls
+pub mod Chained
+pub mod Cuts
 pub mod Entries
 pub mod FreeList
 pub mod Keys

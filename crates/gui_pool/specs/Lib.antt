@@ -3,12 +3,15 @@ pub mod BlockLends
 pub mod BucketsLends
 pub mod Cell
 pub mod Entries
+pub mod KeptTexts
 pub mod Lists
 pub mod Memory
 pub mod MemoryLends
 pub mod Owners
+pub mod Pieces
 pub mod Runs
 pub mod SlabLends
 pub mod Slots
 pub mod Table
 pub mod TableLends
+pub mod Texts

@@ -1,5 +1,5 @@
 -- The parts of a store after each change that is done.
-use Rattle.gui_store.proofs.Common.{Ok, Err, ◌≡◌, ◌<◌, ◌≤◌, ◌∙◌, sym, ap, subst, ℕ, zero, suc, ◌+◌, ◌-◌, Bool, true, false, length, slice_set, List, Option, Some, None, is_some, option_map, refl, arith, length-set, nat_eq, eqb-true, ◌++◌, [], ◌∷◌, cond, eqb, if◌then◌else◌, OnOk, OnErr, nat_tests, get_or-set_same, POOLS, Handle, Objects, StyleSlots, Entries, Uses, AreAssetSlots, IsBuilt, AreBuilt, full_for_assets, AssetChange, asset_change_of, FontSet, ImageSet, no_fonts, no_images, FontSlots, Glyphs, Ink, ImageSlots, Pixels, Full, Refusal, Forest, Empty, Tree, and_then, leaf, put_at, has, size, count, preorder, cut, cut_by, tree_at, parent_of, with_children_by, Bounds, Test, first_of, result_of, root_tests, child_tests, removal_tests, move_tests, parent_tests, map-and_then, map-size, map-cut_by, map-tree_by, map-parent_by, map-added_by, map-moved_by, map-moved_last_by, count-has, Table, value_at, value_inserted, value_replaced, numbers, Answer, full_answer, Trees, opened, add_root_answer, add_answer, remove_answer, move_answer, set_parent_answer, with_root, with_child, at_index, below, moved_below, without_tree, Change, is_in_range, is_there, Object, Scene, is_at, handles_of, spare, new_row, new_object, first_scene, is_screen_kind, answer_in_range, tests, first_short, scene_after, tree_below, all_below, parent_object, at_index_below, last_below, row_after, over_row, row_set, setter_of, need_of, freed_by, IsValid, IsChange, is_root_at, tests-fail, room_in_range, none_short, first-then, first-some, sets_row_alone, total, total-cut, total-parts, one, one_at, size-total, added_sum, removed_sum, first_is_valid, set_sums, Row, row_in, object_in, HaveRows, rows_without, removed_after, Styles, Styling, styling_of, AreSlots, IsStyled, full_for, Book, entries_in, uses_in, Parts, scene_in, AreKept, on_ok_weaker, on_err_weaker, locals_of, uses_of, no_lists, empty_book, ext_get_or, all_forgotten, book_without, object_tests, need_by, freed_by_styling, named_by, IsRestyled, Place, refusal_of}
+use Rattle.gui_store.proofs.Common.{Ok, Err, ◌≡◌, ◌<◌, ◌≤◌, ◌∙◌, sym, ap, subst, ℕ, zero, suc, ◌+◌, ◌-◌, Bool, true, false, length, slice_set, List, Option, Some, None, is_some, option_map, refl, arith, length-set, nat_eq, eqb-true, ◌++◌, [], ◌∷◌, cond, eqb, if◌then◌else◌, OnOk, OnErr, nat_tests, get_or-set_same, POOLS, Handle, Objects, StyleSlots, Entries, Uses, AreAssetSlots, IsBuilt, AreBuilt, full_for_assets, AssetChange, asset_change_of, FontSet, ImageSet, no_fonts, no_images, FontSlots, Glyphs, Ink, ImageSlots, Pixels, Full, Refusal, Forest, Empty, Tree, and_then, leaf, put_at, has, size, count, preorder, cut, cut_by, tree_at, parent_of, with_children_by, Bounds, Test, first_of, result_of, root_tests, child_tests, removal_tests, move_tests, parent_tests, map-and_then, map-size, map-cut_by, map-tree_by, map-parent_by, map-added_by, map-moved_by, map-moved_last_by, count-has, Table, value_at, value_inserted, value_replaced, numbers, Answer, full_answer, Trees, opened, add_root_answer, add_answer, remove_answer, move_answer, set_parent_answer, with_root, with_child, at_index, below, moved_below, without_tree, Change, is_in_range, is_there, Object, Scene, is_at, handles_of, spare, new_row, new_object, first_scene, is_screen_kind, answer_in_range, tests, first_short, scene_after, tree_below, all_below, parent_object, at_index_below, last_below, row_after, over_row, row_set, setter_of, need_of, freed_by, IsValid, IsChange, is_root_at, tests-fail, room_in_range, none_short, first-then, first-some, sets_row_alone, total, total-cut, total-parts, one, one_at, size-total, added_sum, removed_sum, first_is_valid, set_sums, Row, KeptRow, RowSet, chunks_at, chunks_of, inl, inr, ◌⊎◌, one_short, new_kept, kept_in, row_in, row_shown, object_of, object_in, HaveRows, set_without, Texts, unwrap_or, removed_after, Styles, Styling, styling_of, AreSlots, IsStyled, full_for, Book, entries_in, uses_in, Parts, scene_in, AreKept, on_ok_weaker, on_err_weaker, locals_of, uses_of, no_lists, empty_book, ext_get_or, all_forgotten, book_without, object_tests, need_by, freed_by_styling, named_by, IsRestyled, Place, refusal_of}
 use Rattle.gui_base.specs.declared.limits.Pool.{Pool}
 use Rattle.style_defs.specs.Book as book
 use Rattle.style_defs.proofs.Empty.{empty_in_order, empty_bare, no_entries, no_uses}
@@ -7,12 +7,18 @@ use Rattle.style_defs.proofs.Changing.{all_forgets}
 use Rattle.gui_store.proofs.Calls.{forgets}
 use Rattle.gui_base.specs.declared.refusal.Refusal.TheVariants as refusal
 use Rattle.gui_base.specs.declared.words.Kind.{Kind}
-use Rattle.gui_base.specs.declared.words.Kind.TheVariants.{Screen, Layer}
+use Rattle.gui_base.specs.declared.words.Kind.TheVariants.{Screen, Layer, Obj}
+use Rattle.scene_defs.specs.Scene.{chunks_in}
+use Rattle.gui_pool.specs.Texts.{need_of as need_of_text}
+use Rattle.gui_rows.specs.Rows.{with_text}
+use Rattle.scene_defs.specs.declared.Feature.TheVariants.{Text}
+use Rattle.scene_defs.specs.Row.{has_feature}
+use Rattle.scene_defs.specs.Change.{lacks, text_at, text_of, over_text}
 use Rattle.scene_defs.specs.declared.Change.TheVariants as change
 use Rattle.scene_defs.proofs.Handles.{has-handles}
 use Rattle.scene_defs.proofs.RowKinds.{root_there}
 use Rattle.scene_defs.proofs.Distinct.{distinct_once}
-use Rattle.gui_store.proofs.Rows.{row_count, times, times-preorder, length-preorder, value-set, inserted-count, replaced-count, have-rows, without-count, without-spare, without-handles}
+use Rattle.gui_store.proofs.Rows.{row_count, times, times-preorder, length-preorder, value-set, inserted-count, replaced-count, have-rows, without-count, without-spare, without-handles, without-set, without-texts, listed-forest}
 use Rattle.gui_store.proofs.Shown.{shown, shown-handles, shown-count, shown-aside, shown-set, shown-without}
 use Rattle.gui_store.proofs.Kept.{read-on, read-off, Left, answered, done, there-is, object-is, read-at, within, vacant, counted, tree-answer, Fine}
 
@@ -50,6 +56,10 @@ last-alike test n t (Tree row cs rest) few =
     let a = last-alike test n t cs (omega arith) in
     let b = last-alike test n t rest (omega arith) in rw (a, b, put_at-last n t cs (omega arith)) refl
 
+-- the rows and texts of the parts
+abbrev pub set_of : Parts → RowSet
+set_of p = record { rows = p.rows; spare_texts = p.spare_texts }
+
 module _ (p : Parts) (k : AreKept p) where
   -- what each edit of the tree answers
   pub screen-answer : (n : Handle) → result_of (answer_in_range (scene_in p) (change.Screen n)) ≡ add_root_answer p.tree n.0
@@ -70,10 +80,10 @@ module _ (p : Parts) (k : AreKept p) where
       let on = has-handles (scene_in p).trees h.0 ∙ root_there (scene_in p).trees h.0 root in rw (on, same) (grind arith)
 
   -- a load of what is not there, and of a row that is read
-  pub load-absent : (h : Handle) → None ≡ value_at p.rows h.0 → answer_in_range (scene_in p) (change.Load h) ≡ Some refusal.Unknown
+  pub load-absent : (h : Handle) → None ≡ row_shown p.rows h.0 → answer_in_range (scene_in p) (change.Load h) ≡ Some refusal.Unknown
   load-absent h e = rw (there-is p h.0 ∙ read-off p k h.0 e) refl
 
-  pub load-answer : (h : Handle) (row : Row) (b : Bool) → Some row ≡ value_at p.rows h.0 → is_screen_kind row.kind ≡ b →
+  pub load-answer : (h : Handle) (row : Row) (b : Bool) → Some row ≡ row_shown p.rows h.0 → is_screen_kind row.kind ≡ b →
       answer_in_range (scene_in p) (change.Load h) ≡ (if b then None else Some refusal.Kind)
   load-answer h row b read is =
       let none = none_short (scene_in p) (change.Load h) POOLS (λ q. refl) in
@@ -85,48 +95,49 @@ module _ (p : Parts) (k : AreKept p) where
   with_trees e = ap (λ (t : Forest Object). record (scene_in p) { trees = t }) e
 
   -- one object more, whose handle may be given a row
-  grown_by : (change : Change) (n : ℕ) (row : Row) (kind : Kind) (g : Forest ℕ) → answer_in_range (scene_in p) change ≡ None →
-      n < 10000 → row ≡ new_row kind → is_there (scene_in p) n ≡ false →
-      ((rows : Table Row) → shown rows p.tree.forest ≡ (scene_in p).trees → object_in rows n ≡ new_object n kind →
+  grown_by : (change : Change) (n : ℕ) (kind : Kind) (g : Forest ℕ) → answer_in_range (scene_in p) change ≡ None →
+      n < 10000 → is_there (scene_in p) n ≡ false →
+      ((rows : Table KeptRow) → shown rows p.tree.forest ≡ (scene_in p).trees → object_in rows n ≡ new_object n kind →
       record (scene_in p) { trees = shown rows g } ≡ scene_after (scene_in p) change) →
       ((w : Object → ℕ) → added_sum (scene_in p) change w ≡ w (new_object n kind) + removed_sum (scene_in p) change w) →
       need_of (scene_in p) change Objects ≡ freed_by (scene_in p) change Objects + 1 →
+      need_of (scene_in p) change Texts ≡ freed_by (scene_in p) change Texts →
       AreSlots p.styles p.styles (need_of (scene_in p) change) (freed_by (scene_in p) change) →
       AreAssetSlots p.fonts p.fonts p.images p.images (need_of (scene_in p) change) (freed_by (scene_in p) change) →
       p.tree.removed ≡ removed_after p.tree.removed (scene_in p) change →
-      Fine p change (record p { tree = record p.tree { forest = g; spare = p.tree.spare - 1 }; rows = value_inserted p.rows n row })
-  grown_by change n row kind g e fits is absent shows sums objects styles assets removed =
+      Fine p change (record p { tree = record p.tree { forest = g; spare = p.tree.spare - 1 }; rows = value_inserted p.rows n (new_kept kind) })
+  grown_by change n kind g e fits absent shows sums objects texts styles assets removed =
+      let row = new_kept kind in
       let off = sym (there-is p n) ∙ absent in
       let within : n < length p.rows.values = omega (arith, fits, k.handles) in
-      let new : object_in (value_inserted p.rows n row) n ≡ new_object n kind = grind (arith, is, get_or-set_same p.rows.values n (Some row) None within) in
+      let new : object_in (value_inserted p.rows n row) n ≡ new_object n kind = ap (object_of n) (ap (λ (o : Option KeptRow). unwrap_or o (new_kept Obj)) (get_or-set_same p.rows.values n (Some row) None within)) in
       record {
         shows = shows (value_inserted p.rows n row) (shown-aside p.rows p.tree.forest n row off) new;
         handles = length-set p.rows.values n (Some row) ∙ k.handles;
         rows = λ h. omega (arith, sums (one_at h), inserted-count p.rows n h row within (vacant p k n off));
         room = omega (arith, k.room);
         objects = omega (arith, objects, room_in_range (scene_in p) change Objects e, k.objects);
+        texts = omega (arith, texts);
         styles = styles;
         assets = assets;
         removed = removed;
       }
 
-  pub fine-screen : (n : Handle) (row : Row) → n.0 < 10000 → row ≡ new_row Screen →
-      answer_in_range (scene_in p) (change.Screen n) ≡ None →
-      Fine p (change.Screen n) (record p { tree = with_root p.tree n.0; rows = value_inserted p.rows n.0 row })
-  fine-screen n row fits is e =
+  pub fine-screen : (n : Handle) → n.0 < 10000 → answer_in_range (scene_in p) (change.Screen n) ≡ None →
+      Fine p (change.Screen n) (record p { tree = with_root p.tree n.0; rows = value_inserted p.rows n.0 (new_kept Screen) })
+  fine-screen n fits e =
       let t = tests-fail (tests (scene_in p) (change.Screen n)) (first_short (scene_in p) (change.Screen n) POOLS) e in
-      let shows = λ (rows : Table Row). map-and_then (object_in rows) p.tree.forest (leaf n.0) in
-      grown_by (change.Screen n) n.0 row Screen (with_root p.tree n.0).forest e fits is t.0
-      (λ rows same new. rw (shows rows, same, new) refl) (λ w. omega arith) refl (record { styles = refl; entries = refl; uses = refl }) (record { fonts_left = refl; glyphs_left = refl; ink_left = refl; images_left = refl; pixels_left = refl }) refl
+      let shows = λ (rows : Table KeptRow). map-and_then (object_in rows) p.tree.forest (leaf n.0) in
+      grown_by (change.Screen n) n.0 Screen (with_root p.tree n.0).forest e fits t.0
+      (λ rows same new. rw (shows rows, same, new) refl) (λ w. omega arith) refl refl (record { styles = refl; entries = refl; uses = refl }) (record { fonts_left = refl; glyphs_left = refl; ink_left = refl; images_left = refl; pixels_left = refl }) refl
 
-  pub fine-object : (n q : Handle) (kind : Kind) (row : Row) → n.0 < 10000 → row ≡ new_row kind →
-      answer_in_range (scene_in p) (change.New n q kind) ≡ None →
-      Fine p (change.New n q kind) (record p { tree = with_child p.tree q.0 n.0; rows = value_inserted p.rows n.0 row })
-  fine-object n q kind row fits is e =
+  pub fine-object : (n q : Handle) (kind : Kind) → n.0 < 10000 → answer_in_range (scene_in p) (change.New n q kind) ≡ None →
+      Fine p (change.New n q kind) (record p { tree = with_child p.tree q.0 n.0; rows = value_inserted p.rows n.0 (new_kept kind) })
+  fine-object n q kind fits e =
       let t = tests-fail (tests (scene_in p) (change.New n q kind)) (first_short (scene_in p) (change.New n q kind) POOLS) e in
-      let shows = λ (rows : Table Row). map-added_by (object_in rows) (is_at q.0) (is_at q.0) n.0 p.tree.forest in
-      grown_by (change.New n q kind) n.0 row kind (with_child p.tree q.0 n.0).forest e fits is t.1.0
-      (λ rows same new. rw (shows rows, same, new) refl) (λ w. omega arith) refl (record { styles = refl; entries = refl; uses = refl }) (record { fonts_left = refl; glyphs_left = refl; ink_left = refl; images_left = refl; pixels_left = refl }) refl
+      let shows = λ (rows : Table KeptRow). map-added_by (object_in rows) (is_at q.0) (is_at q.0) n.0 p.tree.forest in
+      grown_by (change.New n q kind) n.0 kind (with_child p.tree q.0 n.0).forest e fits t.1.0
+      (λ rows same new. rw (shows rows, same, new) refl) (λ w. omega arith) refl refl (record { styles = refl; entries = refl; uses = refl }) (record { fonts_left = refl; glyphs_left = refl; ink_left = refl; images_left = refl; pixels_left = refl }) refl
 
   tree-is : (h : ℕ) → shown p.rows (tree_at p.tree.forest h) ≡ tree_below (scene_in p) h
   tree-is h = map-tree_by (object_in p.rows) (is_at h) p.tree.forest
@@ -154,16 +165,18 @@ module _ (p : Parts) (k : AreKept p) where
     listed-below : numbers hs ≡ all_below (scene_in p) h.0
     listed-below = listed ∙ ap preorder (sym (ap handles_of (sym (tree-is h.0)) ∙ shown-handles p.rows (tree_at p.tree.forest h.0)))
 
-    pub fine-delete : Fine p (change.Delete h) (record p { tree = without_tree p.tree h.0; rows = rows_without p.rows hs; styles = all_forgotten p.styles hs })
+    pub fine-delete : Fine p (change.Delete h) (record p { tree = without_tree p.tree h.0; rows = (set_without (set_of p) hs).rows; spare_texts = (set_without (set_of p) hs).spare_texts; styles = all_forgotten p.styles hs })
     fine-delete =
         let f = forgets hs p.styles in
         let left : (all_forgotten p.styles hs).book ≡ book_without (scene_in p) h.0 = f.book ∙ ap (book.all_forgotten p.styles.book) listed-below in
         let fewer = all_forgets (all_below (scene_in p) h.0) p.styles.book in
-        let trees = shown-without p.rows (cut p.tree.forest h.0) hs aside ∙ map-cut_by (object_in p.rows) (is_at h.0) p.tree.forest in record {
+        let rows = without-set (set_of p) hs in
+        let trees = ap (λ (t : Table KeptRow). shown t (cut p.tree.forest h.0)) rows ∙ shown-without p.rows (cut p.tree.forest h.0) hs aside ∙ map-cut_by (object_in p.rows) (is_at h.0) p.tree.forest in record {
           shows = λ i. record (scene_in p) { trees = trees i; book = left i };
-          handles = without-handles p.rows hs ∙ k.handles;
-          rows = λ j. omega (arith, without-count p.rows hs j listed-rows, listed-times j);
-          room = let a = ap (λ (xs : List ℕ). length xs) listed in omega (arith, without-spare p.rows hs, a, length-preorder (tree_at p.tree.forest h.0), k.room);
+          handles = ap (λ (t : Table KeptRow). length t.values) rows ∙ without-handles p.rows hs ∙ k.handles;
+          rows = λ j. omega (arith, ap (λ (t : Table KeptRow). row_count t j) rows, without-count p.rows hs j listed-rows, listed-times j);
+          texts = let a = without-texts (set_of p) hs listed-rows in let b = listed-forest p.rows hs (tree_at p.tree.forest h.0) listed in let c = ap chunks_in (tree-is h.0) in omega (arith, a, b, c);
+          room = let a = ap (λ (xs : List ℕ). length xs) listed in omega (arith, ap (λ (t : Table KeptRow). t.spare) rows, without-spare p.rows hs, a, length-preorder (tree_at p.tree.forest h.0), k.room);
           objects = let a = map-size (object_in p.rows) (tree_at p.tree.forest h.0) in let b = ap size (tree-is h.0) in omega arith;
           styles = record {
             styles = omega (arith, f.styles);
@@ -205,6 +218,7 @@ module _ (p : Parts) (k : AreKept p) where
           rows = λ h. omega (arith, sums (one_at h));
           room = k.room;
           objects = omega (arith, none Objects);
+          texts = omega (arith, none Texts);
           styles = stay p.styles _ _ none;
           assets = assets_stay p.fonts p.images _ _ none;
           removed = removed;
@@ -230,7 +244,7 @@ module _ (p : Parts) (k : AreKept p) where
   last-after h n few = with_trees (last-shows h.0 n few (parent_object (scene_in p) h.0))
 
   pub fine-load : (h : Handle) → Fine p (change.Load h) (record p { active = h.0 })
-  fine-load h = record { shows = refl; handles = k.handles; rows = λ j. omega arith; room = k.room; objects = refl; styles = (record { styles = refl; entries = refl; uses = refl }); assets = record { fonts_left = refl; glyphs_left = refl; ink_left = refl; images_left = refl; pixels_left = refl }; removed = refl }
+  fine-load h = record { shows = refl; handles = k.handles; rows = λ j. omega arith; room = k.room; objects = refl; texts = refl; styles = (record { styles = refl; entries = refl; uses = refl }); assets = record { fonts_left = refl; glyphs_left = refl; ink_left = refl; images_left = refl; pixels_left = refl }; removed = refl }
 
   -- what is not there is unknown
   pub row-absent : (change : Change) (h : Handle) → row_set change ≡ Some h → is_there (scene_in p) h.0 ≡ false →
@@ -244,30 +258,95 @@ module _ (p : Parts) (k : AreKept p) where
   none-set change h set q = (cc, cc)
 
   -- Another row at h, which no test refuses.
-  module _ (change : Change) (h : Handle) (row : Row) (fits : is_in_range change ≡ true) (plain : IsChange change) (set : row_set change ≡ Some h)
-      (passed : first_of (tests (scene_in p) change) None ≡ None) (on : has p.tree.forest h.0 ≡ true) (is : row ≡ row_after change (row_in p.rows h.0)) where
+  module _ (change : Change) (h : Handle) (fits : is_in_range change ≡ true) (plain : IsChange change) (set : row_set change ≡ Some h)
+      (passed : first_of (tests (scene_in p) change) None ≡ None) (on : has p.tree.forest h.0 ≡ true) where
     row-answer : answer_in_range (scene_in p) change ≡ None
     row-answer =
         first-then (tests (scene_in p) change) (option_map Full (first_short (scene_in p) change POOLS)) passed
         ∙ ap (option_map Full) (none_short (scene_in p) change POOLS (λ q. (none-set change h set q).0))
 
-    pub row-done : (rows : Table Row) → rows ≡ value_replaced p.rows h.0 row → Left p change (record p { rows = rows }) (Ok tt)
-    row-done rows written = rw written (done p k change fits plain (record p { rows = value_replaced p.rows h.0 row }) row-answer (record {
-      shows = with_trees (shown-set p.rows p.tree.forest h.0 row (over_row (row_after change)) (within p k h.0 on) (rw is refl)) ∙ sym (sets_row_alone (scene_in p) change h set);
-      handles = length-set p.rows.values h.0 (Some row) ∙ k.handles;
-      rows = λ j. omega (arith, replaced-count p.rows h.0 j row (k.rows h.0 ∙ on), set_sums (scene_in p) change h (one_at j) set);
+    -- the row that is set, beside the text
+    abbrev pub kept_after : KeptRow
+    kept_after = record (kept_in p.rows h.0) { row = row_after change (row_in p.rows h.0) }
+
+    pub row-done : (rows : RowSet) → rows ≡ record (set_of p) { rows = value_replaced p.rows h.0 kept_after } → Left p change (record p { rows = rows.rows; spare_texts = rows.spare_texts }) (Ok tt)
+    row-done rows written = rw written (done p k change fits plain (record p { rows = value_replaced p.rows h.0 kept_after }) row-answer (record {
+      shows = with_trees (shown-set p.rows p.tree.forest h.0 kept_after (over_row (row_after change)) (within p k h.0 on) refl) ∙ sym (sets_row_alone (scene_in p) change h set);
+      handles = length-set p.rows.values h.0 (Some kept_after) ∙ k.handles;
+      rows = λ j. omega (arith, replaced-count p.rows h.0 j kept_after (k.rows h.0 ∙ on), set_sums (scene_in p) change h (one_at j) set);
       room = k.room;
       objects = omega (arith, none-set change h set Objects);
+      texts = omega (arith, none-set change h set Texts);
       styles = stay p.styles _ _ (none-set change h set);
       assets = assets_stay p.fonts p.images _ _ (none-set change h set);
       removed = grind (arith, set);
     }))
+
+  -- Another text of h.
+  pub found-kept : (h : ℕ) → has p.tree.forest h ≡ true → value_at p.rows h ≡ Some (kept_in p.rows h)
+  found-kept h on = by (value_at p.rows h) (k.rows h ∙ on) where
+    by : (o : Option KeptRow) → is_some o ≡ true → o ≡ Some (unwrap_or o (new_kept Obj))
+    by None some = cc
+    by (Some kept) some = refl
+
+  pub text-absent : (h : Handle) (text : List ℕ) → has p.tree.forest h.0 ≡ false → answer_in_range (scene_in p) (change.Text h text) ≡ Some refusal.Unknown
+  text-absent h text off = rw (there-is p h.0 ∙ off) refl
+
+  pub text-kind : (h : Handle) (text : List ℕ) → has p.tree.forest h.0 ≡ true → has_feature Text (row_in p.rows h.0).kind ≡ false →
+      answer_in_range (scene_in p) (change.Text h text) ≡ Some refusal.Kind
+  text-kind h text on other = rw (there-is p h.0 ∙ on, object-is p h.0 on, other) refl
+
+  module _ (h : Handle) (text : List ℕ) (on : has p.tree.forest h.0 ≡ true) (kind : has_feature Text (row_in p.rows h.0).kind ≡ true) where
+    text-at : text_at (scene_in p) h.0 ≡ (kept_in p.rows h.0).text
+    text-at = ap text_of (object-is p h.0 on)
+
+    old-chunks : need_of_text (text_at (scene_in p) h.0) ≡ chunks_at (set_of p) h.0
+    old-chunks = ap need_of_text text-at ∙ sym (ap chunks_of (found-kept h.0 on))
+
+    text-need : (q : Pool) → (q ≡ Texts) ⊎ (need_of (scene_in p) (change.Text h text) q ≡ 0)
+    text-need Texts = inl refl
+    text-need q = inr refl
+
+    text-passed : first_of (tests (scene_in p) (change.Text h text)) None ≡ None
+    text-passed = rw (there-is p h.0 ∙ on, object-is p h.0 on, kind) refl
+
+    text-answer : answer_in_range (scene_in p) (change.Text h text)
+        ≡ option_map Full (if lacks (scene_in p) Texts (need_of (scene_in p) (change.Text h text) Texts) then Some Texts else None)
+    text-answer =
+        first-then (tests (scene_in p) (change.Text h text)) (option_map Full (first_short (scene_in p) (change.Text h text) POOLS)) text-passed
+        ∙ ap (option_map Full) (one_short (scene_in p) (change.Text h text) Texts text-need)
+
+    pub text-full : p.spare_texts + chunks_at (set_of p) h.0 < need_of_text text → answer_in_range (scene_in p) (change.Text h text) ≡ Some (Full Texts)
+    text-full few =
+        let lacking : lacks (scene_in p) Texts (need_of (scene_in p) (change.Text h text) Texts) ≡ true = grind (arith, nat_tests, k.texts, old-chunks, few) in
+        text-answer ∙ rw lacking refl
+
+    pub text-done : is_in_range (change.Text h text) ≡ true → IsChange (change.Text h text) → need_of_text text ≤ p.spare_texts + chunks_at (set_of p) h.0 → (rows : RowSet) → rows ≡ with_text (set_of p) h.0 text →
+        Left p (change.Text h text) (record p { rows = rows.rows; spare_texts = rows.spare_texts }) (Ok tt)
+    text-done fits plain room rows written =
+        let change = change.Text h text in
+        let kept : KeptRow = record (kept_in p.rows h.0) { text = text } in
+        let lacking : lacks (scene_in p) Texts (need_of (scene_in p) change Texts) ≡ false = grind (arith, nat_tests, k.texts, old-chunks, room) in
+        let told : with_text (set_of p) h.0 text ≡ record { rows = value_replaced p.rows h.0 kept; spare_texts = (p.spare_texts + chunks_at (set_of p) h.0) - need_of_text text } =
+        rw (found-kept h.0 on) refl in
+        rw (written ∙ told) (done p k change fits plain (record p { rows = value_replaced p.rows h.0 kept; spare_texts = (p.spare_texts + chunks_at (set_of p) h.0) - need_of_text text }) (text-answer ∙ rw lacking refl) (record {
+          shows = with_trees (shown-set p.rows p.tree.forest h.0 kept (over_text text) (within p k h.0 on) refl);
+          handles = length-set p.rows.values h.0 (Some kept) ∙ k.handles;
+          rows = λ j. omega (arith, replaced-count p.rows h.0 j kept (k.rows h.0 ∙ on));
+          room = k.room;
+          objects = refl;
+          texts = omega (arith, old-chunks, room);
+          styles = record { styles = refl; entries = refl; uses = refl };
+          assets = record { fonts_left = refl; glyphs_left = refl; ink_left = refl; images_left = refl; pixels_left = refl };
+          removed = refl;
+        }))
 
   -- A change of styles adds and removes no object, and takes slots of styles alone.
   record IsQuiet (change : Change) (styling : Styling) : Type 0 where
     setter : setter_of change ≡ None
     sums : (w : Object → ℕ) → (added_sum (scene_in p) change w ≡ 0) × (removed_sum (scene_in p) change w ≡ 0)
     objects : (need_of (scene_in p) change Objects ≡ 0) × (freed_by (scene_in p) change Objects ≡ 0)
+    texts : (need_of (scene_in p) change Texts ≡ 0) × (freed_by (scene_in p) change Texts ≡ 0)
     full : option_map Full (first_short (scene_in p) change POOLS) ≡ full_for p.styles styling.need
     assets : AreAssetSlots p.fonts p.fonts p.images p.images (need_of (scene_in p) change) (freed_by (scene_in p) change)
     removed : p.tree.removed ≡ removed_after p.tree.removed (scene_in p) change
@@ -278,6 +357,7 @@ module _ (p : Parts) (k : AreKept p) where
     setter = cc;
     sums = λ w. (cc, cc);
     objects = (cc, cc);
+    texts = (cc, cc);
     full = grind (arith, nat_tests, e, k.styles, k.entries, k.uses);
     assets = record { fonts_left = cc; glyphs_left = cc; ink_left = cc; images_left = cc; pixels_left = cc };
     removed = cc;
@@ -308,7 +388,8 @@ module _ (p : Parts) (k : AreKept p) where
         rows = λ h. omega (arith, s.sums (one_at h));
         room = k.room;
         objects = omega (arith, s.objects);
-        styles = subst (λ (o : Option Styling). AreSlots p.styles t (need_by o (asset_change_of p.fonts.fonts p.images.images change) change) (freed_by_styling o (scene_in p) change)) (sym is) done.slots;
+        texts = omega (arith, s.texts);
+        styles = subst (λ (o : Option Styling). AreSlots p.styles t (need_by o (asset_change_of p.fonts.fonts p.images.images change) (scene_in p) change) (freed_by_styling o (scene_in p) change)) (sym is) done.slots;
         assets = s.assets;
         removed = s.removed;
       } in
@@ -322,12 +403,13 @@ module _ (p : Parts) (k : AreKept p) where
     need : (q : Pool) → need_of (scene_in p) change q ≡ assets.need q
     freed : (q : Pool) → freed_by (scene_in p) change q ≡ 0
     objects : need_of (scene_in p) change Objects ≡ 0
+    texts : need_of (scene_in p) change Texts ≡ 0
     styles : (need_of (scene_in p) change StyleSlots ≡ 0) × (need_of (scene_in p) change Entries ≡ 0) × (need_of (scene_in p) change Uses ≡ 0)
     removed : p.tree.removed ≡ removed_after p.tree.removed (scene_in p) change
 
   needs : (change : Change) (assets : AssetChange) → asset_change_of p.fonts.fonts p.images.images change ≡ Some assets → (q : Pool) → need_of (scene_in p) change q ≡ assets.need q
-  needs (change.EndFont f) assets e q = ap (λ (o : Option AssetChange). need_by None o (change.EndFont f) q) e
-  needs (change.ImageRow i y bytes) assets e q = ap (λ (o : Option AssetChange). need_by None o (change.ImageRow i y bytes) q) e
+  needs (change.EndFont f) assets e q = ap (λ (o : Option AssetChange). need_by None o (scene_in p) (change.EndFont f) q) e
+  needs (change.ImageRow i y bytes) assets e q = ap (λ (o : Option AssetChange). need_by None o (scene_in p) (change.ImageRow i y bytes) q) e
   needs change assets e q = cc
 
   apart : (change : Change) (assets : AssetChange) → asset_change_of p.fonts.fonts p.images.images change ≡ Some assets → IsAside change assets
@@ -339,6 +421,7 @@ module _ (p : Parts) (k : AreKept p) where
     need = needs change assets e;
     freed = λ q. cc;
     objects = cc;
+    texts = cc;
     styles = (cc, cc, cc);
     removed = cc;
   }
@@ -356,6 +439,7 @@ module _ (p : Parts) (k : AreKept p) where
         rows = λ h. omega (arith, s.sums (one_at h));
         room = k.room;
         objects = omega (arith, s.freed Objects, s.objects);
+        texts = omega (arith, s.freed Texts, s.texts);
         styles = record { styles = omega (arith, s.freed StyleSlots, s.styles); entries = omega (arith, s.freed Entries, s.styles); uses = omega (arith, s.freed Uses, s.styles) };
         assets = record {
           fonts_left = omega (arith, s.need FontSlots, s.freed FontSlots, done.slots.fonts_left);
@@ -385,19 +469,25 @@ pub record AreNew (s : Styles) (limits : Bounds) : Type 0 where
   pub uses : length s.book.uses ≡ 65536
 
 -- The first rows.
-module _ (tree : Trees) (limits : Bounds) (room : 3 ≤ limits.objects) (new : tree ≡ opened limits.objects) (t : Table Row) (keys : length t.values ≡ 10000) (empty : (h : ℕ) → value_at t h ≡ None) (free : t.spare ≡ limits.objects) (a b c : Row) (top : a ≡ new_row Layer) (system : b ≡ new_row Layer) (screen : c ≡ new_row Screen) (styles : Styles) (bare : AreNew styles limits) (fonts : FontSet) (images : ImageSet) (letters : fonts ≡ no_fonts limits.fonts limits.glyphs limits.ink) (pictures : images ≡ no_images limits.images limits.pixels) where
-  abbrev first_rows : Table Row
-  first_rows = value_inserted (value_inserted (value_inserted t 1 a) 2 b) 3 c
+module _ (tree : Trees) (limits : Bounds) (room : 3 ≤ limits.objects) (new : tree ≡ opened limits.objects) (t : Table KeptRow) (texts : ℕ) (keys : length t.values ≡ 10000) (empty : (h : ℕ) → value_at t h ≡ None) (free : t.spare ≡ limits.objects) (chunks_free : texts ≡ limits.texts) (styles : Styles) (bare : AreNew styles limits) (fonts : FontSet) (images : ImageSet) (letters : fonts ≡ no_fonts limits.fonts limits.glyphs limits.ink) (pictures : images ≡ no_images limits.images limits.pixels) where
+  abbrev a : KeptRow
+  a = new_kept Layer
+
+  abbrev c : KeptRow
+  c = new_kept Screen
+
+  abbrev first_rows : Table KeptRow
+  first_rows = value_inserted (value_inserted (value_inserted t 1 a) 2 a) 3 c
 
   abbrev first_parts : Parts
-  first_parts = record { tree = tree; rows = first_rows; styles = styles; fonts = fonts; images = images; active = 3; limits = limits }
+  first_parts = record { tree = tree; rows = first_rows; spare_texts = texts; styles = styles; fonts = fonts; images = images; active = 3; limits = limits }
 
-  first-value : (h : ℕ) → value_at first_rows h ≡ cond (eqb 3 h) (Some c) (cond (eqb 2 h) (Some b) (cond (eqb 1 h) (Some a) None))
+  first-value : (h : ℕ) → value_at first_rows h ≡ cond (eqb 3 h) (Some c) (cond (eqb 2 h) (Some a) (cond (eqb 1 h) (Some a) None))
   first-value h =
       let one = length-set t.values 1 (Some a) in
-      let two = length-set (slice_set t.values 1 (Some a)) 2 (Some b) in
-      let third = value-set (slice_set (slice_set t.values 1 (Some a)) 2 (Some b)) 3 h (Some c) (omega (arith, keys, one, two)) in
-      let second = value-set (slice_set t.values 1 (Some a)) 2 h (Some b) (omega (arith, keys, one)) in
+      let two = length-set (slice_set t.values 1 (Some a)) 2 (Some a) in
+      let third = value-set (slice_set (slice_set t.values 1 (Some a)) 2 (Some a)) 3 h (Some c) (omega (arith, keys, one, two)) in
+      let second = value-set (slice_set t.values 1 (Some a)) 2 h (Some a) (omega (arith, keys, one)) in
       let first = value-set t.values 1 h (Some a) (omega (arith, keys)) in rw (third, second, first, empty h) refl
 
   first-book : styles.book ≡ empty_book
@@ -407,7 +497,7 @@ module _ (tree : Trees) (limits : Bounds) (room : 3 ≤ limits.objects) (new : t
       λ i. record { styles = bare.no_styles i; locals = locals i; uses = uses i }
 
   first-shows : scene_in first_parts ≡ first_scene limits
-  first-shows = rw (new, first-value 1, first-value 2, first-value 3, top, system, screen, first-book, letters, pictures) refl
+  first-shows = rw (new, first-value 1, first-value 2, first-value 3, first-book, letters, pictures) refl
 
   first-spare : (pool : Pool) → spare (scene_in first_parts) pool ≡ spare (first_scene limits) pool
   first-spare pool = ap (λ (s : Scene). spare s pool) first-shows
@@ -423,6 +513,7 @@ module _ (tree : Trees) (limits : Bounds) (room : 3 ≤ limits.objects) (new : t
       styles = omega (arith, first-spare StyleSlots, bare.spare_styles);
       entries = omega (arith, first-spare Entries, bare.spare_entries, no_entries);
       uses = omega (arith, first-spare Uses, bare.spare_uses, no_uses);
+      texts = omega (arith, chunks_free, first-spare Texts);
       fonts = let e : fonts.spare_fonts ≡ limits.fonts = ap (λ (s : FontSet). s.spare_fonts) letters in omega (arith, e, first-spare FontSlots);
       glyphs = let e : fonts.spare_glyphs ≡ limits.glyphs = ap (λ (s : FontSet). s.spare_glyphs) letters in omega (arith, e, first-spare Glyphs);
       ink = let e : fonts.spare_ink ≡ limits.ink = ap (λ (s : FontSet). s.spare_ink) letters in omega (arith, e, first-spare Ink);

@@ -1,9 +1,10 @@
 -- What the parts of a store answer, and that a change keeps them in order.
-use Rattle.gui_store.proofs.Common.{◌≡◌, ◌<◌, ◌∙◌, sym, ap, subst, ℕ, ◌+◌, true, false, length, Option, unwrap_or, Some, None, is_some, option_map, Ok, Err, List, refl, arith, OnOk, OnErr, IsErrAnd, err_from_is_err_and, POOLS, HANDLE, Objects, StyleSlots, Entries, Uses, FontSlots, Glyphs, Ink, ImageSlots, Pixels, AreAssetSlots, Refusal, Full, Forest, has, count, Test, first_of, result_of, Table, value_at, Trees, Answer, Change, is_in_range, Scene, is_there, handles_of, object_at, row_at, spare, answer_in_range, answer_of, scene_after, scene_by, tests, first_short, need_of, freed_by, IsValid, IsChange, IsRow, in_intervals, one_at, added_sum, removed_sum, after_leaves, after_valid, slots_add_up, Row, Styles, AreSlots, Parts, scene_in, AreKept, removed_after, new_row, row_in, object_in, StandsOnce}
+use Rattle.gui_store.proofs.Common.{◌≡◌, ◌<◌, ◌∙◌, sym, ap, subst, ℕ, ◌+◌, true, false, length, Option, unwrap_or, Some, None, is_some, option_map, Ok, Err, List, refl, arith, OnOk, OnErr, IsErrAnd, err_from_is_err_and, POOLS, HANDLE, Objects, StyleSlots, Entries, Uses, FontSlots, Glyphs, Ink, ImageSlots, Pixels, AreAssetSlots, Refusal, Full, Forest, has, count, Test, first_of, result_of, Table, value_at, Trees, Answer, Change, is_in_range, Scene, is_there, handles_of, object_at, row_at, spare, answer_in_range, answer_of, scene_after, scene_by, tests, first_short, need_of, freed_by, IsValid, IsChange, IsRow, in_order, one_at, added_sum, removed_sum, after_leaves, after_valid, slots_add_up, Row, KeptRow, RowSet, Texts, new_kept, kept_in, row_of, row_shown, Styles, AreSlots, Parts, scene_in, AreKept, removed_after, new_row, row_in, object_in, StandsOnce}
 use Rattle.std.proofs.lemmas.Bool.{and_parts}
 use Rattle.gui_base.specs.declared.limits.Pool.{Pool}
 use Rattle.gui_base.specs.Intervals.{is_counted}
 use Rattle.gui_base.specs.declared.words.Kind.TheVariants.{Obj}
+use Rattle.scene_defs.specs.Texts.{is_text}
 use Rattle.gui_store.specs.Changed.{IsChanged}
 use Rattle.gui_store.proofs.Rows.{row_count, within_of, told-count, count-told}
 use Rattle.gui_store.proofs.Shown.{shown-handles, shown-object, shown-all}
@@ -19,31 +20,48 @@ module _ (p : Parts) where
   pub object-is : (h : ℕ) → has p.tree.forest h ≡ true → object_at (scene_in p) h ≡ Some (object_in p.rows h)
   object-is h on = shown-object p.rows p.tree.forest h ∙ rw on refl
 
+-- a row is told where there is one
+some-row : (o : Option KeptRow) → is_some (option_map row_of o) ≡ is_some o
+some-row None = refl
+some-row (Some kept) = refl
+
 module _ (p : Parts) (k : AreKept p) where
   pub once : StandsOnce p.tree.forest
   once = subst StandsOnce (forest-is p) k.valid.trees.once
 
+  object_fits : (h : ℕ) → has p.tree.forest h ≡ true → in_order p.images.images (object_in p.rows h) ≡ true
+  object_fits h on = shown-all p.rows (in_order p.images.images) p.tree.forest h k.valid.rows.numbers on
+
   pub named : (h : ℕ) → has p.tree.forest h ≡ true → is_counted HANDLE h ≡ true
-  named h on = (and_parts _ _ (shown-all p.rows in_intervals p.tree.forest h k.valid.rows.numbers on)).0
+  named h on = (and_parts _ _ (object_fits h on)).0
 
   pub in_range : (h : ℕ) → has p.tree.forest h ≡ true → IsRow (row_in p.rows h)
-  in_range h on = (and_parts _ _ (shown-all p.rows in_intervals p.tree.forest h k.valid.rows.numbers on)).1
+  in_range h on = (and_parts _ _ (and_parts _ _ (object_fits h on)).1).0
+
+  pub text_fits : (h : ℕ) → has p.tree.forest h ≡ true → is_text (kept_in p.rows h).text ≡ true
+  text_fits h on = (and_parts _ _ (and_parts _ _ (and_parts _ _ (object_fits h on)).1).1).0
 
   pub within : (h : ℕ) → has p.tree.forest h ≡ true → h < length p.rows.values
   within h on = within_of p.rows h (k.rows h ∙ on)
 
   -- what a read gives
-  pub read-on : (h : ℕ) (row : Row) → Some row ≡ value_at p.rows h → has p.tree.forest h ≡ true
-  read-on h row e = sym (k.rows h) ∙ ap is_some (sym e)
+  pub read-on : (h : ℕ) (row : Row) → Some row ≡ row_shown p.rows h → has p.tree.forest h ≡ true
+  read-on h row e = sym (k.rows h) ∙ (sym (some-row (value_at p.rows h)) ∙ ap is_some (sym e))
 
-  pub read-off : (h : ℕ) → None ≡ value_at p.rows h → has p.tree.forest h ≡ false
-  read-off h e = sym (k.rows h) ∙ ap is_some (sym e)
+  pub read-off : (h : ℕ) → None ≡ row_shown p.rows h → has p.tree.forest h ≡ false
+  read-off h e = sym (k.rows h) ∙ (sym (some-row (value_at p.rows h)) ∙ ap is_some (sym e))
 
-  pub read-at : (h : ℕ) (row : Row) → Some row ≡ value_at p.rows h → row ≡ row_in p.rows h
-  read-at h row e = ap (λ (o : Option Row). unwrap_or o (new_row Obj)) e
+  pub read-at : (h : ℕ) (row : Row) → Some row ≡ row_shown p.rows h → row ≡ row_in p.rows h
+  read-at h row e = by (value_at p.rows h) e where
+    by : (o : Option KeptRow) → Some row ≡ option_map row_of o → row ≡ (unwrap_or o (new_kept Obj)).row
+    by None f = cc
+    by (Some kept) f = cc
 
-  pub read-row : (h : ℕ) (o : Option Row) → o ≡ value_at p.rows h → o ≡ row_at (scene_in p) h
-  read-row h o e = grind (arith, e, k.rows h, shown-object p.rows p.tree.forest h)
+  pub read-row : (h : ℕ) (o : Option Row) → o ≡ row_shown p.rows h → o ≡ row_at (scene_in p) h
+  read-row h o e = e ∙ by (value_at p.rows h) refl where
+    by : (v : Option KeptRow) → value_at p.rows h ≡ v → option_map row_of v ≡ row_at (scene_in p) h
+    by None is = let off = sym (k.rows h) ∙ ap is_some is in sym (rw (shown-object p.rows p.tree.forest h, off) refl)
+    by (Some kept) is = let on = sym (k.rows h) ∙ ap is_some is in sym (rw (shown-object p.rows p.tree.forest h, on, is) refl)
 
   -- a row where the forest has its handle
   pub vacant : (h : ℕ) → has p.tree.forest h ≡ false → value_at p.rows h ≡ None
@@ -71,6 +89,7 @@ pub record Fine (p : Parts) (change : Change) (q : Parts) : Type 0 where
   pub rows : (h : ℕ) → row_count q.rows h + removed_sum (scene_in p) change (one_at h) ≡ added_sum (scene_in p) change (one_at h) + row_count p.rows h
   pub room : q.rows.spare ≡ q.tree.spare
   pub objects : q.tree.spare + need_of (scene_in p) change Objects ≡ p.tree.spare + freed_by (scene_in p) change Objects
+  pub texts : q.spare_texts + need_of (scene_in p) change Texts ≡ p.spare_texts + freed_by (scene_in p) change Texts
   pub styles : AreSlots p.styles q.styles (need_of (scene_in p) change) (freed_by (scene_in p) change)
   pub assets : AreAssetSlots p.fonts q.fonts p.images q.images (need_of (scene_in p) change) (freed_by (scene_in p) change)
   pub removed : q.tree.removed ≡ removed_after p.tree.removed (scene_in p) change
@@ -116,6 +135,7 @@ module _ (p : Parts) (k : AreKept p) (change : Change) where
             styles = omega (arith, slots StyleSlots, fine.styles.styles, k.styles);
             entries = omega (arith, slots Entries, fine.styles.entries, k.entries);
             uses = omega (arith, slots Uses, fine.styles.uses, k.uses);
+            texts = omega (arith, slots Texts, fine.texts, k.texts);
             fonts = omega (arith, slots FontSlots, fine.assets.fonts_left, k.fonts);
             glyphs = omega (arith, slots Glyphs, fine.assets.glyphs_left, k.glyphs);
             ink = omega (arith, slots Ink, fine.assets.ink_left, k.ink);
@@ -131,10 +151,10 @@ module _ (p : Parts) (k : AreKept p) (change : Change) where
     answered q (Err x) a ok err = rw err (record { kept = k; is = refused x (err-some (answer_in_range (scene_in p) change) x a) })
 
     -- a call of the tree that is done, and rows that are written then
-    pub grown : (t u : Trees) (r : Answer) (rows new : Table Row) (styles after : Styles) (v : Unit {0}) → result_of (answer_in_range (scene_in p) change) ≡ r →
+    pub grown : (t u : Trees) (r : Answer) (rows new : RowSet) (styles after : Styles) (v : Unit {0}) → result_of (answer_in_range (scene_in p) change) ≡ r →
         r ≡ Ok v → OnOk r (t ≡ u) → new ≡ rows → after ≡ styles →
-        (answer_in_range (scene_in p) change ≡ None → Fine p change (record p { tree = u; rows = rows; styles = styles })) →
-        Left p change (record p { tree = t; rows = new; styles = after }) (Ok tt)
+        (answer_in_range (scene_in p) change ≡ None → Fine p change (record p { tree = u; rows = rows.rows; spare_texts = rows.spare_texts; styles = styles })) →
+        Left p change (record p { tree = t; rows = new.rows; spare_texts = new.spare_texts; styles = after }) (Ok tt)
     grown t u r rows new styles after v a e ok written styled fine =
         let is : t ≡ u = rw e at ok in
         let none = ok-none (answer_in_range (scene_in p) change) v (a ∙ e) in rw (is, written, styled) (done _ none (fine none))

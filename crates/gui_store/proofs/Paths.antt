@@ -1,5 +1,5 @@
 -- The path of an object goes on at its parent.
-use Rattle.gui_store.proofs.Common.{if◌then◌else◌, ◌≡◌, ◌<◌, ◌⊎◌, ◌∙◌, sym, ap, subst, length, ℕ, true, List, [], ◌∷◌, Option, Some, None, option_map, inl, inr, arith, eqb, nat_tests, Forest, Empty, Tree, has, as_handle, Handle, parent_of, Parts, AreKept, scene_in, Object, Row, is_at, row_in, object_in, value_at, unwrap_or, IfSome, parent_by, path_by, path_of, StandsOnce, option_or, value, styled_of, map-path_by, map, ℤ, IsDistinct, distinct_handles}
+use Rattle.gui_store.proofs.Common.{if◌then◌else◌, ◌≡◌, ◌<◌, ◌⊎◌, ◌∙◌, sym, ap, subst, length, ℕ, true, List, [], ◌∷◌, Option, Some, None, option_map, inl, inr, arith, eqb, nat_tests, Forest, Empty, Tree, has, as_handle, Handle, parent_of, Parts, AreKept, scene_in, Object, Row, is_at, row_in, row_shown, object_in, unwrap_or, IfSome, parent_by, path_by, path_of, StandsOnce, option_or, value, styled_of, map-path_by, map, ℤ, IsDistinct, distinct_handles}
 use Rattle.std.proofs.lemmas.Bool.{cases_Bool}
 use Rattle.gui_base.specs.declared.props.Prop.{Prop}
 use Rattle.gui_base.specs.Props.{inherits}
@@ -73,7 +73,7 @@ rises p k prop h at next is there up =
     record { value = ap (λ (hs : List ℕ). inherited_along p hs prop) path; shorter = omega (arith, ap (λ (hs : List ℕ). length hs) path); there = u.there }
 
 -- the value of a property is what is given, or else the default for the row that is read
-pub value-is : (p : Parts) (k : AreKept p) (h : ℕ) (part : Part) (prop : Prop) (row : Row) (o : Option ℤ) → Some row ≡ value_at p.rows h →
+pub value-is : (p : Parts) (k : AreKept p) (h : ℕ) (part : Part) (prop : Prop) (row : Row) (o : Option ℤ) → Some row ≡ row_shown p.rows h →
     o ≡ given_at p h part prop → unwrap_or o (default_in row.kind part row.states prop) ≡ value (scene_in p) h part prop
 value-is p k h part prop row o read given =
     let f = p.tree.forest in

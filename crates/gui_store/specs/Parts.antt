@@ -1,7 +1,7 @@
 -- The parts of a store, and the scene that they show.
 use Rattle.std.specs.Prelude.{◌≡◌, ℕ, ◌+◌, length, is_some}
 use Rattle.gui_base.specs.declared.intervals.TheConstants.{HANDLE}
-use Rattle.gui_base.specs.declared.limits.Pool.TheVariants.{Objects, Styles as StyleSlots, Entries, Uses}
+use Rattle.gui_base.specs.declared.limits.Pool.TheVariants.{Objects, Styles as StyleSlots, Entries, Uses, Texts}
 use Rattle.gui_base.specs.declared.limits.Pool.TheVariants.{Fonts, Glyphs, Ink, Images, Pixels}
 use Rattle.gui_base.specs.Forest.{map_forest, has}
 use Rattle.gui_base.specs.Limits.{Bounds}
@@ -12,13 +12,14 @@ use Rattle.gui_style.specs.Styles.{Styles}
 use Rattle.gui_tree.specs.Trees.{Trees}
 use Rattle.scene_defs.specs.Scene.{Scene, spare}
 use Rattle.scene_defs.specs.Valid.{IsValid}
-use Rattle.scene_defs.specs.declared.Row.{Row}
+use Rattle.gui_rows.specs.Rows.{KeptRow}
 use Rattle.gui_store.specs.Rows.{object_in}
 
 pub record Parts : Type 0 where
   pub tree : Trees
   -- by handle
-  pub rows : Table Row
+  pub rows : Table KeptRow
+  pub spare_texts : ℕ
   pub styles : Styles
   pub fonts : FontSet
   pub images : ImageSet
@@ -48,6 +49,7 @@ pub record AreKept (p : Parts) : Type 0 where
   pub styles : p.styles.spare_styles ≡ spare (scene_in p) StyleSlots
   pub entries : p.styles.spare_entries ≡ spare (scene_in p) Entries
   pub uses : p.styles.spare_uses ≡ spare (scene_in p) Uses
+  pub texts : p.spare_texts ≡ spare (scene_in p) Texts
   pub fonts : p.fonts.spare_fonts ≡ spare (scene_in p) Fonts
   pub glyphs : p.fonts.spare_glyphs ≡ spare (scene_in p) Glyphs
   pub ink : p.fonts.spare_ink ≡ spare (scene_in p) Ink

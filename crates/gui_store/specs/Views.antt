@@ -11,7 +11,8 @@ use Rattle.gui_store.specs.Parts.{Parts, scene_in}
 abbrev pub parts_of : Store → Parts
 parts_of store = record {
   tree = store.tree;
-  rows = store.rows;
+  rows = store.rows.rows;
+  spare_texts = store.rows.spare_texts;
   styles = store.styles;
   fonts = store.fonts;
   images = store.images;

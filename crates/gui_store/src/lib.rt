@@ -7,9 +7,9 @@
 
 mod assets;
 mod range;
-mod row;
+mod setter;
 mod store;
 mod styling;
 
-pub use scene_defs::{Change, Row};
+pub use scene_defs::{Change, Row, Text};
 pub use store::Store;

@@ -1,35 +1,36 @@
 //! The store.
 ghost use Rattle.std.specs.Prelude.{◌≡◌, ◌<◌, IfOk, IfSome, Some, None, true, length};
 ghost use Rattle.std.specs.Prelude.{is_some, option_map};
-ghost use Rattle.std.specs.Option.{option_copied};
 ghost use Rattle.gui_base.specs.Bounded.{bounds_of};
 ghost use Rattle.gui_base.specs.Intervals.{is_counted};
 ghost use Rattle.gui_base.specs.Forest.{has};
 ghost use Rattle.gui_base.specs.Props.{is_value};
 ghost use Rattle.gui_base.specs.Refusing.{first_of, result_of, move_tests};
-ghost use Rattle.scene_defs.specs.Row.{setter_of};
+ghost use Rattle.scene_defs.specs.Row.{setter_of, shown_row};
 ghost use Rattle.scene_defs.specs.Scene.{handles_of, is_there, row_at, value, first_scene};
-ghost use Rattle.scene_defs.specs.Change.{answer_of, changed, tests, styling_in, asset_change_in};
+ghost use Rattle.scene_defs.specs.Change.{answer_of, changed, tests, styling_in, asset_change_in, text_at};
+ghost use Rattle.scene_defs.specs.Change.{absent_image, unfinished_image};
+ghost use Rattle.scene_defs.specs.Texts.{is_text};
 ghost use Rattle.scene_defs.specs.Ranges.{is_in_range};
 ghost use Rattle.scene_defs.specs.Valid.{IsValid, IsChange, IsRow};
-ghost use Rattle.gui_pool.specs.Table.{value_at, value_inserted};
 ghost use Rattle.gui_store.specs.Parts.{AreKept};
 ghost use Rattle.gui_store.specs.Removed.{removed_by};
-ghost use Rattle.gui_store.specs.Rows.{HaveRows, rows_without};
+ghost use Rattle.gui_store.specs.Rows.{HaveRows, set_without, row_shown};
 ghost use Rattle.gui_store.specs.Setters.{asked_of};
 ghost use Rattle.gui_store.specs.Values.{won_at, inherited_at, given_at};
 
 use crate::assets::build;
 use crate::range::is_in_range;
-use crate::row::{Setter, new_row, set_row, setter_of};
+use crate::setter::{Setter, setter_of};
 use crate::styling::{named_by, restyle};
+use arrayvec::ArrayVec;
 use gui_base::intervals::HANDLE;
-use gui_base::{Handle, Kind, Limits, NoMemory, Part, Prop, Refusal};
+use gui_base::{Handle, Kind, Limits, NoMemory, Part, Pool, Prop, Refusal};
 use gui_font::{Fonts, Images};
-use gui_pool::Table;
+use gui_rows::RowTable;
 use gui_style::Styles;
 use gui_tree::Tree;
-use scene_defs::{Change, Row};
+use scene_defs::{Change, Feature, MOST_TEXT, Row, Text};
 use std::alloc::Global;
 use style_defs::kinds::default_in;
 
@@ -44,13 +45,13 @@ const SYSTEM_LAYER: Handle = Handle(2);
 /// The screen that is shown at first.
 const FIRST_SCREEN: Handle = Handle(3);
 
-/// A scene: the tree of its objects, a row for each, their styles, the fonts and images, the active screen
-/// and the limits.
+/// A scene: the tree of its objects, a row and a text for each, their styles, the fonts and images, the active
+/// screen and the limits.
 #[derive(Drop)]
 pub struct Store {
     tree: Tree,
     // Those of the objects of the tree, by handle.
-    rows: Table<Row>,
+    rows: RowTable,
     styles: Styles,
     fonts: Fonts,
     images: Images,
@@ -58,7 +59,8 @@ pub struct Store {
     limits: Limits,
     ghost kept: { AreKept (record {
       tree = tree;
-      rows = rows;
+      rows = rows.rows;
+      spare_texts = rows.spare_texts;
       styles = styles;
       fonts = fonts;
       images = images;
@@ -67,25 +69,13 @@ pub struct Store {
     }) },
 }
 
-/// Gives a row to a handle that has none.
-fn insert_row(rows: &mut Table<Row>, h: Handle, row: Row)
-    requires within { h.0 < length rows.old.values }
-    requires vacant { value_at rows.old h.0 ≡ None }
-    requires room { 0 < rows.old.spare }
-    ensures { rows.new ≡ value_inserted rows.old h.0 row }
-{
-    let Ok(()) = rows.insert(h.0 as u32, row) else {
-        unreachable!()
-    };
-}
-
-/// Takes out the rows of these handles.
-fn remove_rows(rows: &mut Table<Row>, handles: &[Handle])
-    requires { HaveRows rows.old handles.now }
-    ensures { rows.new ≡ rows_without rows.old handles.now }
+/// Takes out the rows of these handles, and gives back the chunks of their texts.
+fn remove_rows(rows: &mut RowTable, handles: &[Handle])
+    requires { HaveRows rows.old.rows handles.now }
+    ensures { rows.new ≡ set_without rows.old handles.now }
 {
     for h in handles {
-        let _ = rows.remove(h.0 as u32);
+        rows.remove(h.0 as u32);
     }
 }
 
@@ -98,15 +88,15 @@ impl Store {
         ensures { IfOk result (λ store. scene_of store ≡ first_scene (bounds_of limits.now)) }
     {
         let tree = Tree::open(alloc, limits.objects)?;
-        let Ok(mut rows) = Table::open(alloc, HANDLES, limits.objects) else {
+        let Ok(mut rows) = RowTable::open(alloc, HANDLES, limits.objects, limits.texts) else {
             return Err(NoMemory);
         };
         let styles = Styles::open(alloc, limits.styles, limits.entries, limits.uses)?;
         let fonts = Fonts::with_capacity(alloc, limits.fonts, limits.glyphs, limits.ink)?;
         let images = Images::with_capacity(alloc, limits.images, limits.pixels)?;
-        insert_row(&mut rows, TOP_LAYER, new_row(Kind::Layer));
-        insert_row(&mut rows, SYSTEM_LAYER, new_row(Kind::Layer));
-        insert_row(&mut rows, FIRST_SCREEN, new_row(Kind::Screen));
+        rows.insert_new(TOP_LAYER.0 as u32, Kind::Layer);
+        rows.insert_new(SYSTEM_LAYER.0 as u32, Kind::Layer);
+        rows.insert_new(FIRST_SCREEN.0 as u32, Kind::Screen);
         Ok(Store {
             tree,
             rows,
@@ -119,8 +109,7 @@ impl Store {
     }
 
     /// Changes the scene, or answers the first refusal of this change, which leaves all as it was: Range
-    /// where a number of it lies outside its interval, and then those of each change. A new object is a
-    /// plain one.
+    /// where a number of it lies outside its interval or a text is too long, and then those of each change.
     pub fn apply(&mut self, change: &Change) -> Result<(), Refusal>
         requires { IsChange change.now }
         ensures answer { result ≡ result_of (answer_of (scene_of self.old) change.now) }
@@ -175,11 +164,20 @@ impl Store {
 
     /// The row of an object, or none where it is not there.
     pub fn row(&self, h: Handle) -> Option<&Row>
-        ensures value { option_copied result ≡ row_at (scene_of self.now) h.0 }
+        ensures value { option_map (λ r. shown_row r.now) result ≡ row_at (scene_of self.now) h.0 }
         ensures handle { IfSome result (λ row. is_counted HANDLE h.0 ≡ true) }
         ensures in_range { IfSome result (λ row. IsRow row.now) }
     {
         self.rows.get(h.0 as u32)
+    }
+
+    /// Makes `out` the bytes of the text of an object that is there: UTF-8, and at most 1,000 of them.
+    pub fn text_into(&self, h: Handle, out: &mut ArrayVec<u8, 1000>)
+        requires { is_there (scene_of self.now) h.0 ≡ true }
+        ensures text { out.new.items ≡ text_at (scene_of self.now) h.0 }
+        ensures valid { is_text out.new.items ≡ true }
+    {
+        self.rows.text_into(h.0 as u32, out);
     }
 
     /// The value of a property of a part of an object that is there: what wins for that part in the object's
@@ -198,7 +196,7 @@ impl Store {
 
     /// The same of an object whose row is read already.
     pub fn value_by_row(&self, h: Handle, row: &Row, part: Part, prop: Prop) -> i32
-        requires { Some row.now ≡ row_at (scene_of self.now) h.0 }
+        requires { Some (shown_row row.now) ≡ row_at (scene_of self.now) h.0 }
         ensures value { result ≡ value (scene_of self.now) h.0 part prop }
         ensures in_range { is_value prop result ≡ true }
     {
@@ -210,7 +208,7 @@ impl Store {
 
     /// What wins for a part of an object that has this row, in its states.
     fn won_by_row(&self, h: Handle, row: &Row, part: Part, prop: Prop) -> Option<i32>
-        requires { Some row.now ≡ value_at self.now.rows h.0 }
+        requires { Some (shown_row row.now) ≡ row_shown self.now.rows.rows h.0 }
         ensures { result ≡ won_at (parts_of self.now) h.0 part prop }
     {
         self.styles.lookup(h, part, row.states, prop)
@@ -245,7 +243,7 @@ impl Store {
 
     /// What wins for a part of an object that has this row, or is inherited.
     fn given(&self, h: Handle, row: &Row, part: Part, prop: Prop) -> Option<i32>
-        requires { Some row.now ≡ value_at self.now.rows h.0 }
+        requires { Some (shown_row row.now) ≡ row_shown self.now.rows.rows h.0 }
         ensures { result ≡ given_at (parts_of self.now) h.0 part prop }
     {
         let own = self.won_by_row(h, row, part, prop);
@@ -271,6 +269,7 @@ impl Store {
             Change::Front(h) => self.tree.move_to_index(h, u16::MAX),
             Change::Back(h) => self.tree.move_to_index(h, 0),
             Change::Load(h) => self.load(h),
+            Change::Text(h, ref text) => self.change_text(h, text),
             Change::Style(_) | Change::Set(_, _, _) | Change::Unset(_, _) => {
                 self.change_styles(change)
             }
@@ -289,7 +288,7 @@ impl Store {
         ensures { Changes self.old self.new (Change.Screen n) result }
     {
         self.tree.add_root(n)?;
-        insert_row(&mut self.rows, n, new_row(Kind::Screen));
+        self.rows.insert_new(n.0 as u32, Kind::Screen);
         Ok(())
     }
 
@@ -299,7 +298,7 @@ impl Store {
         ensures { Changes self.old self.new (Change.New n parent kind) result }
     {
         self.tree.add(n, parent)?;
-        insert_row(&mut self.rows, n, new_row(kind));
+        self.rows.insert_new(n.0 as u32, kind);
         Ok(())
     }
 
@@ -329,7 +328,27 @@ impl Store {
                 self.active = h;
                 Ok(())
             }
-            Kind::Layer | Kind::Obj => Err(Refusal::Kind),
+            _ => Err(Refusal::Kind),
+        }
+    }
+
+    /// Gives an object another text.
+    fn change_text(&mut self, h: Handle, text: &Text) -> Result<(), Refusal>
+        requires in_range { is_in_range (Change.Text h text.now) ≡ true }
+        requires plain { IsChange (Change.Text h text.now) }
+        ensures { Changes self.old self.new (Change.Text h text.now) result }
+    {
+        let Some(row) = self.rows.get(h.0 as u32) else {
+            return Err(Refusal::Unknown);
+        };
+        if !Feature::Text.is_of(row.kind) {
+            return Err(Refusal::Kind);
+        }
+        let mut room = [0; MOST_TEXT];
+        let bytes = text.read(&mut room);
+        match self.rows.set_text(h.0 as u32, bytes) {
+            Ok(()) => Ok(()),
+            Err(_) => Err(Refusal::Full(Pool::Texts)),
         }
     }
 
@@ -344,16 +363,43 @@ impl Store {
         Ok(())
     }
 
-    /// Whether a setter is for an object that is there.
-    fn check_row(&self, setter: Setter, change: &Change) -> Result<(), Refusal>
+    /// Whether there is the image that a setter names.
+    fn check_image(&self, image: Option<u16>) -> Result<(), Refusal>
+        ensures { result ≡ result_of (first_of (absent_image (scene_of self.now).images image) None) }
+    {
+        match image {
+            Some(image) if self.images.finished(image).is_none() => Err(Refusal::Unknown),
+            _ => Ok(()),
+        }
+    }
+
+    /// Whether the image that a setter names is finished.
+    fn check_finished(&self, image: Option<u16>) -> Result<(), Refusal>
+        ensures { result ≡ result_of (first_of (unfinished_image (scene_of self.now).images image) None) }
+    {
+        match image {
+            Some(image) if self.images.finished(image) != Some(true) => Err(Refusal::Place),
+            _ => Ok(()),
+        }
+    }
+
+    /// Whether a setter is for an object that is there and has this row.
+    fn check_row(&self, setter: Setter, row: &Row, change: &Change) -> Result<(), Refusal>
         requires setter { Some setter ≡ option_map asked_of (setter_of change.now) }
         requires there { is_there (scene_of self.now) setter.handle.0 ≡ true }
+        requires row { Some (shown_row row.now) ≡ row_at (scene_of self.now) setter.handle.0 }
         ensures { result ≡ result_of (first_of (tests (scene_of self.now) change.now) None) }
     {
-        if setter.needs_parent {
-            return self.check_parent(setter.handle);
+        self.check_image(setter.image)?;
+        if let Some(feature) = setter.feature {
+            if !feature.is_of(row.kind) {
+                return Err(Refusal::Kind);
+            }
         }
-        Ok(())
+        if setter.needs_parent {
+            self.check_parent(setter.handle)?;
+        }
+        self.check_finished(setter.image)
     }
 
     /// Changes the row of an object alone.
@@ -367,12 +413,11 @@ impl Store {
             unreachable!()
         };
         let h = setter.handle;
-        let Some(mut row) = self.rows.get(h.0 as u32).copied() else {
+        let Some(row) = self.rows.get(h.0 as u32) else {
             return Err(Refusal::Unknown);
         };
-        self.check_row(setter, change)?;
-        set_row(&mut row, change);
-        let _ = self.rows.replace(h.0 as u32, row);
+        self.check_row(setter, row, change)?;
+        self.rows.set(h.0 as u32, change);
         Ok(())
     }
 

@@ -23,7 +23,7 @@ talls_placed slots Empty = refl
 talls_placed [] (Tree tall cs rest) = rw (talls_placed [] cs, talls_placed [] rest) refl
 talls_placed (slot ∷ slots) (Tree tall cs rest) = rw (talls_placed (kid_slots tall slot (roots cs)) cs, talls_placed slots rest) refl
 
-map-map : {A B C : Type 0} (g : B → C) (h : A → B) (f : Forest A) → map_forest (λ a. g (h a)) f ≡ map_forest g (map_forest h f)
+pub map-map : {A B C : Type 0} (g : B → C) (h : A → B) (f : Forest A) → map_forest (λ a. g (h a)) f ≡ map_forest g (map_forest h f)
 map-map g h Empty = refl
 map-map g h (Tree row cs rest) = rw (map-map g h cs, map-map g h rest) refl
 

@@ -1,6 +1,7 @@
 pub mod Boxes
 pub mod Everywhere
 pub mod Near
+pub mod OwnHeights
 pub mod SameTracks
 pub mod Shares
 pub mod Small

@@ -4,6 +4,7 @@ pub mod Flex
 pub mod FlexLaws
 pub mod Laws
 pub mod MadeTrees
+pub mod OwnHeights
 pub mod Reach
 pub mod Sizes
 pub mod Solving

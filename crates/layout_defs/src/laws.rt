@@ -7,6 +7,8 @@ ghost use Rattle.layout_defs.specs.FlexLaws.{NeighboursApart, ItemsApart, Tracks
 ghost use Rattle.layout_defs.specs.FlexLaws.{LinesFit, ItemsInTracks};
 ghost use Rattle.layout_defs.specs.Laws.{SolvedKeepsBoxes, SolvedApart, SolvedByRoot};
 ghost use Rattle.layout_defs.specs.MadeTrees.{MadeTreesAreSolved};
+ghost use Rattle.layout_defs.specs.OwnHeights.{NaturalWidthsAskNone, WidthsAskNone, SlotsAskNone};
+ghost use Rattle.layout_defs.specs.OwnHeights.{NaturalHeightsAskAtWidths, PlacesAskAtWidths};
 ghost use Rattle.layout_defs.specs.Reach.{NaturalWidthsAreSizes, SolvedAreSizes, PlacesAreNear};
 
 /// Each item of a container stands in exactly one track, and keeps its order. No track is empty, and without
@@ -57,6 +59,16 @@ pub fn places_are_near()
 pub fn solved_apart()
     ensures trees { SolvedApart }
     ensures roots { SolvedByRoot }
+{}
+
+/// Solving asks how high an object is by what it shows only where its content area is as wide as its solved
+/// width leaves it. Widths, and slots by natural heights, do not ask it at all.
+pub fn own_heights_count_at_widths()
+    ensures natural_widths { NaturalWidthsAskNone }
+    ensures widths { WidthsAskNone }
+    ensures natural_heights { NaturalHeightsAskAtWidths }
+    ensures slots { SlotsAskNone }
+    ensures places { PlacesAskAtWidths }
 {}
 
 /// Places that were worked out by hand, and places in trees made at random, as another implementation of the

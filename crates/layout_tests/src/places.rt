@@ -19,6 +19,7 @@ fn is_plain(change: &Change) -> bool
 {
     match change {
         Change::New(_, _, kind) => *kind == Kind::Obj,
+        Change::Text(_, _) => false,
         _ => true,
     }
 }

@@ -19,7 +19,7 @@ use std::test::Fail;
 
 /// A panel of five by three pixels that takes slices of two lines.
 fn opened_panel(alloc: Global) -> Result<SimPanel<MemSink>, Fail>
-    ensures { IfOk result (λ panel. HasSizes (⟦<SimPanel<MemSink> as Panel>⟧.state panel) (with_sizes 5 3 2)) }
+    ensures { IfOk result (λ it. HasSizes (⟦<SimPanel<MemSink> as Panel>⟧.state it) (with_sizes 5 3 2)) }
 {
     let frames = MemSink::with_capacity(alloc, 0, Vec::new(alloc))?;
     let plan = SimPlan {

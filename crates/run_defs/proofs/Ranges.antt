@@ -1,9 +1,12 @@
 -- What a line says has each number in its interval.
-use Rattle.std.proofs.Common.{◌≡◌, refl, sym, ◌∙◌, ℕ, ◌<◌, true, ◌&&◌, List, [], ◌∷◌, arith}
-use Rattle.std.specs.Prelude.{ℤ, pos, unsigned_abs, Some, None, Ok, Err, IfOk, nat_le, ◌+◌, ◌*◌}
+use Rattle.std.proofs.Common.{◌≡◌, refl, sym, ◌∙◌, ℕ, ◌<◌, Bool, true, false, ◌&&◌, List, [], ◌∷◌, arith}
+use Rattle.std.specs.Prelude.{ℤ, pos, ◌+ℤ◌, ◌-ℤ◌, unsigned_abs, Some, None, Ok, Err, IfOk, IfSome, if◌then◌else◌, nat_le, ◌+◌, ◌*◌}
 use Rattle.std.specs.declared.option.Option.{Option}
 use Rattle.std.specs.declared.result.Result.{Result}
+use Rattle.std.specs.Option.{option_and_then}
+use Rattle.std.specs.Str.{is_utf8}
 use Rattle.std.proofs.lemmas.Int.{ints}
+use Rattle.std.proofs.lemmas.Str.{IsUtf8-nil, is_utf8-from_IsUtf8}
 use Rattle.std.proofs.lemmas.Bool.Decides.{nat_tests}
 use Rattle.hex.specs.Hex.{decode_sized}
 use Rattle.hex.specs.declared.error.FromHexError.{FromHexError}
@@ -12,13 +15,16 @@ use Rattle.gui_base.specs.Intervals.{is_counted, is_within}
 use Rattle.gui_base.specs.Names.{table, named}
 use Rattle.gui_base.specs.declared.intervals.Count.{Count}
 use Rattle.gui_base.specs.declared.intervals.Interval.{Interval}
-use Rattle.gui_base.specs.declared.intervals.TheConstants.{HANDLE, NEW_HANDLE, INDEX, EXTENT, PERCENT, COORDINATE, GROW, COLOR, STYLE, TEXT_ALIGN, FONT, FONT_HEIGHT, ADVANCE, CODE, GLYPH_WIDTH, GLYPH_HEIGHT, GLYPH_OFFSET, IMAGE, IMAGE_SIDE, IMAGE_ROW}
-use Rattle.gui_base.specs.declared.words.Kind.TheVariants.{Obj}
+use Rattle.gui_base.specs.declared.intervals.TheConstants.{HANDLE, NEW_HANDLE, INDEX, EXTENT, PERCENT, COORDINATE, GROW, VALUE, COLOR, STYLE, TEXT_ALIGN, FONT, FONT_HEIGHT, ADVANCE, CODE, GLYPH_WIDTH, GLYPH_HEIGHT, GLYPH_OFFSET, IMAGE, IMAGE_SIDE, IMAGE_ROW}
 use Rattle.gui_base.specs.declared.words.TextAlign.{TextAlign}
 use Rattle.gui_base.specs.declared.props.Prop.{Prop}
 use Rattle.gui_base.specs.declared.props.Prop.TheVariants as prop
 use Rattle.gui_base.specs.Props.{is_value, values_of}
-use Rattle.scene_defs.specs.Row.{is_size, is_cross}
+use Rattle.scene_defs.specs.Quoted.{text_in_quotes}
+use Rattle.scene_defs.specs.Texts.{is_short}
+use Rattle.scene_defs.proofs.Unescaping.{text_in_quotes-utf8}
+use Rattle.scene_defs.specs.Row.{is_root, is_size, is_cross, is_range}
+use Rattle.run_defs.specs.declared.LineFault.TheVariants.{Range}
 use Rattle.run_defs.specs.declared.names.AssetName.{AssetName}
 use Rattle.run_defs.specs.declared.names.AssetName.TheVariants as asset
 use Rattle.run_defs.specs.declared.names.Name.{Name}
@@ -30,12 +36,13 @@ use Rattle.run_defs.specs.declared.names.StyleName.TheVariants as style
 use Rattle.run_defs.specs.declared.names.TreeName.{TreeName}
 use Rattle.run_defs.specs.declared.names.TreeName.TheVariants as tree
 use Rattle.run_defs.specs.declared.names.TheConstants.{COMMANDS}
-use Rattle.run_defs.specs.Commands.{handle, new_handle, index, extent, coordinate, cross_placing, grow, kind, style_number, color_value, align_number, value_for, code, glyph_offset}
+use Rattle.run_defs.specs.Commands.{handle, new_handle, index, extent, coordinate, cross_placing, grow, kind, shown_value, range_low, range_high, text, style_number, color_value, align_number, value_for, code, glyph_offset}
 use Rattle.run_defs.specs.Commands.{tree_fields, row_fields, style_fields, asset_fields, change_line, line_fields, named_says, command_says}
 use Rattle.run_defs.specs.Fields.{Progress, number_in, count_in, value, start}
 use Rattle.run_defs.specs.Language.{Word, Reading, mapped, words_of}
 use Rattle.run_defs.specs.Lengths.{before_percent, length_by, length_said}
 use Rattle.run_defs.specs.Laws.{IsInRange, SaysInRange}
+use Rattle.run_defs.specs.Texts.{between_quotes, text_from, text_said}
 use Rattle.run_defs.specs.Numbers.{within, number, number_of, natural, color_from, color, code_from, code_said}
 use Rattle.run_defs.specs.Script.{line_says, words_say}
 use Rattle.run_defs.proofs.Fields.{value-over, value-is}
@@ -162,21 +169,77 @@ code-ok word = by (natural (unsigned_abs CODE.low) (unsigned_abs CODE.high) word
 code-in : (at : Progress) → is_within CODE (pos (value code at)) ≡ true
 code-in at = value-is code (λ n. is_within CODE (pos n)) refl code-ok at
 
-ruleset inside = (handle-in, new_handle-in, index-in, extent-in, coordinate-in, cross-in, grow-in, style_number-in, value-in)
+shown_value-in : (at : Progress) → is_within VALUE (value shown_value at) ≡ true
+shown_value-in at = number-in VALUE refl at
+
+-- Ranges: the upper end is above the lower one.
+
+range_low-in : (at : Progress) → is_within (record { low = VALUE.low; high = VALUE.high -ℤ pos 1 }) (value range_low at) ≡ true
+range_low-in at = number-in (record { low = VALUE.low; high = VALUE.high -ℤ pos 1 }) refl at
+
+range-widest : (low : ℤ) → is_within (record { low = VALUE.low; high = VALUE.high -ℤ pos 1 }) low ≡ true → is_range low VALUE.high ≡ true
+range-widest low h = grind (arith, ints, nat_tests, h)
+
+range-above : (low n : ℤ) → is_within (record { low = VALUE.low; high = VALUE.high -ℤ pos 1 }) low ≡ true →
+    is_within (record { low = low +ℤ pos 1; high = VALUE.high }) n ≡ true → is_range low n ≡ true
+range-above low n h k = grind (arith, ints, nat_tests, h, k)
+
+range_high-ok : (low : ℤ) (word : Word) → is_within (record { low = VALUE.low; high = VALUE.high -ℤ pos 1 }) low ≡ true →
+    IfOk (number (low +ℤ pos 1) VALUE.high word) (λ n. is_range low n ≡ true)
+unfolding number
+range_high-ok low word h = by (within (low +ℤ pos 1) VALUE.high (number_of word)) (within-ok (low +ℤ pos 1) VALUE.high (number_of word)) where
+  by : (r : Reading ℤ) → IfOk r (λ n. is_within (record { low = low +ℤ pos 1; high = VALUE.high }) n ≡ true) → IfOk r (λ n. is_range low n ≡ true)
+  by (Err fault) is = tt
+  by (Ok n) is = range-above low n h is
+
+range-in : (at later : Progress) → is_range (value range_low at) (value (range_high (value range_low at)) later) ≡ true
+range-in at later =
+    let low = range_low-in at in
+    value-is (range_high (value range_low at)) (is_range (value range_low at)) (range-widest (value range_low at) low) (λ word. range_high-ok (value range_low at) word low) later
+
+-- Texts.
+
+text_from-short : (o : Option (List ℕ)) → IfOk (text_from o) (λ text. is_short text ≡ true)
+text_from-short None = tt
+text_from-short (Some text) = grind arith
+
+text_from-utf8 : (o : Option (List ℕ)) → IfSome o (λ text. is_utf8 text ≡ true) → IfOk (text_from o) (λ text. is_utf8 text ≡ true)
+text_from-utf8 None h = tt
+text_from-utf8 (Some text) h = by (is_short text) where
+  by : (short : Bool) → IfOk (if short then Ok text else Err Range) (λ text. is_utf8 text ≡ true)
+  by false = tt
+  by true = h
+
+quoted-utf8 : (inside : Option (List ℕ)) → IfSome (option_and_then text_in_quotes inside) (λ text. is_utf8 text ≡ true)
+quoted-utf8 None = tt
+quoted-utf8 (Some inside) = text_in_quotes-utf8 inside
+
+text-in : (at : Progress) → is_short (value text at) ≡ true
+unfolding text_said
+text-in at = value-is text is_short refl (λ word. text_from-short (option_and_then text_in_quotes (between_quotes word))) at
+
+text-utf8 : (at : Progress) → is_utf8 (value text at) ≡ true
+unfolding text_said
+text-utf8 at =
+    value-is text is_utf8 (is_utf8-from_IsUtf8 [] IsUtf8-nil)
+    (λ word. text_from-utf8 (option_and_then text_in_quotes (between_quotes word)) (quoted-utf8 (between_quotes word))) at
+
+ruleset inside = (handle-in, new_handle-in, index-in, extent-in, coordinate-in, cross-in, grow-in, shown_value-in, range-in, text-in, image-in, style_number-in, value-in)
 
 ruleset asset_inside = (font-in, font_height-in, advance-in, glyph_width-in, glyph_height-in, glyph_offset-in, code-in, image-in, image_side-in, image_row-in)
 
 -- a command makes no kind that only roots have
-kind-is : (at : Progress) → value kind at ≡ Obj
+kind-plain : (at : Progress) → is_root (value kind at) ≡ false
 unfolding value named
-kind-is at = grind arith
+kind-plain at = grind arith
 
 tree-in : (name : TreeName) (at : Progress) → IsInRange (Ok (change_line (tree_fields name at)).made)
-tree-in tree.New at = (simp inside, kind-is _)
+tree-in tree.New at = (simp inside, kind-plain _)
 tree-in name at = (simp inside, tt)
 
 row-in : (name : RowName) (at : Progress) → IsInRange (Ok (change_line (row_fields name at)).made)
 row-in row.Flag at = (simp inside, tt)
+row-in row.Text at = (simp inside, text-utf8 _)
 row-in name at = (simp inside, tt)
 
 style-in : (name : StyleName) (at : Progress) → IsInRange (Ok (change_line (style_fields name at)).made)

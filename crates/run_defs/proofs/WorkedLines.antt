@@ -1,12 +1,15 @@
 -- What lines say, worked out by the definitions.
-use Rattle.std.proofs.Common.{◌≡◌, refl, true, false, [], ◌∷◌, map}
-use Rattle.std.specs.Prelude.{codes, Ok, Err, pos, neg_ℤ}
+use Rattle.std.proofs.Common.{◌≡◌, refl, ℕ, true, false, List, [], ◌∷◌, ◌++◌, map}
+use Rattle.std.specs.Prelude.{codes, replicate, Ok, Err, pos, neg_ℤ}
+use Rattle.std.specs.Str.{is_utf8, chars}
+use lib.Utf8.{encode}
 use Rattle.hex.specs.Hex.{decode_pairs}
 use Rattle.gui_base.specs.declared.words.Format.TheVariants.{Rgb565Alpha}
 use Rattle.gui_base.specs.Bits.{with_bit}
 use Rattle.gui_base.specs.Names.{named}
 use Rattle.gui_base.specs.declared.words.Flag.TheVariants.{Bubble}
 use Rattle.gui_base.specs.declared.words.Align.TheVariants.{BottomMid}
+use Rattle.gui_base.specs.declared.words.Kind.TheVariants.{Checkbox}
 use Rattle.gui_base.specs.declared.words.Flow.TheVariants.{RowWrap}
 use Rattle.gui_base.specs.declared.words.Length.TheVariants.{Pixels, Percent, Content}
 use Rattle.gui_base.specs.declared.words.Placing.TheVariants.{End, Center, SpaceEvenly}
@@ -21,8 +24,10 @@ use Rattle.run_defs.specs.declared.LineFault.TheVariants.{Syntax, Range}
 use Rattle.run_defs.specs.Commands.{command_says, state, property, align, flow}
 use Rattle.run_defs.specs.Lengths.{length_said}
 use Rattle.run_defs.specs.Fields.{over, value, past}
+use Rattle.scene_defs.specs.Quoted.{text_in_quotes}
 use Rattle.scene_defs.specs.Rows.{bytes_in_hex}
 use Rattle.run_defs.specs.Numbers.{number, natural, color, code_said, bytes_said}
+use Rattle.run_defs.specs.Texts.{text_said}
 use Rattle.run_defs.specs.Selectors.{selector_named, state_named}
 use Rattle.run_defs.specs.Script.{Said, line_says, parse}
 
@@ -39,6 +44,14 @@ worked : map (λ line. parse line) (
     ∷ codes "flex 1 row_wrap"
     ∷ codes "places 1 space_evenly end center"
     ∷ codes "grow 12 255"
+    ∷ codes "new 10 3 checkbox"
+    ∷ codes "text 10  \"\"  "
+    ∷ codes "text 10 \" a  #1 \""
+    ∷ codes "text 10 \"\\\"\\\\\\n\""
+    ∷ codes "value 10 -10000"
+    ∷ codes "range 10 -10000 10000"
+    ∷ codes "range 10 0 1"
+    ∷ codes "source 10 999"
     ∷ codes "flag 1 bubble on"
     ∷ codes "state 12 pressed off"
     ∷ codes "style 7"
@@ -61,6 +74,14 @@ worked : map (λ line. parse line) (
     ∷ asks (change.Flex (record { 0 = 1 }) RowWrap)
     ∷ asks (change.Places (record { 0 = 1 }) SpaceEvenly End Center)
     ∷ asks (change.Grow (record { 0 = 12 }) 255)
+    ∷ asks (change.New (record { 0 = 10 }) (record { 0 = 3 }) Checkbox)
+    ∷ asks (change.Text (record { 0 = 10 }) [])
+    ∷ asks (change.Text (record { 0 = 10 }) (codes " a  #1 "))
+    ∷ asks (change.Text (record { 0 = 10 }) (codes "\"\\\n"))
+    ∷ asks (change.Value (record { 0 = 10 }) (neg_ℤ (pos 10000)))
+    ∷ asks (change.Range (record { 0 = 10 }) (neg_ℤ (pos 10000)) (pos 10000))
+    ∷ asks (change.Range (record { 0 = 10 }) (pos 0) (pos 1))
+    ∷ asks (change.Source (record { 0 = 10 }) 999)
     ∷ asks (change.Flag (record { 0 = 1 }) Bubble true)
     ∷ asks (change.State (record { 0 = 12 }) Pressed false)
     ∷ asks (change.Style 7)
@@ -74,7 +95,7 @@ worked : map (λ line. parse line) (
     ∷ asks (change.Image 999 Rgb565Alpha 256 1)
     ∷ asks (change.ImageRow 999 255 [])
     ∷ []
-unfolding line_says command_says named value past over number natural color code_said bytes_said bytes_in_hex decode_pairs state property align flow length_said selector_named state_named with_bit
+unfolding line_says command_says named value past over number natural color code_said bytes_said bytes_in_hex decode_pairs state property align flow length_said selector_named state_named with_bit text_said text_in_quotes is_utf8 chars encode
 worked = refl
 
 -- the form of the whole line comes before the intervals of its numbers, and what a value may be depends on the property
@@ -107,3 +128,44 @@ faults : map (λ line. parse line) (
     Err Range ∷ Err Range ∷ Err Range ∷ Err Range ∷ Err Syntax ∷ Err Syntax ∷ Err Syntax ∷ Err Range ∷ Err Range ∷ Err Syntax ∷ []
 unfolding line_says command_says named value past over number natural color code_said bytes_said bytes_in_hex decode_pairs state property align flow length_said selector_named state_named with_bit
 faults = refl
+
+-- a text ends the line, and stands between quotes with a space before it; a range has a lower end and a higher one
+text_faults : map (λ line. parse line) (
+    codes "new 10 3 screen"
+    ∷ codes "text 10"
+    ∷ codes "text 10 a"
+    ∷ codes "text 10 \""
+    ∷ codes "text 10 \"a"
+    ∷ codes "text 10 a\"b\""
+    ∷ codes "text 10 \"a\"b"
+    ∷ codes "text 10 \"a\" b"
+    ∷ codes "text 10 \"a\" \"b\""
+    ∷ codes "text 10 \"a\\\""
+    ∷ codes "text 10 \"\\t\""
+    ∷ codes "text 10\"a\""
+    ∷ codes "text \"10\" \"a\""
+    ∷ codes "\"frame\""
+    ∷ codes "pos 12 \"3\" 4"
+    ∷ (codes "text 10 \"" ++ 200 ∷ codes "\"")
+    ∷ (codes "text 10 \"" ++ 9 ∷ codes "\"")
+    ∷ codes "text 0 \"a"
+    ∷ codes "text 0 \"a\""
+    ∷ codes "value 10 10001"
+    ∷ codes "range 10 1 1"
+    ∷ codes "range 10 2 1"
+    ∷ codes "range 10 2 1 1"
+    ∷ codes "range 10 10000 01"
+    ∷ codes "range 10 10000 10001"
+    ∷ codes "source 10 0"
+    ∷ []) ≡ Err Syntax ∷ Err Syntax ∷ Err Syntax ∷ Err Syntax ∷ Err Syntax ∷ Err Syntax ∷ Err Syntax ∷ Err Syntax ∷ Err Syntax ∷ Err Syntax ∷ Err Syntax ∷ Err Syntax ∷ Err Syntax ∷ Err Syntax ∷
+    Err Syntax ∷ Err Syntax ∷ Err Syntax ∷ Err Syntax ∷ Err Range ∷ Err Range ∷ Err Range ∷ Err Range ∷ Err Syntax ∷ Err Syntax ∷ Err Range ∷ Err Range ∷ []
+unfolding line_says command_says named value past over number natural color code_said bytes_said bytes_in_hex decode_pairs state property align flow length_said selector_named state_named with_bit text_said text_in_quotes is_utf8 chars encode
+text_faults = refl
+
+-- a text has at most 1,000 bytes, where an escape counts as the byte that it stands for
+text_of_bytes : ℕ → List ℕ → List ℕ
+text_of_bytes n escaped = codes "text 10 \"" ++ (replicate n 97 ++ (escaped ++ codes "\""))
+
+longest : (parse (text_of_bytes 999 (codes "\\n")) ≡ asks (change.Text (record { 0 = 10 }) (replicate 999 97 ++ 10 ∷ []))) × (parse (text_of_bytes 1000 (codes "\\n")) ≡ Err Range)
+unfolding text_of_bytes line_says command_says named value past over number natural color code_said bytes_said bytes_in_hex decode_pairs state property align flow length_said selector_named state_named with_bit text_said text_in_quotes is_utf8 chars encode
+longest = (refl, refl)

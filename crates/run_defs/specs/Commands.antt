@@ -1,8 +1,8 @@
 -- The commands, each by its fields in their order.
-use Rattle.std.specs.Prelude.{ℕ, ℤ, pos, Bool, false, List, [], Some, None, Err}
+use Rattle.std.specs.Prelude.{ℕ, ℤ, pos, ◌+ℤ◌, ◌-ℤ◌, Bool, false, List, [], Some, None, Err}
 use Rattle.std.specs.declared.option.Option.{Option}
 use Rattle.gui_base.specs.declared.Handle.{Handle}
-use Rattle.gui_base.specs.declared.intervals.TheConstants.{HANDLE, NEW_HANDLE, INDEX, COORDINATE, GROW}
+use Rattle.gui_base.specs.declared.intervals.TheConstants.{HANDLE, NEW_HANDLE, INDEX, COORDINATE, GROW, VALUE}
 use Rattle.gui_base.specs.declared.intervals.TheConstants.{STYLE, FONT, FONT_HEIGHT, ADVANCE, GLYPH_WIDTH}
 use Rattle.gui_base.specs.declared.intervals.TheConstants.{GLYPH_HEIGHT, GLYPH_OFFSET, IMAGE, IMAGE_SIDE}
 use Rattle.gui_base.specs.declared.intervals.TheConstants.{IMAGE_ROW}
@@ -55,8 +55,9 @@ use Rattle.run_defs.specs.Fields.{Field, Progress, Made, number_in, count_in, ov
 use Rattle.run_defs.specs.Fields.{or_syntax, with_two, start, ended}
 use Rattle.run_defs.specs.Language.{Word, Reading}
 use Rattle.run_defs.specs.Lengths.{length_said}
-use Rattle.run_defs.specs.Numbers.{color, code_said, bytes_said}
+use Rattle.run_defs.specs.Numbers.{number, color, code_said, bytes_said}
 use Rattle.run_defs.specs.Selectors.{selector_named}
+use Rattle.run_defs.specs.Texts.{text_said}
 
 abbrev pub handle : Field Handle
 handle = over (λ n. record { 0 = n }) (count_in HANDLE)
@@ -103,6 +104,22 @@ cross_placing = name_in (table {A = Placing} CROSS_PLACINGS) Start
 -- how much of the free space of its track an object takes
 abbrev pub grow : Field ℕ
 grow = count_in GROW
+
+-- the value of a bar or a slider
+abbrev pub shown_value : Field ℤ
+shown_value = number_in VALUE
+
+-- the lower end of its range, which leaves room for a higher one
+abbrev pub range_low : Field ℤ
+range_low = number_in (record { low = VALUE.low; high = VALUE.high -ℤ pos 1 })
+
+-- the upper end above a lower one
+abbrev pub range_high : ℤ → Field ℤ
+range_high low = record { says = number (low +ℤ pos 1) VALUE.high; stand_in = VALUE.high }
+
+-- the text of a label or a checkbox
+abbrev pub text : Field (List ℕ)
+text = record { says = text_said; stand_in = [] }
 
 -- the number of a style
 abbrev pub style_number : Field ℕ
@@ -176,6 +193,10 @@ row_fields row.Size at = fields change.Size at ▹ handle ▹ extent ▹ extent
 row_fields row.Flex at = fields change.Flex at ▹ handle ▹ flow
 row_fields row.Places at = fields change.Places at ▹ handle ▹ placing ▹ cross_placing ▹ placing
 row_fields row.Grow at = fields change.Grow at ▹ handle ▹ grow
+row_fields row.Text at = fields change.Text at ▹ handle ▹ text
+row_fields row.Value at = fields change.Value at ▹ handle ▹ shown_value
+row_fields row.Range at = with_two (fields change.Range at ▹ handle) range_low range_high
+row_fields row.Source at = fields change.Source at ▹ handle ▹ count_in IMAGE
 
 -- the changes of styles, and of what an object has of them
 abbrev pub style_fields : StyleName → Progress → Made Change

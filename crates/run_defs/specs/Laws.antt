@@ -3,7 +3,7 @@ use Rattle.std.specs.Prelude.{◌≡◌, ◌≤◌, ◌<◌, true, false, ℕ, L
 use Rattle.std.specs.List.{flat_map, list_any, AllByRecursion}
 use Rattle.run_defs.specs.declared.Outcome.{Outcome}
 use Rattle.run_defs.specs.declared.Line.TheVariants.{Blank, Frame, Make}
-use Rattle.run_defs.specs.Language.{words_of, is_comment, is_in_no_word}
+use Rattle.run_defs.specs.Language.{words_of, is_comment, is_control}
 use Rattle.run_defs.specs.Fields.{Field, Progress, value, past, next_of}
 use Rattle.run_defs.specs.Step.{is_command_in_range, IsCommand}
 use Rattle.run_defs.specs.Script.{Said, parse, max_line, is_newline, without_return, says_cut}
@@ -55,13 +55,14 @@ ReturnSaysNothing =
     (lines : List (List ℕ)) → AllByRecursion IsReturnless lines →
     says_cut (ended_with (codes "\r\n") lines) ≡ says_cut (ended_with (codes "\n") lines)
 
--- a line that is not too long, no comment, and has no byte that no word has
+-- a line that is not too long, no comment, and has no control character
 pub record IsPlain (line : List ℕ) : Type 0 where
   pub short : length line ≤ max_line
   pub no_comment : is_comment line ≡ false
-  pub clean : list_any is_in_no_word line ≡ false
+  pub clean : list_any is_control line ≡ false
 
--- such lines say the same where their words are the same, however many spaces stand around them
+-- such lines say the same where their words are the same, however many spaces stand around them: only the
+-- spaces in a text are part of a word
 abbrev pub SameWordsSaySame : Type 0
 SameWordsSaySame =
     (first second : List ℕ) → IsPlain first → IsPlain second →

@@ -9,5 +9,6 @@ pub mod Run
 pub mod Script
 pub mod Selectors
 pub mod Step
+pub mod Texts
 pub mod Why
 pub mod Words

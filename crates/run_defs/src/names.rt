@@ -24,6 +24,10 @@ pub enum RowName {
     Flex,
     Places,
     Grow,
+    Text,
+    Value,
+    Range,
+    Source,
 }
 
 /// A change of styles, or of what an object has of them.
@@ -59,7 +63,7 @@ pub enum Name {
 }
 
 /// The names of all commands.
-pub const COMMANDS: [(&'static str, Name); 29] = [
+pub const COMMANDS: [(&'static str, Name); 33] = [
     ("frame", Name::Frame),
     ("screen", Name::Tree(TreeName::Screen)),
     ("new", Name::Tree(TreeName::New)),
@@ -77,6 +81,10 @@ pub const COMMANDS: [(&'static str, Name); 29] = [
     ("flex", Name::Row(RowName::Flex)),
     ("places", Name::Row(RowName::Places)),
     ("grow", Name::Row(RowName::Grow)),
+    ("text", Name::Row(RowName::Text)),
+    ("value", Name::Row(RowName::Value)),
+    ("range", Name::Row(RowName::Range)),
+    ("source", Name::Row(RowName::Source)),
     ("style", Name::Style(StyleName::Style)),
     ("set", Name::Style(StyleName::Set)),
     ("unset", Name::Style(StyleName::Unset)),

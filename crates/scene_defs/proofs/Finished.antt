@@ -101,7 +101,7 @@ full-taken : (name : ℕ) (image : Image) (images : List Image) (y : ℕ) (bytes
 full-taken name image images y bytes later e is done none =
     let shut = no-row image y (length bytes) is done in cc (rw (e, shut) at none)
 
-images-after : (scene : Scene) (change : Change) (name : ℕ) (image : Image) → IsValid scene → answer_of scene change ≡ None →
+pub images-after : (scene : Scene) (change : Change) (name : ℕ) (image : Image) → IsValid scene → answer_of scene change ≡ None →
     image_of scene.images name ≡ Some image → is_done image ≡ true → image_of (scene_after scene change).images name ≡ Some image
 images-after scene (change.Image i format w h) name image valid none e done = found-image name image scene.images _ e
 images-after scene (change.ImageRow i y row) name image valid none e done = found-rowed name image scene.images i row other e where

@@ -4,10 +4,12 @@ pub mod Distinct
 pub mod Finished
 pub mod Handles
 pub mod InRange
+pub mod Pictured
 pub mod Pictures
 pub mod Ready
 pub mod RowKinds
 pub mod Totals
+pub mod Unescaping
 pub mod Validity
 pub mod Values
 pub mod Walks

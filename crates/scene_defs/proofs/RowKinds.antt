@@ -1,10 +1,11 @@
 -- What holds of each object and of the roots, as a weight of the trees, and how deep objects lie.
-use Rattle.std.proofs.Common.{◌≡◌, ◌≢◌, ◌≤◌, ℕ, zero, suc, ◌+◌, Bool, true, false, cond, eqb, ltb, leb, ◌&&◌, refl, arith, ◌⊎◌, Some, None, is_some}
+use Rattle.std.proofs.Common.{◌≡◌, ◌≢◌, ◌≤◌, ℕ, zero, suc, ◌+◌, Bool, true, false, cond, eqb, ltb, leb, ◌&&◌, refl, arith, ◌⊎◌, List, Some, None, is_some}
 use Rattle.std.proofs.lemmas.Bool.Decides.{nat_tests}
 use Rattle.gui_base.specs.Forest.{Forest, Empty, Tree, all_by, tree_by, height, cut_by, depth_by, parent_by}
 use Rattle.scene_defs.specs.Scene.{Object, is_at, object_by}
 use Rattle.scene_defs.specs.Change.{has_screen}
-use Rattle.scene_defs.specs.Valid.{in_intervals, is_root_object, is_plain, have_kinds, is_root_at}
+use Rattle.text_defs.specs.Images.{Image}
+use Rattle.scene_defs.specs.Valid.{in_order, is_root_object, is_plain, have_kinds, is_root_at}
 use Rattle.scene_defs.proofs.Distinct.{there, IsDistinct}
 use Rattle.scene_defs.proofs.Totals.{one_at, Weighing, weight, cut-off}
 
@@ -13,25 +14,26 @@ abbrev pub is_top : ℕ → Bool
 is_top zero = true
 is_top (suc d) = false
 
--- 1 for an object that is not in order
-abbrev pub fault : Weighing
-fault d object = cond (cond (is_top d) (is_root_object object) (is_plain object) && in_intervals object) 0 1
-
 both_hold : (kind row : Bool) (x y : ℕ) (kinds rows more_kinds more_rows : Bool) → eqb x 0 ≡ (kinds && rows) → eqb y 0 ≡ (more_kinds && more_rows) →
     eqb (cond (kind && row) 0 1 + (x + y)) 0 ≡ ((kind && (kinds && more_kinds)) && (row && (rows && more_rows)))
 both_hold kind row x y kinds rows more_kinds more_rows a b = grind (arith, nat_tests, a, b)
 
-pub faults-below : (d : ℕ) (f : Forest Object) → eqb (weight fault (suc d) f) 0 ≡ (all_by is_plain f && all_by in_intervals f)
-faults-below d Empty = refl
-faults-below d (Tree object cs rest) =
-    both_hold (is_plain object) (in_intervals object) _ _ (all_by is_plain cs) (all_by in_intervals cs) (all_by is_plain rest) (all_by in_intervals rest)
-    (faults-below (suc d) cs) (faults-below d rest)
+module _ (images : List Image) where
+  -- 1 for an object that is not in order
+  abbrev pub fault : Weighing
+  fault d object = cond (cond (is_top d) (is_root_object object) (is_plain object) && in_order images object) 0 1
 
-pub faults : (f : Forest Object) → eqb (weight fault 0 f) 0 ≡ (have_kinds f && all_by in_intervals f)
-faults Empty = refl
-faults (Tree object cs rest) =
-    both_hold (is_root_object object) (in_intervals object) _ _ (all_by is_plain cs) (all_by in_intervals cs) (have_kinds rest) (all_by in_intervals rest)
-    (faults-below 0 cs) (faults rest)
+  pub faults-below : (d : ℕ) (f : Forest Object) → eqb (weight fault (suc d) f) 0 ≡ (all_by is_plain f && all_by (in_order images) f)
+  faults-below d Empty = refl
+  faults-below d (Tree object cs rest) =
+      both_hold (is_plain object) (in_order images object) _ _ (all_by is_plain cs) (all_by (in_order images) cs) (all_by is_plain rest) (all_by (in_order images) rest)
+      (faults-below (suc d) cs) (faults-below d rest)
+
+  pub faults : (f : Forest Object) → eqb (weight fault 0 f) 0 ≡ (have_kinds f && all_by (in_order images) f)
+  faults Empty = refl
+  faults (Tree object cs rest) =
+      both_hold (is_root_object object) (in_order images object) _ _ (all_by is_plain cs) (all_by (in_order images) cs) (have_kinds rest) (all_by (in_order images) rest)
+      (faults-below 0 cs) (faults rest)
 
 -- 1 for the root k
 abbrev pub root_at : ℕ → Weighing

@@ -2,7 +2,8 @@
 use Rattle.std.proofs.Common.{◌≡◌, ◌≤◌, ℕ, zero, suc, ◌+◌, Bool, true, false, cond, eqb, Some, refl, arith}
 use Rattle.std.proofs.lemmas.Bool.Decides.{nat_tests}
 use Rattle.gui_base.specs.Forest.{Forest, Empty, Tree, and_then, put_at, cut_by, tree_by, depth_by, with_children_by, with_row_by, size, count}
-use Rattle.scene_defs.specs.Scene.{Object, is_at, handles_of, object_by}
+use Rattle.gui_pool.specs.Texts.{need_of as chunks_of}
+use Rattle.scene_defs.specs.Scene.{Object, is_at, handles_of, object_by, chunks_in}
 use Rattle.scene_defs.proofs.Distinct.{there, IsDistinct}
 
 -- Trees without h stay.
@@ -53,6 +54,14 @@ size-total (Tree object cs rest) = omega (arith, size-total cs, size-total rest)
 pub count-total : (f : Forest Object) (k : ℕ) → count (handles_of f) k ≡ total (one_at k) f
 count-total Empty k = refl
 count-total (Tree object cs rest) k = rw (count-total cs k, count-total rest k) refl
+
+-- the chunks of an object's text
+abbrev pub chunks : Object → ℕ
+chunks object = chunks_of object.text
+
+pub chunks-total : (f : Forest Object) → chunks_in f ≡ total chunks f
+chunks-total Empty = refl
+chunks-total (Tree object cs rest) = rw (chunks-total cs, chunks-total rest) refl
 
 -- what an object weighs, by how many objects lie above it
 abbrev pub Weighing : Type 0

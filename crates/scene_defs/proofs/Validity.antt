@@ -2,18 +2,20 @@
 use Rattle.std.proofs.Common.{◌≡◌, ◌<◌, ◌≤◌, ◌∙◌, sym, ap, subst, ℕ, List, [], ◌∷◌, length, length-append, sum_by, ◌+◌, ◌-◌, zero, suc, Bool, true, false, cond, eqb, Option, Some, None, is_some, refl, arith, rules, inl, inr}
 use Rattle.std.specs.List.{list_any, list_all}
 use Rattle.std.specs.Prelude.{if◌then◌else◌, not, ◌&&◌, ◌||◌, ◌==◌, nat_le}
-use Rattle.std.proofs.lemmas.Bool.{cases_Bool, eqb-true, not-false, ltb-false, and_parts, false≢true}
+use Rattle.std.proofs.lemmas.Bool.{cases_Bool, eqb-true, not-false, ltb-false, and_parts, and_from, false≢true}
 use Rattle.std.proofs.lemmas.List.Folds.{list_any-append}
 use Rattle.std.proofs.lemmas.Bool.Decides.{nat_tests}
+use Rattle.std.proofs.lemmas.Str.{is_utf8-from_IsUtf8}
 use Rattle.std.proofs.lemmas.List.Sums.{sum_by_push}
 use Rattle.gui_base.specs.declared.pools.TheConstants.{POOLS}
 use Rattle.gui_base.specs.declared.Handle.{Handle}
 use Rattle.gui_base.specs.declared.intervals.TheConstants.{HANDLE, NEW_HANDLE, MAX_DEPTH}
 use Rattle.gui_base.specs.declared.limits.Pool.{Pool}
-use Rattle.gui_base.specs.declared.limits.Pool.TheVariants.{Objects, Styles, Entries, Uses, Fonts, Glyphs, Ink, Images, Pixels}
+use Rattle.gui_base.specs.declared.limits.Pool.TheVariants.{Objects, Styles, Entries, Uses, Texts, Fonts, Glyphs, Ink, Images, Pixels}
 use Rattle.gui_base.specs.declared.refusal.Refusal.{Refusal}
 use Rattle.gui_base.specs.declared.words.Kind.{Kind}
-use Rattle.gui_base.specs.declared.words.Kind.TheVariants.{Screen, Obj}
+use Rattle.gui_base.specs.declared.words.Kind.TheVariants.{Screen}
+use Rattle.std.specs.Str.{is_utf8}
 use Rattle.gui_base.specs.Forest.{Forest, Empty, Tree, and_then, leaf, size, count, StandsOnce, depth_by, height, with_children_by, has, parent_of, preorder}
 use Rattle.gui_base.proofs.Visits.{count-has, count-off as absent_count}
 use Rattle.gui_base.specs.Intervals.{is_counted}
@@ -21,9 +23,11 @@ use Rattle.gui_base.specs.Limits.{Bounds}
 use Rattle.scene_defs.specs.declared.Change.{Change}
 use Rattle.scene_defs.specs.declared.Change.TheVariants as change
 use Rattle.scene_defs.specs.declared.Row.{Row}
-use Rattle.scene_defs.specs.Row.{row_after, row_set}
-use Rattle.scene_defs.specs.Scene.{Object, Scene, is_at, handles_of, first_scene, is_there, object_by, spare, new_object, glyph_count, ink_count, pixel_count}
-use Rattle.scene_defs.specs.Change.{first_short, tests, answer_of, answer_in_range, need_of, freed_by, scene_after, tree_below, below, parent_object, is_screen, over_row, with_screen, with_object, without, last_below, at_index_below, with_row}
+use Rattle.scene_defs.specs.Row.{is_root, is_row, new_row, row_after, row_set}
+use Rattle.scene_defs.specs.Texts.{is_text, is_short, is_shown_image}
+use Rattle.gui_pool.specs.Texts.{need_of as chunks_of}
+use Rattle.scene_defs.specs.Scene.{Object, Scene, is_at, handles_of, first_scene, is_there, object_by, spare, new_object, chunks_in, glyph_count, ink_count, pixel_count}
+use Rattle.scene_defs.specs.Change.{first_short, tests, answer_of, answer_in_range, need_of, freed_by, scene_after, tree_below, below, parent_object, is_screen, is_screen_kind, over_row, over_text, text_at, text_of, with_text, with_screen, with_object, without, last_below, at_index_below, with_row}
 use Rattle.text_defs.specs.Building.{new_font, with_font, with_glyph, with_finished}
 use Rattle.text_defs.specs.Fonts.{Font}
 use Rattle.text_defs.specs.Images.{Image, with_image, with_row as with_image_row}
@@ -40,15 +44,29 @@ use Rattle.scene_defs.proofs.Changes.{Fail, tests-fail, range_done, room_in_rang
 use Rattle.scene_defs.proofs.Distinct.{there, IsDistinct, distinct_once, count-off}
 use Rattle.scene_defs.proofs.Handles.{has-handles, depth-handles, parent-handles, below-handles, height-handles}
 use Rattle.scene_defs.proofs.InRange.{row_in_range}
+use Rattle.scene_defs.proofs.Pictured.{shown-after, still_in_order}
 use Rattle.scene_defs.proofs.Ready.{first_ready, ready-after}
 use Rattle.scene_defs.proofs.Assets.{once-append, all-append, font-among, image-among, names-append, image_names-append, names-given, length-given, fonts-given, glyphs-given, ink-given, are_done, are_rowed}
 use Rattle.scene_defs.proofs.RowKinds.{is_top, fault, faults, root_at, roots-weight, roots-tree, too_low, low-height, screen_root, depth-height, depth-there, depth-below, depth-cut, parent-depth, there-cut, parent-left}
-use Rattle.scene_defs.proofs.Totals.{total, total-cut, one, one_at, size-total, count-total, Weighing, weight, Joins, weight-total, weight-below, weight-and_then, weight-put_at, weight-cut, weight-with_children, weight-with_row}
+use Rattle.scene_defs.proofs.Totals.{total, total-cut, one, one_at, chunks, chunks-total, size-total, count-total, Weighing, weight, Joins, weight-total, weight-below, weight-and_then, weight-put_at, weight-cut, weight-with_children, weight-with_row}
+
+-- a new row is in range, and the empty text is one
+new_row-in : (kind : Kind) → is_row (new_row kind) ≡ true
+new_row-in Screen = refl
+new_row-in kind = refl
+
+no_text-in : is_text [] ≡ true
+no_text-in = and_from (is_utf8 []) (is_short []) (is_utf8-from_IsUtf8 [] ([], (refl, refl))) refl
+
+-- whether an object of a kind may stand at a depth, where it is new
+abbrev fits_at : ℕ → Kind → Bool
+fits_at zero kind = is_screen_kind kind
+fits_at (suc d) kind = not (is_root kind)
 
 -- a new screen, or an object below another
-new_object-in : (n d : ℕ) (kind : Kind) → is_counted NEW_HANDLE n ≡ true → kind ≡ cond (is_top d) Screen Obj → fault d (new_object n kind) ≡ 0
-new_object-in n zero kind new e = rw e (grind (arith, nat_tests, new))
-new_object-in n (suc d) kind new e = rw e (grind (arith, nat_tests, new))
+new_object-in : (images : List Image) (n d : ℕ) (kind : Kind) → is_counted NEW_HANDLE n ≡ true → fits_at d kind ≡ true → fault images d (new_object n kind) ≡ 0
+new_object-in images n zero kind new e = grind (arith, nat_tests, new, e, new_row-in kind, no_text-in)
+new_object-in images n (suc d) kind new e = grind (arith, nat_tests, new, e, new_row-in kind, no_text-in)
 
 -- the roots that each change leaves
 abbrev stays : Scene → ℕ → Bool
@@ -69,16 +87,18 @@ record Edit (scene : Scene) (change : Change) (g : Forest Object) (gone come : W
   sums : (w : Weighing) → weight w 0 g + gone w ≡ come w + weight w 0 scene.trees
   once : (k : ℕ) → come (λ d. one_at k) + total (one_at k) scene.trees ≤ gone (λ d. one_at k) + 1
   roots : (k : ℕ) → stays scene k ≡ true → gone (root_at k) ≤ come (root_at k)
-  faults : come fault ≤ gone fault
+  faults : come (fault scene.images) ≤ gone (fault scene.images)
   low : come (too_low MAX_DEPTH) ≤ gone (too_low MAX_DEPTH)
   handles : (k : ℕ) → gone (λ d. one_at k) + added_sum scene change (one_at k) ≡ come (λ d. one_at k) + removed_sum scene change (one_at k)
   objects : gone (λ d. one) + need_of scene change Objects ≡ come (λ d. one) + freed_by scene change Objects
+  texts : gone (λ d. chunks) + need_of scene change Texts ≡ come (λ d. chunks) + freed_by scene change Texts
 
 -- what a change that is done leaves, and how many slots it takes and frees
 pub record Leaves (scene : Scene) (change : Change) (after : Scene) : Type 0 where
   pub trees : AreTrees after.trees after.active
-  pub rows : AreRows after.trees
+  pub rows : AreRows after.images after.trees
   pub objects : size after.trees + freed_by scene change Objects ≡ need_of scene change Objects + size scene.trees
+  pub texts : chunks_in after.trees + freed_by scene change Texts ≡ need_of scene change Texts + chunks_in scene.trees
   -- how often a handle stands
   pub handles : (k : ℕ) →
       count (handles_of after.trees) k + removed_sum scene change (one_at k) ≡ added_sum scene change (one_at k) + count (handles_of scene.trees) k
@@ -109,25 +129,27 @@ module _ (scene : Scene) (change : Change) (v : IsValid scene) where
         let active = root_after scene.active (grind (arith, nat_tests)) v.trees.active in
         let heights = low-height MAX_DEPTH 0 in
         let low : height g ≤ MAX_DEPTH = grind (arith, nat_tests, e.sums (too_low MAX_DEPTH), e.low, heights f, heights g, v.trees.low) in
-        let sound = and_parts _ _ (sym (faults g) ∙ grind (arith, nat_tests, faults f, e.sums fault, e.faults, v.rows.kinds, v.rows.numbers)) in
+        let wrong = fault scene.images in
+        let sound = and_parts _ _ (sym (faults scene.images g) ∙ grind (arith, nat_tests, faults scene.images f, e.sums wrong, e.faults, v.rows.kinds, v.rows.numbers)) in
         record {
           trees = search (rules, root_after, v.trees);
           rows = record { kinds = sound.0; numbers = sound.1 };
           objects = omega (arith, sum_after one, e.objects, size-total f, size-total g);
+          texts = omega (arith, sum_after chunks, e.texts, chunks-total f, chunks-total g);
           handles = λ k. omega (arith, sum_after (one_at k), e.handles k, count-total g k, count-total f k);
         }
 
   -- one object more, at a depth
   added : (g : Forest Object) (n d : ℕ) (kind : Kind) → ((w : Weighing) → weight w 0 g ≡ weight w d (leaf (new_object n kind)) + weight w 0 scene.trees) →
-      is_counted NEW_HANDLE n ≡ true → kind ≡ cond (is_top d) Screen Obj → has (handles_of scene.trees) n ≡ false → d < MAX_DEPTH →
+      is_counted NEW_HANDLE n ≡ true → fits_at d kind ≡ true → has (handles_of scene.trees) n ≡ false → d < MAX_DEPTH →
       ((w : Object → ℕ) → added_sum scene change w ≡ w (new_object n kind) + removed_sum scene change w) →
-      need_of scene change Objects ≡ freed_by scene change Objects + 1 →
+      need_of scene change Objects ≡ freed_by scene change Objects + 1 → need_of scene change Texts ≡ freed_by scene change Texts →
       Leaves scene change (record scene { trees = g })
-  added g n d kind sums fits new off low rows objects =
+  added g n d kind sums fits new off low rows objects texts =
       let absent = count-off scene.trees n (sym (has-handles scene.trees n) ∙ off) in
       let once : (k : ℕ) → one_at k (new_object n kind) + total (one_at k) scene.trees ≤ 0 + 1 =
       λ k. grind (arith, nat_tests, absent, count-total scene.trees k, once_at k) in
-      let sound = new_object-in n d kind fits new in
+      let sound = new_object-in scene.images n d kind fits new in
       let shallow : too_low MAX_DEPTH d (new_object n kind) ≡ 0 = grind (arith, nat_tests, low) in
       edited g (λ w. 0) (λ w. w d (new_object n kind)) (search rules)
 
@@ -135,9 +157,9 @@ module _ (scene : Scene) (change : Change) (v : IsValid scene) where
   moved : (h p : ℕ) (g : Forest Object → Forest Object) → Joins (tree_below scene h) g → is_some (parent_object scene h) ≡ true →
       there (without scene.trees h) p ≡ true → depth_by (is_at p) scene.trees + height (tree_below scene h) ≤ MAX_DEPTH →
       ((w : Object → ℕ) → added_sum scene change w ≡ removed_sum scene change w) →
-      need_of scene change Objects ≡ freed_by scene change Objects →
+      need_of scene change Objects ≡ freed_by scene change Objects → need_of scene change Texts ≡ freed_by scene change Texts →
       Leaves scene change (record scene { trees = with_children_by (is_at p) g (without scene.trees h) })
-  moved h p g joins up on deep rows objects =
+  moved h p g joins up on deep rows objects texts =
       let f = scene.trees in
       let t = tree_below scene h in
       let left = without f h in
@@ -152,24 +174,24 @@ module _ (scene : Scene) (change : Change) (v : IsValid scene) where
       weight-below w flat old t ∙ sym (weight-below w flat new t) in
       let level = λ (w : Object → ℕ). same (λ d. w) (λ d object. refl) in
       let roots = λ (k : ℕ). same (root_at k) (λ d object. refl) in
-      let faults = same fault (λ d object. refl) in
+      let faults = same (fault scene.images) (λ d object. refl) in
       let above = depth-cut (is_at h) f p distinct in
       let low : weight (too_low MAX_DEPTH) (suc new) t ≡ 0 = grind (arith, nat_tests, low-height MAX_DEPTH (suc new) t, above, new-is, deep) in
       edited (with_children_by (is_at p) g left) (λ w. weight w (suc old) t) (λ w. weight w (suc new) t)
-      (search (rules, once_at, level one, rows))
+      (search (rules, once_at, level one, level chunks, rows))
 
   -- the tree at h elsewhere below its own parent, where it has room
   moved_beside : (h : ℕ) (g : Forest Object → Forest Object) (after : Option Object → Forest Object) → Joins (tree_below scene h) g →
       ((p : Object) → after (Some p) ≡ with_children_by (is_at p.handle) g (without scene.trees h)) →
       not (is_some (parent_of (handles_of scene.trees) h)) ≡ false →
       ((w : Object → ℕ) → added_sum scene change w ≡ removed_sum scene change w) →
-      need_of scene change Objects ≡ freed_by scene change Objects →
+      need_of scene change Objects ≡ freed_by scene change Objects → need_of scene change Texts ≡ freed_by scene change Texts →
       Leaves scene change (record scene { trees = after (parent_object scene h) })
-  moved_beside h g after joins each below_row rows objects =
+  moved_beside h g after joins each below_row rows objects texts =
       let up = sym (parent-handles scene.trees h) ∙ not-false _ below_row in
       let p = found (parent_object scene h) up in
       let below = parent-depth h p.0 scene.trees distinct p.1 in
-      rw (p.1, each p.0) (moved h p.0.handle g joins up (parent-left scene.trees h p.0 p.1) (omega (arith, v.trees.low, below)) rows objects)
+      rw (p.1, each p.0) (moved h p.0.handle g joins up (parent-left scene.trees h p.0 p.1) (omega (arith, v.trees.low, below)) rows objects texts)
 
 cut_out : (scene : Scene) (h : Handle) → IsValid scene → there scene.trees h.0 ≡ true → stays scene h.0 ≡ false →
     Leaves scene (change.Delete h) (record scene { trees = without scene.trees h.0 })
@@ -182,14 +204,14 @@ cut_out scene h v on out =
     let once = once_at scene (change.Delete h) v in
     let roots = λ (k : ℕ) (stay : stays scene k ≡ true). roots-tree h.0 k e f (grind (arith, nat_tests, out, stay)) in
     let sums = λ (w : Object → ℕ). weight-total w e t in
-    edited scene (change.Delete h) v (without f h.0) (λ w. weight w e t) (λ w. 0) (search (rules, sums, size-total t))
+    edited scene (change.Delete h) v (without f h.0) (λ w. weight w e t) (λ w. 0) (search (rules, sums, size-total t, chunks-total t))
 
 -- One row.
--- it takes and frees no objects
+-- it takes and frees no objects, and no texts
 set_slots : (scene : Scene) (change : Change) (h : Handle) → row_set change ≡ Some h →
-    (need_of scene change Objects ≡ 0) × (freed_by scene change Objects ≡ 0)
-set_slots scene (change.Screen n) h set = (cc, cc)
-set_slots scene change h set = (cc, cc)
+    ((need_of scene change Objects ≡ 0) × (freed_by scene change Objects ≡ 0)) × ((need_of scene change Texts ≡ 0) × (freed_by scene change Texts ≡ 0))
+set_slots scene (change.Screen n) h set = ((cc, cc), (cc, cc))
+set_slots scene change h set = ((cc, cc), (cc, cc))
 
 -- it adds no object and removes none
 pub set_sums : (scene : Scene) (change : Change) (h : Handle) (w : Object → ℕ) → row_set change ≡ Some h →
@@ -208,19 +230,34 @@ kind_kept change row = refl
 no_worse : (kind named old new : Bool) → (old ≡ true → new ≡ true) → cond (kind && (named && new)) 0 1 ≤ cond (kind && (named && old)) 0 1
 no_worse kind named old new kept = grind (arith, nat_tests, kept)
 
+-- it shows a finished image where it did, or where the image that it sets is finished
+image_kept : (scene : Scene) (change : Change) (h : Handle) (row : Row) → row_set change ≡ Some h → Fail (tests scene change) →
+    is_shown_image scene.images row.image ≡ true → is_shown_image scene.images (row_after change row).image ≡ true
+image_kept scene (change.Source h i) k row set t shown = not-false _ t.1.1.1.0
+image_kept scene (change.Screen n) h row set t shown = shown
+image_kept scene change h row set t shown = shown
+
+in_order_kept : (scene : Scene) (change : Change) (h : Handle) (object : Object) → row_set change ≡ Some h → Fail (tests scene change) → is_in_range change ≡ true →
+    (is_row object.row && (is_text object.text && is_shown_image scene.images object.row.image)) ≡ true →
+    (is_row (row_after change object.row) && (is_text object.text && is_shown_image scene.images (row_after change object.row).image)) ≡ true
+in_order_kept scene change h object set t fits is =
+    let a = and_parts _ _ is in
+    let b = and_parts _ _ a.1 in
+    and_from _ _ (row_in_range change object.row fits a.0) (and_from _ _ b.0 (image_kept scene change h object.row set t b.1))
+
 -- the object is in order where it was
-row_kept : (change : Change) (object : Object) (d : ℕ) → is_in_range change ≡ true →
-    fault d (over_row (row_after change) object) ≤ fault d object
-row_kept change object d fits =
-    rw (kind_kept change object.row) (no_worse (cond (is_top d) (is_root_object object) (is_plain object)) _ _ _ (row_in_range change object.row fits))
+row_kept : (scene : Scene) (change : Change) (h : Handle) (object : Object) (d : ℕ) → row_set change ≡ Some h → Fail (tests scene change) → is_in_range change ≡ true →
+    fault scene.images d (over_row (row_after change) object) ≤ fault scene.images d object
+row_kept scene change h object d set t fits =
+    rw (kind_kept change object.row) (no_worse (cond (is_top d) (is_root_object object) (is_plain object)) _ _ _ (in_order_kept scene change h object set t fits))
 
 abbrev handle_in : Option Handle → Handle
 handle_in None = record { 0 = 0 }
 handle_in (Some h) = h
 
 row_left : (scene : Scene) (change : Change) (h : Handle) → IsValid scene → row_set change ≡ Some h → there scene.trees h.0 ≡ true →
-    is_in_range change ≡ true → Leaves scene change (with_row scene h.0 (row_after change))
-row_left scene change h v set on fits =
+    is_in_range change ≡ true → Fail (tests scene change) → Leaves scene change (with_row scene h.0 (row_after change))
+row_left scene change h v set on fits t =
     let f = scene.trees in
     let new = over_row (row_after change) in
     let slots = set_slots scene change h set in
@@ -230,8 +267,38 @@ row_left scene change h v set on fits =
     let sums = λ (w : Weighing). weight-with_row w 0 e h.0 new r.0 f (distinct_once f v.trees.once) r.1 (omega arith) in
     let once = once_at scene change v in
     let rows = λ (k : ℕ). set_sums scene change h (one_at k) set in
-    let kept = row_kept change r.0 e fits in
+    let kept = row_kept scene change h r.0 e set t fits in
     edited scene change v _ (λ w. w e r.0) (λ w. w e (new r.0)) (search (rules, kept, rows))
+
+-- the text of an object that is there
+text_found : (scene : Scene) (h : ℕ) (object : Object) → object_by (is_at h) scene.trees ≡ Some object → text_at scene h ≡ object.text
+text_found scene h object e = ap text_of e
+
+-- the object stays in order with another text
+text_kept : (images : List Image) (text : List ℕ) (object : Object) (d : ℕ) → is_text text ≡ true →
+    fault images d (over_text text object) ≤ fault images d object
+text_kept images text object d is =
+    let named = is_counted HANDLE object.handle in
+    let shows = is_shown_image images object.row.image in
+    let others = is_text object.text && shows in
+    no_worse (cond (is_top d) (is_root_object object) (is_plain object)) named (is_row object.row && others) (is_row object.row && (is_text text && shows))
+    (λ old. let a = and_parts _ _ old in and_from (is_row object.row) _ a.0 (and_from (is_text text) _ is (and_parts (is_text object.text) shows a.1).1))
+
+texted : (scene : Scene) (h : Handle) (text : List ℕ) → IsValid scene → there scene.trees h.0 ≡ true → is_text text ≡ true →
+    Leaves scene (change.Text h text) (with_text scene h.0 text)
+texted scene h text v on is =
+    let f = scene.trees in
+    let change = change.Text h text in
+    let new = over_text text in
+    let e = depth_by (is_at h.0) f - 1 in
+    let at : depth_by (is_at h.0) f ≡ suc e = omega (arith, depth-there f h.0 on) in
+    let r = found (object_by (is_at h.0) f) (object_there f h.0 on) in
+    let sums = λ (w : Weighing). weight-with_row w 0 e h.0 new r.0 f (distinct_once f v.trees.once) r.1 (omega arith) in
+    let once = once_at scene change v in
+    let kept = text_kept scene.images text r.0 e is in
+    let old : chunks_of (text_at scene h.0) ≡ chunks r.0 = ap chunks_of (text_found scene h.0 r.0 r.1) in
+    let texts : chunks r.0 + need_of scene change Texts ≡ chunks (new r.0) + freed_by scene change Texts = omega (arith, old) in
+    edited scene change v _ (λ w. w e r.0) (λ w. w e (new r.0)) (search (rules, kept, texts))
 
 loaded : (scene : Scene) (h : Handle) → IsValid scene → is_screen scene h.0 ≡ true → Leaves scene (change.Load h) (record scene { active = h.0 })
 loaded scene h v screen =
@@ -239,31 +306,34 @@ loaded scene h v screen =
 
 -- a change of the book leaves the trees
 book_alone : (scene : Scene) (change : Change) → IsValid scene → (book : Book) → need_of scene change Objects ≡ 0 → freed_by scene change Objects ≡ 0 →
-    ((w : Object → ℕ) → added_sum scene change w ≡ removed_sum scene change w) → Leaves scene change (record scene { book = book })
-book_alone scene change v book need freed rows = record {
+    need_of scene change Texts ≡ 0 → freed_by scene change Texts ≡ 0 → ((w : Object → ℕ) → added_sum scene change w ≡ removed_sum scene change w) → Leaves scene change (record scene { book = book })
+book_alone scene change v book need freed taken given rows = record {
   trees = v.trees;
   rows = v.rows;
   objects = omega (arith, need, freed);
+  texts = omega (arith, taken, given);
   handles = λ k. omega (arith, rows (one_at k));
 }
 
 -- a change of the fonts and images leaves them too
-assets_alone : (scene : Scene) (change : Change) → IsValid scene → (fonts : List Font) (images : List Image) → need_of scene change Objects ≡ 0 →
-    freed_by scene change Objects ≡ 0 → ((w : Object → ℕ) → added_sum scene change w ≡ removed_sum scene change w) →
+assets_alone : (scene : Scene) (change : Change) → IsValid scene → (fonts : List Font) (images : List Image) →
+    ((o : Option ℕ) → is_shown_image scene.images o ≡ true → is_shown_image images o ≡ true) → need_of scene change Objects ≡ 0 →
+    freed_by scene change Objects ≡ 0 → need_of scene change Texts ≡ 0 → freed_by scene change Texts ≡ 0 → ((w : Object → ℕ) → added_sum scene change w ≡ removed_sum scene change w) →
     Leaves scene change (record scene { fonts = fonts; images = images })
-assets_alone scene change v fonts images need freed rows = record {
+assets_alone scene change v fonts images stay need freed taken given rows = record {
   trees = v.trees;
-  rows = v.rows;
+  rows = record { kinds = v.rows.kinds; numbers = still_in_order scene.images images stay scene.trees v.rows.numbers };
   objects = omega (arith, need, freed);
+  texts = omega (arith, taken, given);
   handles = λ k. omega (arith, rows (one_at k));
 }
 
-leaves : (scene : Scene) (change : Change) → IsValid scene → is_in_range change ≡ true → IsChange change → Fail (tests scene change) →
+leaves : (scene : Scene) (change : Change) → IsValid scene → is_in_range change ≡ true → IsChange change → Fail (tests scene change) → answer_of scene change ≡ None →
     Leaves scene change (scene_after scene change)
-leaves scene (change.Screen n) v fits c t =
+leaves scene (change.Screen n) v fits c t none =
     let sums = λ (w : Weighing). weight-and_then w (leaf (new_object n.0 Screen)) 0 scene.trees in
-    added scene (change.Screen n) v (with_screen scene.trees n.0) n.0 0 Screen sums fits refl t.0 (omega arith) (λ w. omega arith) refl
-leaves scene (change.New n p kind) v fits c t =
+    added scene (change.Screen n) v (with_screen scene.trees n.0) n.0 0 Screen sums fits refl t.0 (omega arith) (λ w. omega arith) refl refl
+leaves scene (change.New n p kind) v fits c t none =
     let f = scene.trees in
     let new = leaf (new_object n.0 kind) in
     let d = depth_by (is_at p.0) f - 1 in
@@ -272,11 +342,11 @@ leaves scene (change.New n p kind) v fits c t =
     let low : suc d < MAX_DEPTH = grind (arith, nat_tests, t.1.1.0, at, depth-handles f p.0, depth-height (is_at p.0) f, v.trees.low) in
     added scene (change.New n p kind) v (with_object f n.0 p.0 kind) n.0 (suc d) kind
     (λ w. weight-with_children w new _ (λ w. weight-and_then w new) 0 (suc d) p.0 f (distinct_once f v.trees.once) on (omega arith))
-    (and_parts _ _ fits).0 c t.1.0 low (λ w. omega arith) refl
-leaves scene (change.Delete h) v fits c t =
+    (and_parts _ _ fits).0 (ap not c) t.1.0 low (λ w. omega arith) refl refl
+leaves scene (change.Delete h) v fits c t none =
     let l = cut_out scene h v (sym (has-handles scene.trees h.0) ∙ not-false _ t.0) (grind (arith, nat_tests, t.1.0, t.1.1.0)) in
-    record { trees = l.trees; rows = l.rows; objects = l.objects; handles = l.handles }
-leaves scene (change.Parent h p) v fits c t =
+    record { trees = l.trees; rows = l.rows; objects = l.objects; texts = l.texts; handles = l.handles }
+leaves scene (change.Parent h p) v fits c t none =
     let f = scene.trees in
     let tree = tree_below scene h.0 in
     let d = distinct_once f v.trees.once in
@@ -284,35 +354,38 @@ leaves scene (change.Parent h p) v fits c t =
     let up = sym (parent-handles f h.0) ∙ not-false _ t.1.1.0 in
     let out = sym (below-handles f h.0 p.0) ∙ t.1.1.1.0 in
     moved scene (change.Parent h p) v h.0 p.0 (λ cs. and_then cs tree) (λ w. weight-and_then w tree) up (there-cut f h.0 p.0 d on out)
-    (omega (arith, ltb-false _ _ t.1.1.1.1.0, depth-handles f p.0, height-handles f h.0)) (λ w. refl) refl
-leaves scene (change.Index h n) v fits c t =
+    (omega (arith, ltb-false _ _ t.1.1.1.1.0, depth-handles f p.0, height-handles f h.0)) (λ w. refl) refl refl
+leaves scene (change.Index h n) v fits c t none =
     let joins = λ (w : Weighing). weight-put_at w n (tree_below scene h.0) in
-    moved_beside scene (change.Index h n) v h.0 _ (λ p. at_index_below p scene.trees h.0 n) joins (λ p. refl) t.1.0 (λ w. refl) refl
-leaves scene (change.Front h) v fits c t =
+    moved_beside scene (change.Index h n) v h.0 _ (λ p. at_index_below p scene.trees h.0 n) joins (λ p. refl) t.1.0 (λ w. refl) refl refl
+leaves scene (change.Front h) v fits c t none =
     let joins = λ (w : Weighing). weight-and_then w (tree_below scene h.0) in
-    moved_beside scene (change.Front h) v h.0 _ (λ p. last_below p scene.trees h.0) joins (λ p. refl) t.1.0 (λ w. refl) refl
-leaves scene (change.Back h) v fits c t =
+    moved_beside scene (change.Front h) v h.0 _ (λ p. last_below p scene.trees h.0) joins (λ p. refl) t.1.0 (λ w. refl) refl refl
+leaves scene (change.Back h) v fits c t none =
     let joins = λ (w : Weighing). weight-put_at w 0 (tree_below scene h.0) in
-    moved_beside scene (change.Back h) v h.0 _ (λ p. at_index_below p scene.trees h.0 0) joins (λ p. refl) t.1.0 (λ w. refl) refl
-leaves scene (change.Load h) v fits c t = loaded scene h v (not-false _ t.1.0)
-leaves scene (change.Style s) v fits c t = book_alone scene (change.Style s) v _ refl refl (λ w. refl)
-leaves scene (change.Set s prop value) v fits c t = book_alone scene (change.Set s prop value) v _ refl refl (λ w. refl)
-leaves scene (change.Unset s prop) v fits c t = book_alone scene (change.Unset s prop) v _ refl refl (λ w. refl)
-leaves scene (change.Use h s selector) v fits c t = book_alone scene (change.Use h s selector) v _ refl refl (λ w. refl)
-leaves scene (change.Unuse h s selector) v fits c t = book_alone scene (change.Unuse h s selector) v _ refl refl (λ w. refl)
-leaves scene (change.Local h selector prop value) v fits c t = book_alone scene (change.Local h selector prop value) v _ refl refl (λ w. refl)
-leaves scene (change.Unlocal h selector prop) v fits c t = book_alone scene (change.Unlocal h selector prop) v _ refl refl (λ w. refl)
-leaves scene (change.Font f height advance) v fits c t = assets_alone scene (change.Font f height advance) v _ _ refl refl (λ w. refl)
-leaves scene (change.Glyph f code shape bytes) v fits c t = assets_alone scene (change.Glyph f code shape bytes) v _ _ refl refl (λ w. refl)
-leaves scene (change.EndFont f) v fits c t = assets_alone scene (change.EndFont f) v _ _ refl refl (λ w. refl)
-leaves scene (change.Image i format w h) v fits c t = assets_alone scene (change.Image i format w h) v _ _ refl refl (λ w. refl)
-leaves scene (change.ImageRow i y bytes) v fits c t = assets_alone scene (change.ImageRow i y bytes) v _ _ refl refl (λ w. refl)
-leaves scene change v fits c t =
-    row_left scene change (handle_in (row_set change)) v refl (sym (has-handles scene.trees (handle_in (row_set change)).0) ∙ not-false _ t.0) fits
+    moved_beside scene (change.Back h) v h.0 _ (λ p. at_index_below p scene.trees h.0 0) joins (λ p. refl) t.1.0 (λ w. refl) refl refl
+leaves scene (change.Load h) v fits c t none = loaded scene h v (not-false _ t.1.0)
+leaves scene (change.Style s) v fits c t none = book_alone scene (change.Style s) v _ refl refl refl refl (λ w. refl)
+leaves scene (change.Set s prop value) v fits c t none = book_alone scene (change.Set s prop value) v _ refl refl refl refl (λ w. refl)
+leaves scene (change.Unset s prop) v fits c t none = book_alone scene (change.Unset s prop) v _ refl refl refl refl (λ w. refl)
+leaves scene (change.Use h s selector) v fits c t none = book_alone scene (change.Use h s selector) v _ refl refl refl refl (λ w. refl)
+leaves scene (change.Unuse h s selector) v fits c t none = book_alone scene (change.Unuse h s selector) v _ refl refl refl refl (λ w. refl)
+leaves scene (change.Local h selector prop value) v fits c t none = book_alone scene (change.Local h selector prop value) v _ refl refl refl refl (λ w. refl)
+leaves scene (change.Unlocal h selector prop) v fits c t none = book_alone scene (change.Unlocal h selector prop) v _ refl refl refl refl (λ w. refl)
+leaves scene (change.Font f height advance) v fits c t none = assets_alone scene (change.Font f height advance) v _ _ (λ o. shown-after scene (change.Font f height advance) o v none) refl refl refl refl (λ w. refl)
+leaves scene (change.Glyph f code shape bytes) v fits c t none = assets_alone scene (change.Glyph f code shape bytes) v _ _ (λ o. shown-after scene (change.Glyph f code shape bytes) o v none) refl refl refl refl (λ w. refl)
+leaves scene (change.EndFont f) v fits c t none = assets_alone scene (change.EndFont f) v _ _ (λ o. shown-after scene (change.EndFont f) o v none) refl refl refl refl (λ w. refl)
+leaves scene (change.Image i format w h) v fits c t none = assets_alone scene (change.Image i format w h) v _ _ (λ o. shown-after scene (change.Image i format w h) o v none) refl refl refl refl (λ w. refl)
+leaves scene (change.ImageRow i y bytes) v fits c t none = assets_alone scene (change.ImageRow i y bytes) v _ _ (λ o. shown-after scene (change.ImageRow i y bytes) o v none) refl refl refl refl (λ w. refl)
+leaves scene (change.Text h text) v fits c t none =
+    let short = (and_parts _ _ fits).1 in
+    texted scene h text v (sym (has-handles scene.trees h.0) ∙ not-false _ t.0) (and_from _ _ c short)
+leaves scene change v fits c t none =
+    row_left scene change (handle_in (row_set change)) v refl (sym (has-handles scene.trees (handle_in (row_set change)).0) ∙ not-false _ t.0) fits t
 
 pub after_leaves : (scene : Scene) (change : Change) → is_in_range change ≡ true → IsChange change → answer_in_range scene change ≡ None →
     IsValid scene → Leaves scene change (scene_after scene change)
-after_leaves scene change fits c e v = leaves scene change v fits c (tests-fail (tests scene change) (first_short scene change POOLS) e)
+after_leaves scene change fits c e v = leaves scene change v fits c (tests-fail (tests scene change) (first_short scene change POOLS) e) (rw fits e)
 
 -- The styles of a scene that a change leaves, and the slots that it takes and frees of their pools.
 pub record LeavesBook (scene : Scene) (change : Change) (after : Scene) : Type 0 where
@@ -526,6 +599,7 @@ after_valid scene change fits c e v =
         styles = omega (arith, b.styles, fit.styles, room_in_range scene change Styles e, ap (λ (b : Bounds). b.styles) same);
         entries = omega (arith, b.entries, fit.entries, room_in_range scene change Entries e, ap (λ (b : Bounds). b.entries) same);
         uses = omega (arith, b.uses, fit.uses, room_in_range scene change Uses e, ap (λ (b : Bounds). b.uses) same);
+        texts = omega (arith, l.texts, fit.texts, room_in_range scene change Texts e, ap (λ (b : Bounds). b.texts) same);
         fonts = omega (arith, m.fonts, fit.fonts, room_in_range scene change Fonts e, ap (λ (b : Bounds). b.fonts) same);
         glyphs = omega (arith, m.glyphs, fit.glyphs, room_in_range scene change Glyphs e, ap (λ (b : Bounds). b.glyphs) same);
         ink = omega (arith, m.ink, fit.ink, room_in_range scene change Ink e, ap (λ (b : Bounds). b.ink) same);
@@ -547,6 +621,7 @@ adds_up scene change Objects l b m room fit = omega (arith, l.objects, fit.objec
 adds_up scene change Styles l b m room fit = omega (arith, b.styles, fit.styles, room, ap (λ (b : Bounds). b.styles) (after_keeps scene change))
 adds_up scene change Entries l b m room fit = omega (arith, b.entries, fit.entries, room, ap (λ (b : Bounds). b.entries) (after_keeps scene change))
 adds_up scene change Uses l b m room fit = omega (arith, b.uses, fit.uses, room, ap (λ (b : Bounds). b.uses) (after_keeps scene change))
+adds_up scene change Texts l b m room fit = omega (arith, l.texts, fit.texts, room, ap (λ (b : Bounds). b.texts) (after_keeps scene change))
 adds_up scene change Fonts l b m room fit = omega (arith, m.fonts, fit.fonts, room, ap (λ (b : Bounds). b.fonts) (after_keeps scene change))
 adds_up scene change Glyphs l b m room fit = omega (arith, m.glyphs, fit.glyphs, room, ap (λ (b : Bounds). b.glyphs) (after_keeps scene change))
 adds_up scene change Ink l b m room fit = omega (arith, m.ink, fit.ink, room, ap (λ (b : Bounds). b.ink) (after_keeps scene change))
@@ -569,7 +644,7 @@ first_trees_valid limits = search (rules, first_once)
 pub first_is_valid : FirstIsValid
 first_is_valid limits room = record {
   trees = first_trees_valid limits;
-  rows = search rules;
+  rows = record { kinds = refl; numbers = grind (arith, nat_tests, no_text-in) };
   book = empty_in_order;
   bare = λ h off. empty_bare h;
   assets = record { fonts_fit = refl; fonts_once = refl; images_fit = refl; images_once = refl };
@@ -579,6 +654,7 @@ first_is_valid limits room = record {
     styles = omega arith;
     entries = omega (arith, no_entries);
     uses = omega (arith, no_uses);
+    texts = omega arith;
     fonts = omega arith;
     glyphs = omega arith;
     ink = omega arith;

@@ -14,7 +14,8 @@ use Rattle.scene_defs.specs.Row.{is_on}
 use Rattle.scene_defs.specs.Scene.{Object, Scene, is_at, handles_of}
 use Rattle.scene_defs.specs.Place.{panel_of, place}
 use Rattle.scene_defs.specs.Visible.{met, seen_of, visible_in, visible, shown_trees}
-use Rattle.scene_defs.specs.Items.{Item, items}
+use Rattle.gui_base.specs.Coats.{Coat}
+use Rattle.scene_defs.specs.Items.{coats}
 use Rattle.scene_defs.specs.Shown.{Seen, order, seen}
 use Rattle.scene_defs.specs.Walk.{seen_alone, walked, ShownByWalk, NothingBelowNothing, IsSeenInside, WalkedInside, ShownInside}
 use Rattle.scene_defs.proofs.Distinct.{there, IsDistinct, distinct-three}
@@ -24,18 +25,18 @@ nothing_below_nothing place items Empty = refl
 nothing_below_nothing place items (Tree object cs rest) = grind (arith, nothing_below_nothing place items cs, nothing_below_nothing place items rest)
 
 -- an object as it is found by its handle
-abbrev found : (ℕ → Option Rect) → (ℕ → List Item) → ℕ → Seen
-found area items h = record { handle = h; visible = area h; items = items h }
+abbrev found : (ℕ → Option Rect) → (ℕ → List Coat) → ℕ → Seen
+found area items h = record { handle = h; visible = area h; coats = items h }
 
 abbrev is_seen : Seen → Bool
 is_seen s = is_some s.visible
 
-first_seen : (items : ℕ → List Item) (area : Option Rect) (h : ℕ) (more : List Seen) →
-    filter is_seen (record { handle = h; visible = area; items = items h } ∷ more) ≡ seen_alone items area h ++ filter is_seen more
+first_seen : (items : ℕ → List Coat) (area : Option Rect) (h : ℕ) (more : List Seen) →
+    filter is_seen (record { handle = h; visible = area; coats = items h } ∷ more) ≡ seen_alone items area h ++ filter is_seen more
 first_seen items None h more = refl
 first_seen items (Some v) h more = refl
 
-module _ (place : ℕ → Option Rect) (items : ℕ → List Item) (area : ℕ → Option Rect) where
+module _ (place : ℕ → Option Rect) (items : ℕ → List Coat) (area : ℕ → Option Rect) where
   found_by_walk : (clip : Option Rect) (f : Forest Object) → IsDistinct f → ((k : ℕ) → there f k ≡ true → area k ≡ visible_in place clip f k) →
       filter is_seen (map (found area items) (preorder (handles_of f))) ≡ walked place items clip f
   found_by_walk clip Empty d agrees = refl
@@ -49,7 +50,7 @@ module _ (place : ℕ → Option Rect) (items : ℕ → List Item) (area : ℕ �
 
 pub shown_by_walk : ShownByWalk
 shown_by_walk scene showable =
-    found_by_walk (place scene) (items scene) (visible scene) (Some (panel_of scene)) (shown_trees scene)
+    found_by_walk (place scene) (coats scene) (visible scene) (Some (panel_of scene)) (shown_trees scene)
     (distinct-three scene.trees scene.active showable.once showable.above_top showable.above_system) (λ k i. refl)
 
 -- What is seen lies inside the clip.
@@ -80,7 +81,7 @@ module _ (area : Rect) where
   abbrev AllInside : List Seen → Type 0
   AllInside = All (IsSeenInside area)
 
-  object_inside : (items : ℕ → List Item) (v : Option Rect) (h : ℕ) (more : List Seen) → Inside v → AllInside more → AllInside (seen_alone items v h ++ more)
+  object_inside : (items : ℕ → List Coat) (v : Option Rect) (h : ℕ) (more : List Seen) → Inside v → AllInside more → AllInside (seen_alone items v h ++ more)
   object_inside items None h more inside later = later
   object_inside items (Some v) h more inside later = All-cons (IsSeenInside area) _ more inside later
 
@@ -94,7 +95,7 @@ module _ (area : Rect) where
       let below = visible_inside at (seen_of at clip object) cs k (covered _ inside) in
       either Inside (is_at k object) inside (either Inside (there cs k) below (visible_inside at clip rest k covers))
 
-  walk_inside : (at : ℕ → Option Rect) (items : ℕ → List Item) (clip : Option Rect) (f : Forest Object) → IfSome clip (Covers area) → AllInside (walked at items clip f)
+  walk_inside : (at : ℕ → Option Rect) (items : ℕ → List Coat) (clip : Option Rect) (f : Forest Object) → IfSome clip (Covers area) → AllInside (walked at items clip f)
   walk_inside at items clip Empty covers = All-nil (IsSeenInside area)
   walk_inside at items clip (Tree object cs rest) covers =
       let v = seen_of at clip object in
@@ -102,14 +103,14 @@ module _ (area : Rect) where
       object_inside items v object.handle _ inside (All-append (IsSeenInside area) (walked at items v cs) (walked at items clip rest)
       (walk_inside at items v cs (covered v inside)) (walk_inside at items clip rest covers))
 
-  one_inside : (h : ℕ) (v : Option Rect) (is : List Item) (more : List Seen) → Inside v → AllInside (filter is_seen more) →
-      AllInside (filter is_seen (record { handle = h; visible = v; items = is } ∷ more))
+  one_inside : (h : ℕ) (v : Option Rect) (is : List Coat) (more : List Seen) → Inside v → AllInside (filter is_seen more) →
+      AllInside (filter is_seen (record { handle = h; visible = v; coats = is } ∷ more))
   one_inside h None is more inside later = later
   one_inside h (Some v) is more inside later = All-cons (IsSeenInside area) _ (filter is_seen more) inside later
 
   all_inside : (scene : Scene) (ks : List ℕ) → ((k : ℕ) → Inside (visible scene k)) → AllInside (filter is_seen (map (seen scene) ks))
   all_inside scene [] each = All-nil (IsSeenInside area)
-  all_inside scene (k ∷ ks) each = one_inside k (visible scene k) (items scene k) (map (seen scene) ks) (each k) (all_inside scene ks each)
+  all_inside scene (k ∷ ks) each = one_inside k (visible scene k) (coats scene k) (map (seen scene) ks) (each k) (all_inside scene ks each)
 
 pub walked_inside : WalkedInside
 walked_inside place items clip trees = walk_inside clip place items (Some clip) trees (λ x y i. i)

@@ -5,25 +5,30 @@ use Rattle.std.specs.declared.option.Option.{Option}
 use Rattle.gui_base.specs.declared.pools.TheConstants.{POOLS}
 use Rattle.gui_base.specs.declared.Handle.{Handle}
 use Rattle.gui_base.specs.declared.limits.Pool.{Pool}
-use Rattle.gui_base.specs.declared.limits.Pool.TheVariants.{Objects, Entries, Uses}
+use Rattle.gui_base.specs.declared.limits.Pool.TheVariants.{Objects, Entries, Uses, Texts}
 use Rattle.gui_base.specs.declared.refusal.Refusal.{Refusal}
 use Rattle.gui_base.specs.declared.refusal.Refusal.TheVariants.{Range, Full}
 use Rattle.gui_base.specs.declared.words.Kind.{Kind}
-use Rattle.gui_base.specs.declared.words.Kind.TheVariants.{Screen, Layer, Obj}
+use Rattle.gui_base.specs.declared.words.Kind.TheVariants.{Screen}
 use Rattle.style_defs.specs.Book.{Book, all_forgotten, entries_in, uses_in}
 use Rattle.gui_base.specs.Forest.{Forest, and_then, leaf, added_by, cut_by, moved_by, moved_last_by, size}
 use Rattle.gui_base.specs.Forest.{preorder}
 use Rattle.gui_base.specs.Forest.{tree_by, parent_by, with_row_by}
 use Rattle.gui_base.specs.Refusing.{Test, first_of, absent, parentless, root_tests, child_tests}
-use Rattle.gui_base.specs.Refusing.{removal_tests, move_tests, parent_tests, Kind as WrongKind, Place}
+use Rattle.gui_base.specs.Refusing.{removal_tests, move_tests, parent_tests, Unknown, Kind as WrongKind, Place}
+use Rattle.gui_pool.specs.Texts.{need_of as chunks_of}
+use Rattle.text_defs.specs.Images.{Image, has_image}
+use Rattle.scene_defs.specs.declared.Feature.{Feature}
+use Rattle.scene_defs.specs.declared.Feature.TheVariants.{Text}
 use Rattle.scene_defs.specs.declared.Change.{Change}
 use Rattle.scene_defs.specs.declared.Change.TheVariants as change
 use Rattle.scene_defs.specs.Assets.{AssetChange, asset_change_of}
 use Rattle.scene_defs.specs.Ranges.{is_in_range}
 use Rattle.scene_defs.specs.declared.Row.{Row}
-use Rattle.scene_defs.specs.Row.{Setter, setter_of}
-use Rattle.scene_defs.specs.Scene.{Object, Scene, is_at, handles_of, object_at, spare, new_object}
+use Rattle.scene_defs.specs.Row.{Setter, setter_of, has_feature}
+use Rattle.scene_defs.specs.Scene.{Object, Scene, is_at, handles_of, object_at, spare, new_object, chunks_in}
 use Rattle.scene_defs.specs.Styling.{Styling, styling_of}
+use Rattle.scene_defs.specs.Texts.{is_whole_image}
 
 -- the tree at h alone
 abbrev pub tree_below : Scene → ℕ → Forest Object
@@ -39,8 +44,7 @@ lacks scene pool need = nat_lt (spare scene pool) need
 
 abbrev pub is_screen_kind : Kind → Bool
 is_screen_kind Screen = true
-is_screen_kind Layer = false
-is_screen_kind Obj = false
+is_screen_kind kind = false
 
 -- whether there is an object that is a screen
 abbrev pub has_screen : Option Object → Bool
@@ -50,13 +54,30 @@ has_screen (Some object) = is_screen_kind object.row.kind
 abbrev pub is_screen : Scene → ℕ → Bool
 is_screen scene h = has_screen (object_at scene h)
 
--- how many slots of a pool a change takes
-abbrev pub need_by : Option Styling → Option AssetChange → Change → Pool → ℕ
-need_by (Some styling) assets change pool = styling.need pool
-need_by None (Some assets) change pool = assets.need pool
-need_by None None (change.Screen n) Objects = 1
-need_by None None (change.New n p kind) Objects = 1
-need_by None None change pool = 0
+-- whether there is an object whose kind has a feature
+abbrev pub is_featured : Feature → Option Object → Bool
+is_featured feature None = false
+is_featured feature (Some object) = has_feature feature object.row.kind
+
+abbrev pub has_feature_at : Scene → Feature → ℕ → Bool
+has_feature_at scene feature h = is_featured feature (object_at scene h)
+
+-- the text of an object
+abbrev pub text_of : Option Object → List ℕ
+text_of None = []
+text_of (Some object) = object.text
+
+abbrev pub text_at : Scene → ℕ → List ℕ
+text_at scene h = text_of (object_at scene h)
+
+-- how many slots of a pool a change takes: of a text that replaces another one only what that does not have
+abbrev pub need_by : Option Styling → Option AssetChange → Scene → Change → Pool → ℕ
+need_by (Some styling) assets scene change pool = styling.need pool
+need_by None (Some assets) scene change pool = assets.need pool
+need_by None None scene (change.Screen n) Objects = 1
+need_by None None scene (change.New n p kind) Objects = 1
+need_by None None scene (change.Text h text) Texts = chunks_of text - chunks_of (text_at scene h.0)
+need_by None None scene change pool = 0
 
 -- what a change asks for of the styles, where it changes them alone; and of the fonts and images, likewise
 abbrev pub styling_in : Scene → Change → Option Styling
@@ -66,7 +87,7 @@ abbrev pub asset_change_in : Scene → Change → Option AssetChange
 asset_change_in scene change = asset_change_of scene.fonts scene.images change
 
 abbrev pub need_of : Scene → Change → Pool → ℕ
-need_of scene change pool = need_by (styling_in scene change) (asset_change_in scene change) change pool
+need_of scene change pool = need_by (styling_in scene change) (asset_change_in scene change) scene change pool
 
 -- the handles of h and of all below it
 abbrev pub below : Scene → ℕ → List ℕ
@@ -80,6 +101,9 @@ book_without scene h = all_forgotten scene.book (below scene h)
 abbrev pub freed_by_styling : Option Styling → Scene → Change → Pool → ℕ
 freed_by_styling (Some styling) scene change pool = styling.freed pool
 freed_by_styling None scene (change.Delete h) Objects = size (tree_below scene h.0)
+freed_by_styling None scene (change.Delete h) Texts = chunks_in (tree_below scene h.0)
+freed_by_styling None scene (change.Text h text) Texts =
+    chunks_of (text_at scene h.0) - chunks_of text
 freed_by_styling None scene (change.Delete h) Entries =
     entries_in scene.book - entries_in (book_without scene h.0)
 freed_by_styling None scene (change.Delete h) Uses = uses_in scene.book - uses_in (book_without scene h.0)
@@ -94,9 +118,31 @@ first_short scene change [] = None
 first_short scene change (pool ∷ others) =
     if lacks scene pool (need_of scene change pool) then Some pool else first_short scene change others
 
-abbrev pub setter_tests : Forest ℕ → Setter → List Test
-setter_tests f setter =
-    absent f setter.handle.0 ∷ (if setter.needs_parent then parentless f setter.handle.0 ∷ [] else [])
+-- The tests of a setter: of what it names, of the kind, and of the place.
+
+abbrev pub absent_image : List Image → Option ℕ → List Test
+absent_image images None = []
+absent_image images (Some i) = (not (has_image images i), Unknown) ∷ []
+
+abbrev pub unfinished_image : List Image → Option ℕ → List Test
+unfinished_image images None = []
+unfinished_image images (Some i) = (not (is_whole_image images i), Place) ∷ []
+
+abbrev pub kind_tests : Scene → Option Feature → ℕ → List Test
+kind_tests scene None h = []
+kind_tests scene (Some feature) h = (not (has_feature_at scene feature h), WrongKind) ∷ []
+
+abbrev pub root_test : Forest ℕ → Bool → ℕ → List Test
+root_test f true h = parentless f h ∷ []
+root_test f false h = []
+
+abbrev pub setter_tests : Scene → Setter → List Test
+setter_tests scene setter =
+    absent (handles_of scene.trees) setter.handle.0
+    ∷ (absent_image scene.images setter.image
+    ++ (kind_tests scene setter.feature setter.handle.0
+    ++ (root_test (handles_of scene.trees) setter.needs_parent setter.handle.0
+    ++ unfinished_image scene.images setter.image)))
 
 abbrev pub object_tests : Forest ℕ → Option Handle → List Test
 object_tests f None = []
@@ -107,7 +153,7 @@ styling_tests f styling = object_tests f styling.object ++ styling.tests
 
 -- The tests of a change, in order: what is asked whatever room there is.
 abbrev pub tests_by : Option Setter → Option Styling → Option AssetChange → Scene → Change → List Test
-tests_by (Some setter) styling assets scene change = setter_tests (handles_of scene.trees) setter
+tests_by (Some setter) styling assets scene change = setter_tests scene setter
 tests_by None (Some styling) assets scene change = styling_tests (handles_of scene.trees) styling
 tests_by None None (Some assets) scene change = assets.tests
 tests_by None None None scene (change.Screen n) = root_tests (handles_of scene.trees) n.0
@@ -120,6 +166,8 @@ tests_by None None None scene (change.Front h) = move_tests (handles_of scene.tr
 tests_by None None None scene (change.Back h) = move_tests (handles_of scene.trees) h.0
 tests_by None None None scene (change.Load h) =
     absent (handles_of scene.trees) h.0 ∷ (not (is_screen scene h.0), WrongKind) ∷ []
+tests_by None None None scene (change.Text h text) =
+    absent (handles_of scene.trees) h.0 ∷ kind_tests scene (Some Text) h.0
 tests_by None None None scene change = []
 
 abbrev pub tests : Scene → Change → List Test
@@ -175,6 +223,14 @@ over_row f object = record object { row = f object.row }
 abbrev pub with_row : Scene → ℕ → (Row → Row) → Scene
 with_row scene h f = record scene { trees = with_row_by (is_at h) (over_row f) scene.trees }
 
+-- an object with another text
+abbrev pub over_text : List ℕ → Object → Object
+over_text text object = record object { text = text }
+
+-- the scene with this text of h
+abbrev pub with_text : Scene → ℕ → List ℕ → Scene
+with_text scene h text = record scene { trees = with_row_by (is_at h) (over_text text) scene.trees }
+
 -- the scene after a change that is done
 abbrev pub after_by : Option Setter → Option Styling → Option AssetChange → Scene → Change → Scene
 after_by (Some setter) styling assets scene change = with_row scene setter.handle.0 setter.after
@@ -194,6 +250,7 @@ after_by None None None scene (change.Front h) =
 after_by None None None scene (change.Back h) =
     record scene { trees = at_index_below (parent_object scene h.0) scene.trees h.0 0 }
 after_by None None None scene (change.Load h) = record scene { active = h.0 }
+after_by None None None scene (change.Text h text) = with_text scene h.0 text
 after_by None None None scene change = scene
 
 abbrev pub scene_after : Scene → Change → Scene

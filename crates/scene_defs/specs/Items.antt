@@ -1,60 +1,52 @@
 -- What objects paint.
-use Rattle.std.specs.Prelude.{ℕ, ◌/◌, ◌%◌, Some, None, List, [], ◌∷◌, ℤ}
+use Rattle.std.specs.Prelude.{ℕ, Some, None, List, [], map, ℤ}
+use Rattle.std.specs.Str.{chars}
 use Rattle.std.specs.declared.option.Option.{Option}
-use Rattle.std.specs.Int.RustNames.{unsigned_abs}
 use Rattle.gui_base.specs.declared.color.Rgb565.{Rgb565}
-use Rattle.gui_base.specs.declared.props.Prop.{Prop}
-use Rattle.gui_base.specs.declared.words.Part.TheVariants.{Main}
-use Rattle.gui_base.specs.declared.props.Prop.TheVariants.{BgColor, BgOpa, BorderColor, BorderOpa}
-use Rattle.gui_base.specs.declared.props.Prop.TheVariants.{BorderWidth}
 use Rattle.gui_base.specs.Area.{Rect}
 use Rattle.gui_base.specs.Coats.{Coat, laid, fill_coat, ring_coat}
-use Rattle.gui_base.specs.Color.{color}
-use Rattle.scene_defs.specs.Scene.{Scene, value}
+use Rattle.text_defs.specs.Coats.{ink_coat, picture_coat}
+use Rattle.text_defs.specs.Fonts.{Font, face}
+use Rattle.text_defs.specs.Images.{Image}
+use Rattle.widget_defs.specs.declared.ItemPaint.{ItemPaint}
+use Rattle.widget_defs.specs.declared.ItemPaint.TheVariants.{Fill, Ring, Ink, Picture}
+use Rattle.widget_defs.specs.Items.{Item}
+use Rattle.widget_defs.specs.Items as widget
+use Rattle.scene_defs.specs.Looks.{look_of}
 use Rattle.scene_defs.specs.Place.{place}
+use Rattle.scene_defs.specs.Scene.{Object, Scene, object_at}
 
--- what an item paints
-pub data Paint : Type 0 where
-  Fill : (color : Rgb565) (opa : ℕ) → Paint
-  Ring : (width : ℕ) (color : Rgb565) (opa : ℕ) → Paint
-
--- an item of an object, with its area
-pub record Item : Type 0 where
-  pub area : Rect
-  pub paint : Paint
-
--- a colour of eight bits a channel as one of sixteen bits
-abbrev pub rgb_of : ℤ → Rgb565
-rgb_of value = let n = unsigned_abs value in color (n / 65536 / 8) (n / 256 % 256 / 4) (n % 256 / 8)
-
--- an opacity or a width
-abbrev pub number_of : ℤ → ℕ
-number_of value = unsigned_abs value
-
--- the fill of an object with this area, by the values of its main part, and the ring of its border
-abbrev pub fill_of : Rect → (Prop → ℤ) → Item
-fill_of area values =
-    record { area = area; paint = Fill (rgb_of (values BgColor)) (number_of (values BgOpa)) }
-
-abbrev pub ring_of : Rect → (Prop → ℤ) → Item
-ring_of area values = record {
-  area = area;
-  paint = Ring (number_of (values BorderWidth)) (rgb_of (values BorderColor)) (number_of (values BorderOpa));
-}
-
--- what an object paints, if it has an area
-abbrev pub items_of : Option Rect → (Prop → ℤ) → List Item
-items_of None values = []
-items_of (Some area) values = fill_of area values ∷ ring_of area values ∷ []
+-- what an object paints, if it is there
+abbrev pub items_of : Scene → Option Object → Option Rect → List Item
+items_of scene None area = []
+items_of scene (Some object) None = []
+items_of scene (Some object) (Some area) = widget.items (look_of scene object) area
 
 abbrev pub items : Scene → ℕ → List Item
-items scene h = items_of (place scene h) (value scene h Main)
+items scene h = items_of scene (object_at scene h) (place scene h)
 
--- what an item of this area lays on each pixel
-abbrev pub coat_of : Rect → Paint → Coat
-coat_of area (Fill color opa) = fill_coat area color opa
-coat_of area (Ring width color opa) = ring_coat area width color opa
+-- the characters of an object's text
+abbrev pub chars_of : Option Object → List ℕ
+chars_of None = []
+chars_of (Some object) = chars object.text
 
--- an item over a colour
-abbrev pub paint_item : ℤ → ℤ → Rgb565 → Item → Rgb565
-paint_item x y under item = laid (coat_of item.area item.paint x y) under
+abbrev pub chars_at : Scene → ℕ → List ℕ
+chars_at scene h = chars_of (object_at scene h)
+
+-- what an item of this area lays on each pixel, with these fonts and images, where its object has such a text
+abbrev pub coat_of : List Font → List Image → List ℕ → Rect → ItemPaint → Coat
+coat_of fonts images text area (Fill color opa) = fill_coat area color opa
+coat_of fonts images text area (Ring width color opa) = ring_coat area width color opa
+coat_of fonts images text area (Ink look color opa) = ink_coat area (face fonts look.font) look text color opa
+coat_of fonts images text area (Picture image recolor opa) = picture_coat area images image recolor opa
+
+abbrev pub coat_in : List Font → List Image → List ℕ → Item → Coat
+coat_in fonts images text item = coat_of fonts images text item.area item.paint
+
+-- what each item of an object lays, the lowest first
+abbrev pub coats : Scene → ℕ → List Coat
+coats scene h = map (coat_in scene.fonts scene.images (chars_at scene h)) (items scene h)
+
+-- a coat over a colour
+abbrev pub lay : ℤ → ℤ → Rgb565 → Coat → Rgb565
+lay x y under coat = laid (coat x y) under

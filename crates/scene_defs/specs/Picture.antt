@@ -4,11 +4,11 @@ use Rattle.gui_base.specs.declared.color.Rgb565.{Rgb565}
 use Rattle.gui_base.specs.Color.{black}
 use Rattle.scene_defs.specs.Scene.{Scene}
 use Rattle.scene_defs.specs.Visible.{holds}
-use Rattle.scene_defs.specs.Items.{paint_item}
+use Rattle.scene_defs.specs.Items.{lay}
 use Rattle.scene_defs.specs.Shown.{Seen, shown}
 
 abbrev pub paint_seen : ℤ → ℤ → Rgb565 → Seen → Rgb565
-paint_seen x y under s = if holds s.visible x y then fold (paint_item x y) under s.items else under
+paint_seen x y under s = if holds s.visible x y then fold (lay x y) under s.coats else under
 
 -- the colour of a pixel, over black
 abbrev pub paint : Scene → ℤ → ℤ → Rgb565

@@ -11,7 +11,9 @@ use Rattle.gui_base.specs.Forest.{Forest, map_forest}
 use Rattle.layout_defs.specs.Boxes.{Axis, Box, side_across, side_down}
 use Rattle.layout_defs.specs.Laws.{row_by, is_placed_at}
 use Rattle.layout_defs.specs.Solving.{Placed, place_of, solved}
+use Rattle.widget_defs.specs.Sizes.{own_width, own_height}
 use Rattle.scene_defs.specs.declared.Row.{Row}
+use Rattle.scene_defs.specs.Looks.{look_of}
 use Rattle.scene_defs.specs.Row.{is_on}
 use Rattle.scene_defs.specs.Scene.{Object, Scene, value}
 
@@ -47,7 +49,7 @@ down_of scene h row = record {
   gap = pixels_of scene h PadRow;
 }
 
--- what layout knows of an object; what it shows has no size of its own
+-- what layout knows of an object
 abbrev pub box_of : Scene → Object → Box
 box_of scene object = record {
   handle = object.handle;
@@ -57,8 +59,8 @@ box_of scene object = record {
   flow = object.row.flow;
   places = record { main = object.row.places.0; cross = object.row.places.1; track = object.row.places.2 };
   grow = object.row.grow;
-  own_width = 0;
-  own_height = λ room. 0;
+  own_width = own_width (look_of scene object);
+  own_height = own_height (look_of scene object);
 }
 
 abbrev pub boxes_of : Scene → Forest Box

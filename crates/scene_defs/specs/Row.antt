@@ -1,56 +1,65 @@
 -- The row of an object: its first values, the intervals of its numbers, and the changes that set it.
-use Rattle.std.specs.Prelude.{ℕ, ◌^◌, Bool, true, false, ◌&&◌, Some, None}
-use Rattle.std.specs.Prelude.{option_map, pos}
+use Rattle.std.specs.Prelude.{ℕ, Bool, true, false, ◌&&◌, if◌then◌else◌, Some, None}
+use Rattle.std.specs.Prelude.{ℤ, option_map, pos, int_le, int_lt}
 use Rattle.std.specs.declared.option.Option.{Option}
 use Rattle.gui_base.specs.Bits.{has_bit, with_bit, flag_bit, state_bit}
 use Rattle.gui_base.specs.Intervals.{is_counted, is_within}
 use Rattle.gui_base.specs.declared.Handle.{Handle}
-use Rattle.gui_base.specs.declared.intervals.TheConstants.{EXTENT, PERCENT, COORDINATE, GROW}
+use Rattle.gui_base.specs.declared.intervals.TheConstants.{EXTENT, PERCENT, COORDINATE, GROW, VALUE}
+use Rattle.gui_base.specs.declared.intervals.TheConstants.{IMAGE}
 use Rattle.gui_base.specs.declared.words.Flag.{Flag}
-use Rattle.gui_base.specs.declared.words.Flag.TheVariants.{Clickable}
 use Rattle.gui_base.specs.declared.words.Kind.{Kind}
-use Rattle.gui_base.specs.declared.words.Kind.TheVariants.{Screen, Layer, Obj}
+use Rattle.gui_base.specs.declared.words.Kind.TheVariants.{Screen, Layer, Label, Image, Bar, Slider, Checkbox}
 use Rattle.gui_base.specs.declared.words.Length.{Length}
 use Rattle.gui_base.specs.declared.words.Length.TheVariants.{Pixels, Percent, Content}
 use Rattle.gui_base.specs.declared.words.Align.TheVariants.{TopLeft}
-use Rattle.gui_base.specs.declared.words.Flow.TheVariants.{Free}
 use Rattle.gui_base.specs.declared.words.Placing.{Placing}
 use Rattle.gui_base.specs.declared.words.Placing.TheVariants.{Start, End, Center, SpaceEvenly, SpaceAround}
 use Rattle.gui_base.specs.declared.words.Placing.TheVariants.{SpaceBetween}
 use Rattle.scene_defs.specs.declared.Change.{Change}
 use Rattle.scene_defs.specs.declared.Change.TheVariants as change
+use Rattle.scene_defs.specs.declared.Feature.{Feature}
+use Rattle.scene_defs.specs.declared.Feature.TheVariants.{Text, Value, Picture}
 use Rattle.scene_defs.specs.declared.Row.{Row}
+use Rattle.gui_pool.specs.declared.chains.TextId.{TextId}
+use Rattle.widget_defs.specs.Kinds.{first_flags, first_width, first_height, first_flow}
 
 -- the kinds of roots
 abbrev pub is_root : Kind → Bool
 is_root Screen = true
 is_root Layer = true
-is_root Obj = false
+is_root kind = false
 
 -- whether a flag is on
 abbrev pub is_on : ℕ → Flag → Bool
 is_on flags flag = has_bit flags (flag_bit flag)
 
--- the flags of a new object: all but layers are clickable
-abbrev pub flags_of : Kind → ℕ
-flags_of Screen = 2 ^ flag_bit Clickable
-flags_of Layer = 0
-flags_of Obj = 2 ^ flag_bit Clickable
+-- a scene names no text: it shows the text itself
+abbrev pub no_name : TextId
+no_name = record { 0 = 0 }
 
--- a new object of a kind: 100 by 50 pixels at its parent's corner, in no state
+abbrev pub shown_row : Row → Row
+shown_row row = record row { text = no_name }
+
+-- a new object of a kind: at its parent's corner, in no state, without text and picture
 abbrev pub new_row : Kind → Row
 new_row kind = record {
   kind = kind;
-  flags = flags_of kind;
+  flags = first_flags kind;
   states = 0;
   x = pos 0;
   y = pos 0;
   align = TopLeft;
-  width = Pixels 100;
-  height = Pixels 50;
-  flow = Free;
+  width = first_width kind;
+  height = first_height kind;
+  flow = first_flow kind;
   places = (Start, Start, Start);
   grow = 0;
+  value = pos 0;
+  min = pos 0;
+  max = pos 100;
+  image = None;
+  text = no_name;
 }
 
 -- The intervals of its numbers.
@@ -70,11 +79,52 @@ is_cross SpaceEvenly = false
 is_cross SpaceAround = false
 is_cross SpaceBetween = false
 
+-- the ends of a range, in order
+abbrev pub is_range : ℤ → ℤ → Bool
+is_range low high = is_within VALUE low && (is_within VALUE high && int_lt low high)
+
+-- a range with a value in it
+abbrev pub is_ranged : Row → Bool
+is_ranged row = is_range row.min row.max && (int_le row.min row.value && int_le row.value row.max)
+
 -- whether each number of a row lies in its interval
 abbrev pub is_row : Row → Bool
 is_row row =
     is_within COORDINATE row.x && (is_within COORDINATE row.y &&
-    (is_size row.width && (is_size row.height && (is_cross row.places.1 && is_counted GROW row.grow))))
+    (is_size row.width && (is_size row.height && (is_cross row.places.1 && (is_counted GROW row.grow &&
+    is_ranged row)))))
+
+-- a value, brought into a range
+abbrev pub brought_in : ℤ → ℤ → ℤ → ℤ
+brought_in low high n = if int_lt n low then low else if int_lt high n then high else n
+
+abbrev pub with_value : ℤ → Row → Row
+with_value n row = record row { value = brought_in row.min row.max n }
+
+abbrev pub with_range : ℤ → ℤ → Row → Row
+with_range low high row =
+    record row { min = low; max = high; value = brought_in low high row.value }
+
+-- The kinds that have a value, a picture, and a text.
+
+abbrev pub has_value : Kind → Bool
+has_value Bar = true
+has_value Slider = true
+has_value kind = false
+
+abbrev pub has_picture : Kind → Bool
+has_picture Image = true
+has_picture kind = false
+
+abbrev pub has_text : Kind → Bool
+has_text Label = true
+has_text Checkbox = true
+has_text kind = false
+
+abbrev pub has_feature : Feature → Kind → Bool
+has_feature Text kind = has_text kind
+has_feature Value kind = has_value kind
+has_feature Picture kind = has_picture kind
 
 -- The changes that set the row of one object, and do nothing else.
 pub record Setter : Type 0 where
@@ -83,15 +133,54 @@ pub record Setter : Type 0 where
   pub fits : Bool
   -- whether roots refuse it
   pub needs_parent : Bool
+  -- what it sets, where not all kinds have it
+  pub feature : Option Feature
+  -- the image that it names
+  pub image : Option ℕ
   -- the row after it
   pub after : Row → Row
 
 -- a setter of any object, and one of objects that have a parent
 abbrev pub of_any : Handle → Bool → (Row → Row) → Option Setter
-of_any h fits after = Some (record { handle = h; fits = fits; needs_parent = false; after = after })
+of_any h fits after = Some (record {
+  handle = h;
+  fits = fits;
+  needs_parent = false;
+  feature = None;
+  image = None;
+  after = after;
+})
 
 abbrev pub of_child : Handle → Bool → (Row → Row) → Option Setter
-of_child h fits after = Some (record { handle = h; fits = fits; needs_parent = true; after = after })
+of_child h fits after = Some (record {
+  handle = h;
+  fits = fits;
+  needs_parent = true;
+  feature = None;
+  image = None;
+  after = after;
+})
+
+-- a setter of objects that have a value, and one of objects that show a picture
+abbrev pub of_valued : Handle → Bool → (Row → Row) → Option Setter
+of_valued h fits after = Some (record {
+  handle = h;
+  fits = fits;
+  needs_parent = false;
+  feature = Some Value;
+  image = None;
+  after = after;
+})
+
+abbrev pub of_pictured : Handle → ℕ → Bool → (Row → Row) → Option Setter
+of_pictured h image fits after = Some (record {
+  handle = h;
+  fits = fits;
+  needs_parent = false;
+  feature = Some Picture;
+  image = Some image;
+  after = after;
+})
 
 abbrev pub setter_of : Change → Option Setter
 setter_of (change.Flag h flag on) =
@@ -109,6 +198,11 @@ setter_of (change.Places h main cross track) =
 setter_of (change.Grow h n) = of_child h (is_counted GROW n) (λ row. record row { grow = n })
 setter_of (change.State h state on) =
     of_any h true (λ row. record row { states = with_bit row.states (state_bit state) on })
+setter_of (change.Value h n) = of_valued h (is_within VALUE n) (with_value n)
+setter_of (change.Range h low high) = of_valued h (is_range low high) (with_range low high)
+setter_of (change.Source h i) =
+    of_pictured h i (is_counted IMAGE i) (λ row. record row { image = Some i })
+setter_of (change.Text h text) = None
 setter_of (change.Screen n) = None
 setter_of (change.New n p kind) = None
 setter_of (change.Delete h) = None

@@ -1,5 +1,5 @@
 -- A scene is trees of objects, the screen that is active, styles, fonts, images, and the limits.
-use Rattle.std.specs.Prelude.{ℕ, ◌-◌, Bool, ◌==◌, if◌then◌else◌, Some, None, option_map}
+use Rattle.std.specs.Prelude.{ℕ, ◌+◌, ◌-◌, Bool, ◌==◌, if◌then◌else◌, Some, None, option_map}
 use Rattle.std.specs.Prelude.{ℤ, List, [], map, length, sum_by}
 use Rattle.std.specs.declared.option.Option.{Option}
 use Rattle.gui_base.specs.Forest.{Forest, Empty, Tree, map_forest, size, has, has_by, path_by}
@@ -9,19 +9,21 @@ use Rattle.gui_base.specs.declared.words.Part.{Part}
 use Rattle.gui_base.specs.declared.words.Kind.{Kind}
 use Rattle.gui_base.specs.declared.words.Kind.TheVariants.{Screen, Layer}
 use Rattle.gui_base.specs.declared.limits.Pool.{Pool}
-use Rattle.gui_base.specs.declared.limits.Pool.TheVariants.{Objects, Styles, Entries, Uses}
+use Rattle.gui_base.specs.declared.limits.Pool.TheVariants.{Objects, Styles, Entries, Uses, Texts}
 use Rattle.gui_base.specs.declared.limits.Pool.TheVariants.{Fonts, Glyphs, Ink, Images, Pixels}
 use Rattle.style_defs.specs.Book.{Book, empty_book, entries_in, uses_in, locals_of, uses_of}
 use Rattle.style_defs.specs.Value.{Styled, value_on}
 use Rattle.text_defs.specs.Fonts.{Font, Glyph}
 use Rattle.text_defs.specs.Images.{Image, image_bytes}
+use Rattle.gui_pool.specs.Texts.{need_of as chunks_of}
 use Rattle.scene_defs.specs.declared.Row.{Row}
 use Rattle.scene_defs.specs.Row.{new_row}
 
--- an object: its handle, and what it is and what is wanted of it
+-- an object: its handle, what it is and what is wanted of it, and the bytes of its text
 pub record Object : Type 0 where
   pub handle : ℕ
   pub row : Row
+  pub text : List ℕ
 
 pub record Scene : Type 0 where
   pub trees : Forest Object
@@ -63,6 +65,11 @@ object_at scene h = object_by (is_at h) scene.trees
 abbrev pub row_at : Scene → ℕ → Option Row
 row_at scene h = option_map row_of (object_at scene h)
 
+-- how many chunks the texts of trees take
+abbrev pub chunks_in : Forest Object → ℕ
+chunks_in Empty = 0
+chunks_in (Tree object cs rest) = chunks_of object.text + (chunks_in cs + chunks_in rest)
+
 -- How many glyphs fonts have, how many bytes the bits of these, and how many bytes images have once they are
 -- finished.
 
@@ -84,6 +91,7 @@ used scene Objects = size scene.trees
 used scene Styles = length scene.book.styles
 used scene Entries = entries_in scene.book
 used scene Uses = uses_in scene.book
+used scene Texts = chunks_in scene.trees
 used scene Fonts = length scene.fonts
 used scene Glyphs = sum_by glyph_count scene.fonts
 used scene Ink = sum_by ink_count scene.fonts
@@ -113,7 +121,7 @@ abbrev pub value : Scene → ℕ → Part → Prop → ℤ
 value scene h part prop = value_on scene.book.styles (map (styled_of scene.book) (path_at scene h)) part prop
 
 abbrev pub new_object : ℕ → Kind → Object
-new_object handle kind = record { handle = handle; row = new_row kind }
+new_object handle kind = record { handle = handle; row = new_row kind; text = [] }
 
 -- two layers and a screen, which is active
 abbrev pub first_trees : Forest Object

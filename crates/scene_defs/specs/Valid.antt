@@ -2,10 +2,11 @@
 use Rattle.std.specs.Prelude.{◌≡◌, ◌≢◌, ◌≤◌, ℕ, Bool, true, false, not, ◌&&◌, ◌||◌, ◌==◌, if◌then◌else◌}
 use Rattle.std.specs.Prelude.{ℤ, List, [], ◌∷◌, map, length, pos, sum_by}
 use Rattle.std.specs.List.{list_any, list_all}
+use Rattle.std.specs.Str.{is_utf8}
 use Rattle.gui_base.specs.declared.intervals.TheConstants.{HANDLE, COORDINATE, MAX_DEPTH, FONT}
 use Rattle.gui_base.specs.declared.intervals.TheConstants.{FONT_HEIGHT, ADVANCE, CODE, IMAGE, IMAGE_SIDE}
 use Rattle.gui_base.specs.declared.words.Kind.{Kind}
-use Rattle.gui_base.specs.declared.words.Kind.TheVariants.{Screen, Layer, Obj}
+use Rattle.gui_base.specs.declared.words.Kind.TheVariants.{Layer}
 use Rattle.gui_base.specs.declared.words.Length.{Length}
 use Rattle.style_defs.specs.Book.{entries_in, uses_in}
 use Rattle.style_defs.specs.InOrder.{IsBook, IsBare}
@@ -21,9 +22,10 @@ use Rattle.scene_defs.specs.Change.{changed, is_screen_kind}
 use Rattle.scene_defs.specs.declared.Row.{Row}
 use Rattle.scene_defs.specs.NamedFonts.{AreReady}
 use Rattle.scene_defs.specs.Ranges.{is_shape}
+use Rattle.scene_defs.specs.Texts.{is_text, is_shown_image}
 use Rattle.scene_defs.specs.Row.{is_root, is_row, is_size}
 use Rattle.scene_defs.specs.Scene.{Object, Scene, is_at, handles_of, is_there, first_scene}
-use Rattle.scene_defs.specs.Scene.{glyph_count, ink_count, pixel_count}
+use Rattle.scene_defs.specs.Scene.{chunks_in, glyph_count, ink_count, pixel_count}
 use Rattle.scene_defs.specs.Walk.{IsShowable}
 
 -- a wanted coordinate in pixels
@@ -37,14 +39,16 @@ IsSize length = is_size length ≡ true
 abbrev pub IsRow : Row → Type 0
 IsRow row = is_row row ≡ true
 
--- whether the handle and each number of an object do
-abbrev pub in_intervals : Object → Bool
-in_intervals object = is_counted HANDLE object.handle && is_row object.row
+-- whether the handle and each number of an object do, it has a text that may be one, and its picture is one of
+-- these images that is finished
+abbrev pub in_order : List Image → Object → Bool
+in_order images object =
+    is_counted HANDLE object.handle && (is_row object.row && (is_text object.text &&
+    is_shown_image images object.row.image))
 
 abbrev pub is_layer_kind : Kind → Bool
-is_layer_kind Screen = false
 is_layer_kind Layer = true
-is_layer_kind Obj = false
+is_layer_kind kind = false
 
 -- whether an object is a layer at 1 and 2, and a screen elsewhere
 abbrev pub is_root_object : Object → Bool
@@ -76,9 +80,9 @@ pub record AreTrees (trees : Forest Object) (screen : ℕ) : Type 0 where
   pub low : height trees ≤ MAX_DEPTH
 
 -- the rows of trees are in order
-pub record AreRows (trees : Forest Object) : Type 0 where
+pub record AreRows (images : List Image) (trees : Forest Object) : Type 0 where
   pub kinds : have_kinds trees ≡ true
-  pub numbers : all_by in_intervals trees ≡ true
+  pub numbers : all_by (in_order images) trees ≡ true
 
 -- whether a number stands among others, and whether each stands once
 abbrev pub is_among : List ℕ → ℕ → Bool
@@ -121,6 +125,7 @@ pub record FitPools (scene : Scene) : Type 0 where
   pub styles : length scene.book.styles ≤ scene.limits.styles
   pub entries : entries_in scene.book ≤ scene.limits.entries
   pub uses : uses_in scene.book ≤ scene.limits.uses
+  pub texts : chunks_in scene.trees ≤ scene.limits.texts
   pub fonts : length scene.fonts ≤ scene.limits.fonts
   pub glyphs : sum_by glyph_count scene.fonts ≤ scene.limits.glyphs
   pub ink : sum_by ink_count scene.fonts ≤ scene.limits.ink
@@ -130,7 +135,7 @@ pub record FitPools (scene : Scene) : Type 0 where
 -- a scene that is in order
 pub record IsValid (scene : Scene) : Type 0 where
   pub trees : AreTrees scene.trees scene.active
-  pub rows : AreRows scene.trees
+  pub rows : AreRows scene.images scene.trees
   pub book : IsBook scene.book
   -- who is not there has nothing
   pub bare : (h : ℕ) → is_there scene h ≡ false → IsBare scene.book h
@@ -140,7 +145,8 @@ pub record IsValid (scene : Scene) : Type 0 where
 
 -- a change that may be asked for: below a parent stand plain objects, and no screens or layers
 abbrev pub IsChange : Change → Type 0
-IsChange (change.New n p kind) = kind ≡ Obj
+IsChange (change.New n p kind) = is_root kind ≡ false
+IsChange (change.Text h text) = is_utf8 text ≡ true
 IsChange change = Unit {0}
 
 -- what is shown of a scene in order is met by a walk

@@ -6,12 +6,15 @@ ghost use Rattle.std.specs.Prelude.{◌≡◌};
 
 pub mod laws;
 mod rows;
+mod texts;
 
 use gui_base::{
     Align, Bits, Flag, Flow, Format, Handle, Kind, Length, Placing, Prop, Selector, State,
 };
+use gui_pool::TextId;
 pub use rows::{MOST_BYTES, Rows};
 use text_defs::GlyphBox;
+pub use texts::{MOST_TEXT, Text};
 
 /// A change of the scene. No change holds a kind that only roots have.
 #[derive(Drop)]
@@ -49,6 +52,15 @@ pub enum Change<'a> {
     Grow(Handle, u8),
     /// Switches a state on or off.
     State(Handle, State, bool),
+    /// The text of a label or a checkbox.
+    Text(Handle, Text<'a>),
+    /// The value of a bar or a slider, from -10,000 to 10,000, which is brought into its range.
+    Value(Handle, i32),
+    /// The range of a bar or a slider, each end from -10,000 to 10,000, the first below the second. The value
+    /// is brought into it.
+    Range(Handle, i32, i32),
+    /// The picture that an image object shows.
+    Source(Handle, u16),
     /// Makes a shared style with this number.
     Style(u16),
     /// Sets a property of a shared style.
@@ -76,6 +88,32 @@ pub enum Change<'a> {
     ImageRow(u16, u16, Rows<'a>),
 }
 
+/// What objects of some kinds have and others have not.
+#[derive(Clone, Copy, Debug, PartialEq, Eq)]
+pub enum Feature {
+    /// A text: labels and checkboxes.
+    Text,
+    /// A value in a range: bars and sliders.
+    Value,
+    /// A picture: images.
+    Picture,
+}
+
+impl Feature {
+    ghost use Rattle.scene_defs.specs.Row.{has_feature};
+
+    /// Whether objects of a kind have it.
+    pub fn is_of(self, kind: Kind) -> bool
+        ensures { result ≡ has_feature self kind }
+    {
+        match self {
+            Feature::Text => matches!(kind, Kind::Label | Kind::Checkbox),
+            Feature::Value => matches!(kind, Kind::Bar | Kind::Slider),
+            Feature::Picture => matches!(kind, Kind::Image),
+        }
+    }
+}
+
 /// What an object is and what is wanted of it. Only screens and layers are roots; all else is a plain object.
 #[derive(Clone, Copy, Debug, PartialEq, Eq)]
 pub struct Row {
@@ -98,6 +136,16 @@ pub struct Row {
     pub places: (Placing, Placing, Placing),
     /// How much of the free space of its track it takes, beside the others that take some.
     pub grow: u8,
+    /// What a bar or a slider shows, from `min` to `max`.
+    pub value: i32,
+    /// From -10,000 on.
+    pub min: i32,
+    /// Greater than `min`, and at most 10,000.
+    pub max: i32,
+    /// The number of the image that it shows.
+    pub image: Option<u16>,
+    /// The name of its text among those that a store keeps. A scene shows the text itself, and no name.
+    pub text: TextId,
 }
 
 impl Row {

@@ -7,7 +7,7 @@ ghost use Rattle.run_defs.specs.Language.{words_of};
 use crate::fields::Fields;
 use gui_base::intervals::{
     ADVANCE, COORDINATE, FONT, FONT_HEIGHT, GLYPH_HEIGHT, GLYPH_WIDTH, GROW, IMAGE, IMAGE_ROW,
-    IMAGE_SIDE, INDEX, STYLE,
+    IMAGE_SIDE, INDEX, STYLE, VALUE,
 };
 use gui_base::named;
 use gui_base::words::{
@@ -94,6 +94,14 @@ fn row_change<'a>(name: RowName, line: &mut Fields<'a>) -> Change<'a>
             line.name(&PLACINGS, Placing::Start),
         ),
         RowName::Grow => Change::Grow(line.handle(), line.small(GROW)),
+        RowName::Text => Change::Text(line.handle(), line.text()),
+        RowName::Value => Change::Value(line.handle(), line.number(VALUE)),
+        RowName::Range => {
+            let h = line.handle();
+            let low = line.range_low();
+            Change::Range(h, low, line.range_high(low))
+        }
+        RowName::Source => Change::Source(line.handle(), line.count(IMAGE)),
     }
 }
 

@@ -2,22 +2,24 @@
 ghost use Rattle.std.specs.Prelude.{◌≡◌, ◌<◌};
 ghost use Rattle.gui_base.specs.Names.{slice};
 ghost use Rattle.run_defs.specs.Commands.{handle, new_handle, extent, align, flow, state};
-ghost use Rattle.run_defs.specs.Commands.{selector, property, code, glyph_offset, bytes};
+ghost use Rattle.run_defs.specs.Commands.{selector, property, code, glyph_offset, bytes, text};
+ghost use Rattle.run_defs.specs.Commands.{range_low, range_high};
 ghost use Rattle.run_defs.specs.Commands.{color_value, align_value, value_for};
 ghost use Rattle.run_defs.specs.Fields.{number_in, count_in, name_in, value, past, value_or, with_fault};
 ghost use Rattle.run_defs.specs.Fields.{next_of, after_next, fields, start, ended};
 ghost use Rattle.run_defs.specs.Language.{first_fault, words_of};
 
 use crate::lengths::length;
-use crate::numbers::{bytes, code, color, count, number, offset, small};
+use crate::numbers::{bytes, code, color, count, number, number_above, offset, small};
 use crate::selectors::selector;
+use crate::texts::text;
 use crate::words::next_word;
-use gui_base::intervals::{Count, GLYPH_OFFSET, HANDLE, Interval, NEW_HANDLE};
+use gui_base::intervals::{Count, GLYPH_OFFSET, HANDLE, Interval, NEW_HANDLE, VALUE};
 use gui_base::props::PROPS;
 use gui_base::words::{ALIGNS, FLOWS, STATES, TEXT_ALIGNS};
 use gui_base::{Align, Flow, Handle, Length, Part, Prop, Selector, State, TextAlign, named};
 use run_defs::{Line, LineFault};
-use scene_defs::Rows;
+use scene_defs::{Rows, Text};
 use std::marker::Model;
 
 /// The words of a line to come, and the worst fault of the fields before.
@@ -159,6 +161,43 @@ impl<'a> Fields<'a> {
                 Rows::plain(b"")
             }
         }
+    }
+
+    /// The text of a label or a checkbox.
+    #[tactic(auto, unfolding(run_defs::specs::Fields::value, run_defs::specs::Fields::past))]
+    pub(crate) fn text(&mut self) -> Text<'a>
+        ensures value { result ≡ value text self.old }
+        ensures state { self.new ≡ past text self.old }
+    {
+        let word = self.word();
+        match text(word) {
+            Ok(text) => text,
+            Err(fault) => {
+                self.fail(fault);
+                Text::plain("")
+            }
+        }
+    }
+
+    /// The lower end of the range of a bar or a slider.
+    pub(crate) fn range_low(&mut self) -> i32
+        ensures value { result ≡ value range_low self.old }
+        ensures state { self.new ≡ past range_low self.old }
+    {
+        self.number(Interval {
+            low: VALUE.low,
+            high: VALUE.high - 1,
+        })
+    }
+
+    /// Its upper end, which is above the lower one.
+    #[tactic(auto, unfolding(run_defs::specs::Fields::value, run_defs::specs::Fields::past))]
+    pub(crate) fn range_high(&mut self, low: i32) -> i32
+        ensures value { result ≡ value (range_high low) self.old }
+        ensures state { self.new ≡ past (range_high low) self.old }
+    {
+        let word = self.word();
+        self.note(number_above(word, low, VALUE.high), VALUE.high)
     }
 
     /// What a name of a table means.

@@ -9,6 +9,7 @@ mod numbers;
 mod parse;
 mod refusals;
 mod selectors;
+mod texts;
 mod words;
 
 pub use cutter::{Cut, Cutter};

@@ -1,5 +1,5 @@
 //! Numbers, colours, codes of characters, and bytes.
-ghost use Rattle.std.specs.Prelude.{◌≡◌, ◌≤◌, ◌<◌, ◌≤ℤ◌, ◌<ℤ◌, ◌&&◌, int_le, min, pos, neg_ℤ};
+ghost use Rattle.std.specs.Prelude.{◌≡◌, ◌≤◌, ◌<◌, ◌≤ℤ◌, ◌<ℤ◌, ◌+ℤ◌, ◌&&◌, int_le, min, pos, neg_ℤ};
 ghost use Rattle.std.specs.Prelude.{option_map, IfOk};
 ghost use Rattle.std.specs.List.{list_all};
 ghost use Rattle.run_defs.specs.Numbers.{is_number, value_of, is_digit, within, number, number_of, natural};
@@ -20,6 +20,15 @@ pub(crate) fn number(word: &[u8], low: i32, high: i32) -> Result<i32, LineFault>
     ensures { result ≡ number low high word.now }
 {
     let n = within(word, i64::from(low), i64::from(high))?;
+    Ok(n as i32)
+}
+
+/// A number above `low`, up to `high`.
+#[tactic(auto, unfolding(run_defs::specs::Numbers::number))]
+pub(crate) fn number_above(word: &[u8], low: i32, high: i32) -> Result<i32, LineFault>
+    ensures { result ≡ number (low +ℤ pos 1) high word.now }
+{
+    let n = within(word, i64::from(low) + 1, i64::from(high))?;
     Ok(n as i32)
 }
 

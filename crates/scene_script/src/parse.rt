@@ -1,7 +1,7 @@
 //! What a line says.
 ghost use Rattle.std.specs.Prelude.{◌≡◌};
 ghost use Rattle.std.specs.List.{list_any};
-ghost use Rattle.run_defs.specs.Language.{words_of, is_comment, is_in_no_word};
+ghost use Rattle.run_defs.specs.Language.{words_of, is_comment, is_control};
 ghost use Rattle.run_defs.specs.Script.{parse, line_says, words_say};
 
 use crate::commands::say_command;
@@ -31,7 +31,7 @@ fn say_line(line: &[u8]) -> Result<Line, LineFault>
     if is_comment(line) {
         return Ok(Line::Blank);
     }
-    if has_byte_of_no_word(line) {
+    if has_control(line) {
         return Err(LineFault::Syntax);
     }
     say_words(line)
@@ -54,9 +54,9 @@ fn is_comment(line: &[u8]) -> bool
     matches!(from_first_word(line), [b'#', ..])
 }
 
-/// Whether there is a control character or a quote.
-fn has_byte_of_no_word(line: &[u8]) -> bool
-    ensures { result ≡ list_any is_in_no_word line.now }
+/// Whether there is a control character.
+fn has_control(line: &[u8]) -> bool
+    ensures { result ≡ list_any is_control line.now }
 {
-    line.iter().any(|b| *b < b' ' || *b == b'"')
+    line.iter().any(|b| *b < b' ')
 }

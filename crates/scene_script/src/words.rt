@@ -3,20 +3,45 @@ ghost use Rattle.std.specs.Prelude.{◌≡◌, ◌≢◌, ◌==◌, [], ◌∷�
 ghost use Rattle.std.specs.Prelude.{slice_get};
 ghost use Rattle.std.specs.List.{slice_split, before_first, after_first, list_any};
 ghost use Rattle.std.specs.Option.{option_map_or};
-ghost use Rattle.run_defs.specs.Language.{words_of, is_comment};
+ghost use Rattle.run_defs.specs.Language.{words_of, trimmed, is_space, is_comment};
 
-/// The first word of these bytes, and what follows it.
-#[tactic(auto, using(crate::proofs::WordLemmas::first_word))]
+/// The first word of these bytes, and what follows it. A word ends before a space, and one that begins with a
+/// quote before the spaces at the end of the bytes.
+#[tactic(auto, using(crate::proofs::WordLemmas::quoted_word))]
 pub(crate) fn next_word(bytes: &[u8]) -> Option<(&[u8], &[u8])>
     ensures none { IfNone result (words_of bytes.now ≡ []) }
     ensures word { IfSome result (λ t. words_of bytes.now ≡ t.0.now ∷ words_of t.1.now) }
 {
     let from = from_first_word(bytes);
-    if from.is_empty() {
-        return None;
+    match from {
+        [] => None,
+        [b'"', ..] => Some((trimmed(from), b"")),
+        _ => Some(at_space(from)),
     }
-    let (word, rest) = cut(from, b' ');
-    Some((word, rest.unwrap_or(b"")))
+}
+
+/// What stands before the first space, and what follows it.
+#[tactic(auto, using(crate::proofs::WordLemmas::nothing_after))]
+fn at_space(bytes: &[u8]) -> (&[u8], &[u8])
+    ensures before { result.0.now ≡ before_first is_space bytes.now }
+    ensures behind { result.1.now ≡ after_first is_space bytes.now }
+{
+    match cut(bytes, b' ') {
+        (word, None) => (word, b""),
+        (word, Some(rest)) => (word, rest),
+    }
+}
+
+/// The bytes without the spaces at their end.
+#[tactic(auto, using(crate::proofs::WordLemmas::trims))]
+fn trimmed(bytes: &[u8]) -> &[u8]
+    ensures { result.now ≡ trimmed bytes.now }
+{
+    let mut rest = bytes;
+    while let [others @ .., b' '] = rest {
+        rest = others;
+    }
+    rest
 }
 
 /// What stands before the first such byte, and what stands behind it, where there is one.

@@ -51,8 +51,8 @@ type Row = (
     u64,
 );
 
-/// The first frame is sent whole, in two flushes, and a later one sends what flushes that failed have left. Each
-/// is written in two puts.
+/// The first frame is sent whole, in two flushes, and a later one sends what flushes that failed have left.
+/// Each is written in two puts.
 const ROWS: &[Row] = &[
     (TWO, 64, &[], 0, BOTH, 2, false, 8),
     (MIXED, 1, &[], 1, MIXED_LOG, 3, false, 8),

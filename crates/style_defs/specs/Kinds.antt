@@ -2,8 +2,8 @@
 use Rattle.std.specs.Prelude.{ℕ, ℤ, List, [], map, unwrap_or}
 use Rattle.std.specs.declared.option.Option.{Option}
 use Rattle.gui_base.specs.declared.words.Kind.{Kind}
-use Rattle.gui_base.specs.declared.words.Kind.TheVariants.{Screen, Layer, Obj}
-use Rattle.style_defs.specs.declared.kinds.TheConstants.{SCREEN}
+use Rattle.gui_base.specs.declared.words.Kind.TheVariants as kind
+use Rattle.style_defs.specs.declared.kinds.TheConstants.{SCREEN, BUTTON, BAR, SLIDER, CHECKBOX, LIST}
 use Rattle.gui_base.specs.declared.words.Part.{Part}
 use Rattle.gui_base.specs.declared.props.Prop.{Prop}
 use Rattle.style_defs.specs.declared.Entry.{Entry}
@@ -18,9 +18,16 @@ abbrev pub entry_in : KindRow → Entry
 entry_in row = record { part = row.0; prop = row.2; states = row.1; value = row.3 }
 
 abbrev pub kind_rows : Kind → List KindRow
-kind_rows Screen = SCREEN
-kind_rows Layer = []
-kind_rows Obj = []
+kind_rows kind.Screen = SCREEN
+kind_rows kind.Layer = []
+kind_rows kind.Obj = []
+kind_rows kind.Label = []
+kind_rows kind.Button = BUTTON
+kind_rows kind.Image = []
+kind_rows kind.Bar = BAR
+kind_rows kind.Slider = SLIDER
+kind_rows kind.Checkbox = CHECKBOX
+kind_rows kind.List = LIST
 
 -- of what a kind sets, what wins for a part in these states
 abbrev pub kind_value : Kind → Part → ℕ → Prop → Option ℤ

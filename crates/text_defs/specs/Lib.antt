@@ -1,6 +1,7 @@
 pub mod Bits
 pub mod Building
 pub mod BuiltIn
+pub mod Coats
 pub mod Examples
 pub mod Face
 pub mod Fonts

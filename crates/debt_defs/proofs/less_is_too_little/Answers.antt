@@ -6,7 +6,12 @@ use Rattle.gui_base.specs.Forest.{StandsOnce}
 use Rattle.scene_defs.specs.Scene.{handles_of}
 use Rattle.scene_defs.specs.Place.{place}
 use Rattle.scene_defs.specs.Walk.{IsShowable}
-use Rattle.debt_defs.specs.Examples.{one, in_row, overlapping, styled}
+use Rattle.text_defs.specs.Fonts.{face}
+use Rattle.text_defs.specs.Lines.{lines, run_width, greatest}
+use Rattle.text_defs.specs.Ink.{inked}
+use Rattle.text_defs.specs.BuiltIn.{column_of}
+use Rattle.std.specs.Str.{chars}
+use Rattle.debt_defs.specs.Examples.{one, in_row, overlapping, labelled, styled}
 use Rattle.debt_defs.proofs.less_is_too_little.Goals as goal
 
 one_once : StandsOnce (handles_of one.trees)
@@ -27,14 +32,18 @@ two_showable = let n = no_layer 3 (omega arith) in record { once = two_once; abo
 row_showable : IsShowable in_row
 row_showable = let n = no_layer 3 (omega arith) in record { once = two_once; above_top = n.0; above_system = n.1 }
 
+label_showable : IsShowable labelled
+label_showable = let n = no_layer 3 (omega arith) in record { once = one_once; above_top = n.0; above_system = n.1 }
+
 styled_showable : IsShowable styled
 styled_showable = let n = no_layer 3 (omega arith) in record { once = two_once; above_top = n.0; above_system = n.1 }
 
 pub returns : goal.returns
-unfolding place has_bit mix mix_channel
+unfolding place has_bit mix mix_channel face lines run_width greatest inked chars column_of
 returns c = record {
   new_places = record { showable = one_showable; outside = refl; painted = refl };
   named_object = record { showable = row_showable; outside = refl; painted = refl };
   one_user = record { showable = styled_showable; outside = refl; painted = refl };
   differing = record { showable = two_showable; outside = refl; painted = refl };
+  text = record { showable = label_showable; outside = refl; painted = refl };
 }

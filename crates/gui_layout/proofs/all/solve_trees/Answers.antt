@@ -4,7 +4,8 @@ use Rattle.gui_base.specs.declared.Handle.{Handle}
 use Rattle.layout_defs.specs.Solving.{Slot, nowhere, solved}
 use Rattle.layout_defs.specs.Tables.{KeepsOthers}
 use Rattle.gui_layout.specs.Tables.{Listing, sizes_of, AreListed}
-use Rattle.gui_layout.specs.Views.{box_at}
+use Rattle.gui_store.specs.Views.{scene_of}
+use Rattle.gui_layout.specs.Scenes.{scene_box}
 use Rattle.gui_layout.specs.Found.{boxed}
 use Rattle.gui_layout.specs.Slots.{slots_of, HoldsPlaced}
 use Rattle.gui_layout.proofs.Parts.{whole, distinct_once, distinct-part, height-part, has-part, here, first_of, IsHead, next_head, next_first, IsNext, GoesOn, trees_from, trees_from-first_of, walk_goes_on, found}
@@ -19,13 +20,15 @@ loop-next-init c =
     let is : c.first_root-next.result ≡ first_of f = c.first_root-next.ensures in
     record {
       next_is = next_first f f c.first_root-next.result whole distinct is;
+      boxes = c.requires.boxes;
+      listed_boxes = refl;
       listed = refl;
       listed_widths = refl;
       listed_heights = refl;
       listed_places = refl;
       capacity = refl;
       later = λ (w : List ℕ) (p : List Slot) all.
-          subst (Solves (box_at c.args.boxes.now) c.args.width c.args.height (sizes_of c.args.widths.now) w (slots_of c.args.places.now) p)
+          subst (Solves (scene_box (scene_of c.args.store.now)) c.args.width c.args.height (sizes_of c.args.widths.now) w (slots_of c.args.places.now) p)
           (ap (λ (o : Option Handle). trees_from o f) is ∙ trees_from-first_of f f whole distinct) all;
     }
 
@@ -44,6 +47,9 @@ solve_root-requires-clause-low c =
     let high = height-part e.part in
     let low = c.requires.low in
     rw known.tree (omega arith)
+
+pub solve_root-requires-clause-listed_boxes : goal.solve_root-requires-clause-listed_boxes
+solve_root-requires-clause-listed_boxes c = subst (λ (ks : Listing). AreListed ks c.args.tree.now.forest) (sym c.loop-next.invariant.listed_boxes) c.requires.listed_boxes
 
 pub solve_root-requires-clause-listed : goal.solve_root-requires-clause-listed
 solve_root-requires-clause-listed c = subst (λ (ks : Listing). AreListed ks c.args.tree.now.forest) (sym c.loop-next.invariant.listed) c.requires.listed
@@ -75,7 +81,7 @@ loop-next-preserved c =
     let d = (goal.at.loop-next-preserved c).After-next-next in
     let inv = c.loop-next.invariant in
     let f = c.args.tree.now.forest in
-    let box = box_at c.args.boxes.now in
+    let box = scene_box (scene_of c.args.store.now) in
     let g = goes d in
     let h = c.in-Some.root.0 in
     let w = (sizes_of c.loop-next.widths) in
@@ -90,6 +96,8 @@ loop-next-preserved c =
     } in
     record {
       next_is = g.next_is;
+      boxes = c.solve_root.ensures.boxes;
+      listed_boxes = c.solve_root.ensures.listed_boxes ∙ inv.listed_boxes;
       listed = c.solve_root.ensures.listed ∙ inv.listed;
       listed_widths = c.solve_root.ensures.listed_widths ∙ inv.listed_widths;
       listed_heights = c.solve_root.ensures.listed_heights ∙ inv.listed_heights;
@@ -104,7 +112,7 @@ loop-next-preserved c =
 pub returns-clause-solved : goal.returns-clause-solved
 returns-clause-solved c =
     let f = c.args.tree.now.forest in
-    let box = box_at c.args.boxes.now in
+    let box = scene_box (scene_of c.args.store.now) in
     let w = (sizes_of c.loop-next.widths) in
     let p = slots_of c.loop-next.places in
     let none : trees_from c.loop-next.next f ≡ Empty = ap (λ (o : Option Handle). trees_from o f) c.in_default.is in

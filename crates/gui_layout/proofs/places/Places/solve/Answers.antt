@@ -8,7 +8,7 @@ use Rattle.gui_layout.specs.Found.{boxed}
 use Rattle.gui_layout.specs.Kept.{Entries}
 use Rattle.gui_layout.specs.Slots.{HoldsPlaced, slots_of}
 use Rattle.gui_layout.specs.Tables.{sizes_of, listing_of, AreListed}
-use Rattle.gui_layout.specs.Views.{box_at}
+use Rattle.gui_layout.specs.Scenes.{scene_box}
 use Rattle.gui_layout.proofs.Entering.{few, flat, all_placed}
 use Rattle.gui_layout.proofs.These.{are_listed, these_kept}
 use Rattle.gui_layout.proofs.places.Places.solve.Goals as goal
@@ -31,6 +31,11 @@ solve_trees-requires-clause-capacity c =
     let objects : c.args.self.now.limits.objects ≡ scene.limits.objects = ap (λ (b : Bounds). b.objects) c.requires.limits in
     let room = c.args.self.now.items_room in
     rw c.tree.ensures.forest (omega arith)
+
+pub solve_trees-requires-clause-listed_boxes : goal.solve_trees-requires-clause-listed_boxes
+solve_trees-requires-clause-listed_boxes c =
+    let self = c.args.self.now in
+    subst (AreListed (listing_of self.boxes)) (sym c.tree.ensures.forest) (are_listed self.listed.items _ c.requires.listed self.limits.objects self.boxes self.kept.boxes)
 
 pub solve_trees-requires-clause-listed : goal.solve_trees-requires-clause-listed
 solve_trees-requires-clause-listed c =
@@ -62,7 +67,7 @@ invariant_of-self c =
     let room = self.items_room in
     record {
       kept = record {
-        boxes = self.kept.boxes;
+        boxes = these_kept n self.boxes now.boxes hs done.listed_boxes self.kept.boxes;
         natural_widths = these_kept n self.natural_widths now.natural_widths hs done.listed self.kept.natural_widths;
         widths = these_kept n self.widths now.widths hs done.listed_widths self.kept.widths;
         natural_heights = these_kept n self.natural_heights now.natural_heights hs done.listed_heights self.kept.natural_heights;
@@ -79,11 +84,11 @@ returns-clause-solved c =
     let self = c.args.self.now in
     let now = c.solve_trees.new in
     let done = c.solve_trees.ensures in
-    let entries : Entries = record { boxes = self.boxes; natural_widths = now.natural_widths; widths = now.widths; natural_heights = now.natural_heights; positions = now.places } in
+    let entries : Entries = record { boxes = now.boxes; natural_widths = now.natural_widths; widths = now.widths; natural_heights = now.natural_heights; positions = now.places } in
     let wide : self.limits.width ≡ scene.limits.width = ap (λ (b : Bounds). b.width) c.requires.limits in
     let high : self.limits.height ≡ scene.limits.height = ap (λ (b : Bounds). b.height) c.requires.limits in
-    let placed : HoldsPlaced (sizes_of now.widths) (slots_of now.places) (solved scene.limits.width scene.limits.height (boxed (box_at self.boxes) (handles_of scene.trees))) =
+    let placed : HoldsPlaced (sizes_of now.widths) (slots_of now.places) (solved scene.limits.width scene.limits.height (boxed (scene_box scene) (handles_of scene.trees))) =
     rw (← wide, ← high, ← c.tree.ensures.forest) done.solved in
     all_placed scene c.tree.ensures.valid self.limits.objects entries self.listed.items c.requires.listed
     (these_kept self.limits.objects self.positions now.places self.listed.items done.listed_places self.kept.positions)
-    placed self.kept.boxes c.requires.boxes
+    placed

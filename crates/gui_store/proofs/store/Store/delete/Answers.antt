@@ -15,7 +15,8 @@ listed c =
 deleted : (c : After-forget_all) → numbers c.last_removed-removed.result.now ≡ preorder (tree_at c.args.self.now.tree.forest c.args.h.0) →
     Left (parts_of c.args.self.now) (change.Delete c.args.h) (record (parts_of c.args.self.now) {
       tree = c.remove.new.self;
-      rows = c.remove_rows.new.rows;
+      rows = c.remove_rows.new.rows.rows;
+      spare_texts = c.remove_rows.new.rows.spare_texts;
       styles = c.forget_all.new.self;
     }) (Ok tt)
 deleted c list =

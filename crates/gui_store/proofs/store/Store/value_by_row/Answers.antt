@@ -1,4 +1,4 @@
-use Rattle.gui_store.proofs.Common.{◌≡◌, ◌∙◌, sym, refl, subst, true, Some, None, SFits, w32, rules, parts_of, scene_of}
+use Rattle.gui_store.proofs.Common.{◌≡◌, ◌∙◌, sym, refl, subst, true, Some, None, SFits, w32, rules, shown_row, parts_of, scene_of}
 use Rattle.std.proofs.Common.{to_z, of_z}
 use Rattle.std.proofs.lemmas.Int.{to_z-of_z}
 use Rattle.scene_defs.specs.Scene.{value}
@@ -17,7 +17,7 @@ given_value : (c : In-Some) → to_z w32 (of_z w32 c.in-Some.value) ≡ value (s
 given_value c =
     let fits : SFits w32 c.in-Some.value = search rules in
     to_z-of_z w32 c.in-Some.value fits
-    ∙ value-is (parts_of c.args.self.now) c.args.self.now.kept c.args.h.0 c.args.part c.args.prop c.args.row.now (Some c.in-Some.value)
+    ∙ value-is (parts_of c.args.self.now) c.args.self.now.kept c.args.h.0 c.args.part c.args.prop (shown_row c.args.row.now) (Some c.in-Some.value)
     (c.requires ∙ sym (read-row (parts_of c.args.self.now) c.args.self.now.kept c.args.h.0 _ refl)) (sym c.in-Some.is ∙ c.given.ensures)
 
 pub returns-in-Some-clause-value : goal.returns-in-Some-clause-value
@@ -31,5 +31,5 @@ pub returns-in-None-clause-value : goal.returns-in-None-clause-value
 returns-in-None-clause-value c =
     let fits : SFits w32 c.default_in.result = search rules in
     to_z-of_z w32 c.default_in.result fits ∙ c.default_in.ensures
-    ∙ value-is (parts_of c.args.self.now) c.args.self.now.kept c.args.h.0 c.args.part c.args.prop c.args.row.now None
+    ∙ value-is (parts_of c.args.self.now) c.args.self.now.kept c.args.h.0 c.args.part c.args.prop (shown_row c.args.row.now) None
     (c.requires ∙ sym (read-row (parts_of c.args.self.now) c.args.self.now.kept c.args.h.0 _ refl)) (sym c.in-None.is ∙ c.given.ensures)

@@ -1,0 +1,99 @@
+//! Objects as their items show them.
+ghost use Rattle.std.specs.Prelude.{◌≡◌, ℤ, Some, true, option_map};
+ghost use Rattle.std.specs.Str.{chars};
+ghost use Rattle.gui_base.specs.Props.{is_value};
+ghost use Rattle.gui_base.specs.declared.props.Prop.{Prop as Property};
+ghost use Rattle.scene_defs.specs.Change.{text_at};
+ghost use Rattle.scene_defs.specs.Looks.{look_of, image_look};
+ghost use Rattle.scene_defs.specs.Row.{shown_row};
+ghost use Rattle.scene_defs.specs.Scene.{is_there, object_at, row_at, value};
+ghost use Rattle.scene_defs.specs.Texts.{is_text};
+ghost use Rattle.scene_defs.specs.Valid.{IsRow};
+ghost use Rattle.widget_defs.specs.Looks.{AreValues, value_in};
+ghost use Rattle.gui_store.specs.Views.{scene_of};
+ghost use Rattle.gui_widgets.specs.Looks.{IsLook, widget_of};
+
+use arrayvec::ArrayVec;
+use gui_base::{Handle, Part, Prop};
+use gui_font::Images;
+use gui_store::{Row, Store};
+use gui_widgets::{ImageLook, Look, Values};
+
+/// The value of each property of a part of an object that has this row.
+fn values(store: &Store, h: Handle, row: &Row, part: Part) -> Values
+    requires { Some (shown_row row.now) ≡ row_at (scene_of store.now) h.0 }
+    ensures values { (prop : Property) → value_in result prop ≡ value (scene_of store.now) h.0 part prop }
+    ensures in_range { AreValues (value_in result) }
+{
+    Values([
+        store.value_by_row(h, row, part, Prop::BgColor),
+        store.value_by_row(h, row, part, Prop::BgOpa),
+        store.value_by_row(h, row, part, Prop::BorderColor),
+        store.value_by_row(h, row, part, Prop::BorderOpa),
+        store.value_by_row(h, row, part, Prop::BorderWidth),
+        store.value_by_row(h, row, part, Prop::PadTop),
+        store.value_by_row(h, row, part, Prop::PadBottom),
+        store.value_by_row(h, row, part, Prop::PadLeft),
+        store.value_by_row(h, row, part, Prop::PadRight),
+        store.value_by_row(h, row, part, Prop::PadRow),
+        store.value_by_row(h, row, part, Prop::PadColumn),
+        store.value_by_row(h, row, part, Prop::ImgRecolor),
+        store.value_by_row(h, row, part, Prop::ImgOpa),
+        store.value_by_row(h, row, part, Prop::TextColor),
+        store.value_by_row(h, row, part, Prop::TextOpa),
+        store.value_by_row(h, row, part, Prop::TextFont),
+        store.value_by_row(h, row, part, Prop::TextAlign),
+        store.value_by_row(h, row, part, Prop::TextLetterSpace),
+        store.value_by_row(h, row, part, Prop::TextLineSpace),
+    ])
+}
+
+/// The image that an object shows with its size, if it shows one that is finished.
+fn image_look(images: &Images, image: Option<u16>) -> Option<ImageLook>
+    ensures { result ≡ image_look images.now.images image }
+{
+    let id = image?;
+    let (w, h) = images.size(id)?;
+    Some(ImageLook { id, w, h })
+}
+
+/// The text of an object that is there, whose bytes are written into `room`.
+fn text_of<'a>(store: &Store, h: Handle, room: &'a mut ArrayVec<u8, 1000>) -> &'a str
+    requires { is_there (scene_of store.now) h.0 ≡ true }
+    ensures text { result.now ≡ text_at (scene_of store.now) h.0 }
+    ensures valid { is_text result.now ≡ true }
+{
+    store.text_into(h, room);
+    match std::str::from_utf8(room.as_slice()) {
+        Ok(text) => text,
+        Err(_) => unreachable!(),
+    }
+}
+
+/// An object that has this row as its items show it, with its text in `room`.
+pub(crate) fn look_in<'a>(
+    store: &'a Store,
+    h: Handle,
+    row: &Row,
+    room: &'a mut ArrayVec<u8, 1000>,
+) -> Look<'a>
+    requires row { Some (shown_row row.now) ≡ row_at (scene_of store.now) h.0 }
+    requires in_range { IsRow row.now }
+    ensures look { IsLook result }
+    ensures shows { Some (widget_of result)
+        ≡ option_map (look_of (scene_of store.now)) (object_at (scene_of store.now) h.0) }
+{
+    Look {
+        kind: row.kind,
+        main: values(store, h, row, Part::Main),
+        scrollbar: values(store, h, row, Part::Scrollbar),
+        indicator: values(store, h, row, Part::Indicator),
+        knob: values(store, h, row, Part::Knob),
+        text: text_of(store, h, room),
+        value: row.value,
+        min: row.min,
+        max: row.max,
+        image: image_look(store.images(), row.image),
+        fonts: store.fonts(),
+    }
+}

@@ -1,0 +1,24 @@
+use Rattle.std.proofs.Common.{sym, subst, map, take, List}
+use Rattle.std.specs.Str.{chars}
+use Rattle.gui_base.specs.Corners.{rect_of}
+use Rattle.gui_base.specs.Coats.{Coat}
+use Rattle.gui_widgets.specs.Looks.{item_of, items_of}
+use Rattle.scene_defs.specs.Items.{coat_in}
+use Rattle.gui_paint.specs.Paintable.{IsPaintable}
+use Rattle.gui_paint.specs.Painting.{Paints, painted_coats}
+use Rattle.gui_paint.proofs.Coating.{paints_more}
+use Rattle.gui_paint.proofs.Listing.{made_at, made_more}
+use Rattle.gui_paint.proofs.items.paint_items.Goals as goal
+
+pub paint_item-requires-clause-ready : goal.paint_item-requires-clause-ready
+paint_item-requires-clause-ready g c =
+    made_at (IsPaintable c.args.fonts.now.fonts) item_of c.args.items.now c.loop-item.item-index c.item-item.result c.loop-item-test.true c.item-item.is c.requires.ready
+
+pub loop-item-preserved : goal.loop-item-preserved
+loop-item-preserved g c =
+    let visible = rect_of c.args.visible in
+    let coat = coat_in c.args.fonts.now.fonts c.args.images.now.images (chars c.args.text.now) in
+    let before = map coat (items_of (take c.loop-item.item-index c.args.items.now)) in
+    subst (λ (coats : List Coat). Paints c.args.buf.now c.paint_item.new.buf (painted_coats visible coats))
+    (sym (made_more item_of coat c.args.items.now c.loop-item.item-index c.item-item.result c.loop-item-test.true c.item-item.is))
+    (paints_more c.args.buf.now c.loop-item.buf c.paint_item.new.buf visible before (coat (item_of c.item-item.result)) c.loop-item.invariant c.paint_item.ensures)

@@ -1,0 +1,4 @@
+pub mod Bounds
+pub mod Looks
+pub mod Nears
+pub mod Texts

@@ -1,0 +1,50 @@
+//! What the items of an object are made of, and the items.
+ghost use Rattle.std.specs.Prelude.{◌≡◌};
+
+use gui_base::{Area, Kind, Rgb565};
+use gui_font::Fonts;
+use widget_defs::{ImageLook, ItemPaint, Values};
+
+/// An object as its items show it.
+#[derive(Clone, Copy)]
+pub struct Look<'a> {
+    pub kind: Kind,
+    /// The values of the object's own part.
+    pub main: Values,
+    pub scrollbar: Values,
+    pub indicator: Values,
+    pub knob: Values,
+    /// At most 1,000 bytes.
+    pub text: &'a str,
+    /// From `min` to `max`.
+    pub value: i32,
+    /// From -10,000 on.
+    pub min: i32,
+    /// Greater than `min`, and at most 10,000.
+    pub max: i32,
+    /// What an image shows.
+    pub image: Option<ImageLook>,
+    pub fonts: &'a Fonts,
+}
+
+/// One of the things that an object paints.
+#[derive(Clone, Copy, Debug)]
+pub struct Item {
+    pub area: Area,
+    pub paint: ItemPaint,
+}
+
+impl Default for Item {
+    ghost is_default = { λ item. Unit {0} };
+
+    /// A black fill of no area.
+    fn default() -> Item {
+        Item {
+            area: Area::default(),
+            paint: ItemPaint::Fill {
+                color: Rgb565::BLACK,
+                opa: 0,
+            },
+        }
+    }
+}

@@ -1,0 +1,120 @@
+-- What an object paints.
+use Rattle.std.specs.Prelude.{ℕ, ◌+◌, ◌-◌, ◌*◌, ◌/◌, ◌%◌, min, List, [], ◌∷◌, ◌++◌, Some, None}
+use Rattle.std.specs.Prelude.{ℤ, pos, ◌+ℤ◌, ◌-ℤ◌}
+use Rattle.std.specs.declared.option.Option.{Option}
+use Rattle.gui_base.specs.declared.color.Rgb565.{Rgb565}
+use Rattle.gui_base.specs.declared.words.Kind.{Kind}
+use Rattle.gui_base.specs.declared.words.Kind.TheVariants as kind
+use Rattle.gui_base.specs.declared.props.Prop.{Prop}
+use Rattle.gui_base.specs.declared.props.Prop.TheVariants as prop
+use Rattle.gui_base.specs.Area.{Rect, area_at, width_of, height_of}
+use Rattle.gui_base.specs.Color.{color}
+use Rattle.text_defs.specs.declared.TextLook.{TextLook}
+use Rattle.widget_defs.specs.declared.ImageLook.{ImageLook}
+use Rattle.widget_defs.specs.declared.ItemPaint.{ItemPaint}
+use Rattle.widget_defs.specs.declared.ItemPaint.TheVariants.{Fill, Ring, Ink, Picture}
+use Rattle.widget_defs.specs.Looks.{Look, PartValues, number_of, text_look, left_look}
+use Rattle.widget_defs.specs.Sizes.{text_size, text_offset}
+
+-- an item of an object: what it paints, and where
+pub record Item : Type 0 where
+  pub area : Rect
+  pub paint : ItemPaint
+
+-- a colour of eight bits a channel as one of sixteen bits
+abbrev pub rgb_of : ℤ → Rgb565
+rgb_of value = let n = number_of value in color (n / 65536 / 8) (n / 256 % 256 / 4) (n % 256 / 8)
+
+abbrev pub fill_of : Rect → PartValues → Item
+fill_of area values =
+    record { area = area; paint = Fill (rgb_of (values prop.BgColor)) (number_of (values prop.BgOpa)) }
+
+abbrev pub ring_of : Rect → PartValues → Item
+ring_of area values =
+    record {
+      area = area;
+      paint =
+          Ring (number_of (values prop.BorderWidth)) (rgb_of (values prop.BorderColor))
+          (number_of (values prop.BorderOpa));
+    }
+
+-- a part in an area: its fill, and the ring of its border
+abbrev pub part_of : Rect → PartValues → List Item
+part_of area values = fill_of area values ∷ ring_of area values ∷ []
+
+-- a text in an area, set so
+abbrev pub ink_of : Rect → PartValues → TextLook → Item
+ink_of area values look =
+    record {
+      area = area;
+      paint = Ink look (rgb_of (values prop.TextColor)) (number_of (values prop.TextOpa));
+    }
+
+-- border and pad at one side
+abbrev pub inset : PartValues → Prop → ℕ
+inset values pad = number_of (values prop.BorderWidth) + number_of (values pad)
+
+-- the content area of an object of this area: without border and pad at each side
+abbrev pub content_of : Rect → PartValues → Rect
+content_of area values =
+    area_at (area.x1 +ℤ pos (inset values prop.PadLeft)) (area.y1 +ℤ pos (inset values prop.PadTop))
+    (width_of area - (inset values prop.PadLeft + inset values prop.PadRight))
+    (height_of area - (inset values prop.PadTop + inset values prop.PadBottom))
+
+-- of so many pixels those that the value fills, as it lies in its range
+abbrev pub share_of : Look → ℕ → ℕ
+share_of look n = n * number_of (look.value -ℤ look.min) / number_of (look.max -ℤ look.min)
+
+-- the first columns of a content area, as the value fills them
+abbrev pub share_area : Look → Rect → Rect
+share_area look content =
+    area_at content.x1 content.y1 (share_of look (width_of content)) (height_of content)
+
+-- the side of a knob, and the square where the value puts it
+abbrev pub knob_side : Rect → ℕ
+knob_side content = min (width_of content) (height_of content)
+
+abbrev pub knob_area : Look → Rect → Rect
+knob_area look content =
+    let side = knob_side content in
+    area_at (content.x1 +ℤ pos (share_of look (width_of content - side))) content.y1 side side
+
+-- the box of a checkbox, as high as a line, and its text, as large as it is by itself
+abbrev pub box_area : Look → Rect → Rect
+box_area look content = area_at content.x1 content.y1 look.face.height look.face.height
+
+abbrev pub caption_area : Look → Rect → Rect
+caption_area look content =
+    let size = text_size look None in
+    area_at (content.x1 +ℤ pos (text_offset look)) content.y1 size.0 size.1
+
+-- an image at the top left of a content area, cut to it
+abbrev pub image_area : ImageLook → Rect → Rect
+image_area image content =
+    area_at content.x1 content.y1 (min image.w (width_of content)) (min image.h (height_of content))
+
+abbrev pub picture_of : Option ImageLook → PartValues → Rect → List Item
+picture_of None values content = []
+picture_of (Some image) values content =
+    record {
+      area = image_area image content;
+      paint = Picture image.id (rgb_of (values prop.ImgRecolor)) (number_of (values prop.ImgOpa));
+    }
+    ∷ []
+
+-- what the kind of an object paints in its content area
+abbrev pub content_items : Kind → Look → Rect → List Item
+content_items kind.Label look content = ink_of content look.main (text_look look.main) ∷ []
+content_items kind.Image look content = picture_of look.image look.main content
+content_items kind.Bar look content = part_of (share_area look content) look.indicator
+content_items kind.Slider look content =
+    part_of (share_area look content) look.indicator ++ part_of (knob_area look content) look.knob
+content_items kind.Checkbox look content =
+    part_of (box_area look content) look.indicator
+    ++ ink_of (caption_area look content) look.main (left_look look.main) ∷ []
+content_items kind look content = []
+
+-- all that an object of this area paints, from back to front
+abbrev pub items : Look → Rect → List Item
+items look area =
+    part_of area look.main ++ content_items look.kind look (content_of area look.main)

@@ -1,0 +1,42 @@
+-- How large what an object shows is by itself.
+use Rattle.std.specs.Prelude.{ℕ, ◌+◌, max, Some, None}
+use Rattle.std.specs.declared.option.Option.{Option}
+use Rattle.gui_base.specs.declared.words.Kind.{Kind}
+use Rattle.gui_base.specs.declared.words.Kind.TheVariants as kind
+use Rattle.gui_base.specs.declared.props.Prop.TheVariants as prop
+use Rattle.text_defs.specs.Lines.{measured}
+use Rattle.widget_defs.specs.declared.ImageLook.{ImageLook}
+use Rattle.widget_defs.specs.Looks.{Look, number_of, text_setting}
+
+-- the widest run of its text in so many pixels at most, and the height of its lines
+abbrev pub text_size : Look → Option ℕ → ℕ × ℕ
+text_size look most = measured (text_setting look most) (number_of (look.main prop.TextLineSpace)) look.text
+
+-- the size of an image, if there is one
+abbrev pub image_size : Option ImageLook → ℕ × ℕ
+image_size None = (0, 0)
+image_size (Some image) = (image.w, image.h)
+
+-- from the box of a checkbox to its text
+abbrev pub text_offset : Look → ℕ
+text_offset look = look.face.height + number_of (look.main prop.PadColumn)
+
+abbrev pub width_by : Kind → Look → ℕ
+width_by kind.Label look = (text_size look None).0
+width_by kind.Image look = (image_size look.image).0
+width_by kind.Checkbox look = text_offset look + (text_size look None).0
+width_by kind look = 0
+
+abbrev pub height_by : Kind → Look → ℕ → ℕ
+height_by kind.Label look content = (text_size look (Some content)).1
+height_by kind.Image look content = (image_size look.image).1
+height_by kind.Checkbox look content = max look.face.height (text_size look None).1
+height_by kind look content = 0
+
+-- the own width of an object
+abbrev pub own_width : Look → ℕ
+own_width look = width_by look.kind look
+
+-- its own height, where its content area is so wide
+abbrev pub own_height : Look → ℕ → ℕ
+own_height look content = height_by look.kind look content

@@ -1,0 +1,33 @@
+//! What follows from the definitions. Each function does nothing: its contract is a law, which is proved.
+ghost use Rattle.widget_defs.specs.Laws.{SharesFollowValues, KnobsStayInside, CheckboxTextsStayWhole};
+ghost use Rattle.widget_defs.specs.Reference.{ReferenceItems, ReferenceSizes};
+ghost use Rattle.widget_defs.specs.Examples.{ItemsAreWorked, SizesAreWorked, FirstValuesAreWorked};
+
+/// The share of a bar that is filled is empty at the least value and whole at the greatest, and a greater
+/// value never fills less.
+pub fn shares_follow_values()
+    ensures { SharesFollowValues }
+{}
+
+/// The knob of a slider lies inside its content area, whatever the value.
+pub fn knobs_stay_inside()
+    ensures { KnobsStayInside }
+{}
+
+/// The text of a checkbox is broken at newlines alone.
+pub fn checkbox_texts_stay_whole()
+    ensures { CheckboxTextsStayWhole }
+{}
+
+/// Items, sizes and first values that were worked out by hand.
+pub fn worked_examples()
+    ensures items { ItemsAreWorked }
+    ensures sizes { SizesAreWorked }
+    ensures first { FirstValuesAreWorked }
+{}
+
+/// Seventy-five objects have the items that a reference implementation gives, and thirty the own sizes.
+pub fn reference_items()
+    ensures items { ReferenceItems }
+    ensures sizes { ReferenceSizes }
+{}

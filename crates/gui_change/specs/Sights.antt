@@ -14,4 +14,5 @@ AreSeen table scene = (h : ℕ) (s : Seen) → value_at table h ≡ Some s → I
 -- what is known of objects that a change does not concern may be kept where they stay in their places
 abbrev pub KeepOthers : Table Seen → Concerned → Scene → Type 0
 KeepOthers table concerned scene =
-    (h : ℕ) (s : Seen) → may_be concerned h ≡ false → value_at table h ≡ Some s → KeepsItems scene h s
+    (h : ℕ) (s : Seen) →
+    may_be scene concerned h ≡ false → value_at table h ≡ Some s → KeepsItems scene h s

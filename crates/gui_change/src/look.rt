@@ -46,11 +46,16 @@ fn put(table: &mut Table<Seen>, h: Handle, value: Seen)
 }
 
 /// What is known of an object that a change does not concern.
-fn known_of<'a>(known: &'a Table<Seen>, concerned: Concerned, h: Handle) -> Option<&'a Seen>
-    ensures other { IfSome result (λ s. may_be concerned h.0 ≡ false) }
+fn known_of<'a>(
+    known: &'a Table<Seen>,
+    store: &Store,
+    concerned: Concerned,
+    h: Handle,
+) -> Option<&'a Seen>
+    ensures other { IfSome result (λ s. may_be (scene_of store.now) concerned h.0 ≡ false) }
     ensures known { IfSome result (λ s. value_at known.now h.0 ≡ Some s.now) }
 {
-    if concerned.may_be(h) {
+    if concerned.may_be(store, h) {
         None
     } else {
         known.get(h.0 as u32)
@@ -77,7 +82,8 @@ fn see_all(
     ensures seen { AreSeen table.new (scene_of store.now) }
 {
     for h in listed {
-        let seen = see(store, places, *h, known_of(known, concerned, *h));
+        let kept = known_of(known, store, concerned, *h);
+        let seen = see(store, places, *h, kept);
         put(table, *h, seen);
     }
 }

@@ -13,7 +13,6 @@ use Rattle.gui_pool.specs.Table.{value_at}
 use Rattle.gui_tree.specs.Handles.{numbers}
 use Rattle.scene_defs.specs.Place.{place, box_of as object_box}
 use Rattle.scene_defs.specs.Scene.{Object, Scene, handle_of, handles_of}
-use Rattle.scene_defs.specs.Row.{is_row}
 use Rattle.scene_defs.specs.Valid.{IsValid, in_order}
 use Rattle.text_defs.specs.Images.{Image}
 use Rattle.layout_defs.specs.Boxes.{Box}

@@ -89,8 +89,8 @@ fn has_own_size(kind: Kind) -> bool
 fn own_width_of(store: &Store, h: Handle, row: &Row) -> u32
     requires row { Some (shown_row row.now) ≡ row_at (scene_of store.now) h.0 }
     requires in_range { IsRow row.now }
-    ensures value { result
-        ≡ (object_box (scene_of store.now) (object_with (scene_of store.now) h.0 (shown_row row.now))).own_width }
+    ensures value { let scene = scene_of store.now in
+        result ≡ (object_box scene (object_with scene h.0 (shown_row row.now))).own_width }
     ensures small { result ≤ 1000000 }
 {
     if !has_own_size(row.kind) {

@@ -216,8 +216,8 @@ impl Places {
     }
 
     /// What is seen of an object of a store for which the places were solved: its place met with those of all
-    /// above it and with the panel. It has no pixel where the object is not there, where it or one above it is
-    /// hidden, and where its root is not shown.
+    /// above it and with the panel. It has no pixel where the object is not there, where it or one above it
+    /// is hidden, and where its root is not shown.
     pub fn visible(&self, store: &Store, h: Handle) -> Area
         requires { AreSolved self.now (scene_of store.now) }
         ensures { some_area (rect_of result) ≡ visible (scene_of store.now) h.0 }

@@ -1,5 +1,5 @@
 -- What calls of `Styles` leave.
-use Rattle.gui_store.proofs.Common.{None, Some, Test, Refusal, first-then, first-some, ◌≡◌, ◌∙◌, sym, subst, ℕ, ◌+◌, Bool, true, false, cond, not, Entries, nat_tests, List, [], ◌∷◌, length, slice_set, slice_index_or, Ok, Err, inl, inr, refl, arith, get_or_past, OnOk, OnErr, Handle, first_of, result_of, numbers, Answer, Styles, Styling, entries_in, uses_in, IsStyled, IsAnswered, full_for, of_entries, one_unless, set_past, forgotten, all_forgotten}
+use Rattle.gui_store.proofs.Common.{None, Some, Test, Refusal, first-then, first-some, ◌≡◌, ◌∙◌, sym, subst, ℕ, ◌+◌, Bool, cond, not, Entries, nat_tests, List, [], ◌∷◌, length, slice_set, slice_index_or, Ok, Err, inl, inr, refl, arith, get_or_past, OnOk, OnErr, Handle, first_of, result_of, numbers, Answer, Styles, Styling, entries_in, uses_in, IsStyled, IsAnswered, full_for, of_entries, one_unless, set_past, forgotten, all_forgotten}
 use Rattle.std.specs.List.{sum_by}
 use Rattle.gui_base.specs.Refusing.{Unknown}
 use Rattle.gui_style.specs.Styles.{full_answer}

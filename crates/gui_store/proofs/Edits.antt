@@ -1,5 +1,5 @@
 -- The parts of a store after each change that is done.
-use Rattle.gui_store.proofs.Common.{Ok, Err, ◌≡◌, ◌<◌, ◌≤◌, ◌∙◌, sym, ap, subst, ℕ, zero, suc, ◌+◌, ◌-◌, Bool, true, false, length, slice_set, List, Option, Some, None, is_some, option_map, refl, arith, length-set, nat_eq, eqb-true, ◌++◌, [], ◌∷◌, cond, eqb, if◌then◌else◌, OnOk, OnErr, nat_tests, get_or-set_same, POOLS, Handle, Objects, StyleSlots, Entries, Uses, AreAssetSlots, IsBuilt, AreBuilt, full_for_assets, AssetChange, asset_change_of, FontSet, ImageSet, no_fonts, no_images, FontSlots, Glyphs, Ink, ImageSlots, Pixels, Full, Refusal, Forest, Empty, Tree, and_then, leaf, put_at, has, size, count, preorder, cut, cut_by, tree_at, parent_of, with_children_by, Bounds, Test, first_of, result_of, root_tests, child_tests, removal_tests, move_tests, parent_tests, map-and_then, map-size, map-cut_by, map-tree_by, map-parent_by, map-added_by, map-moved_by, map-moved_last_by, count-has, Table, value_at, value_inserted, value_replaced, numbers, Answer, full_answer, Trees, opened, add_root_answer, add_answer, remove_answer, move_answer, set_parent_answer, with_root, with_child, at_index, below, moved_below, without_tree, Change, is_in_range, is_there, Object, Scene, is_at, handles_of, spare, new_row, new_object, first_scene, is_screen_kind, answer_in_range, tests, first_short, scene_after, tree_below, all_below, parent_object, at_index_below, last_below, row_after, over_row, row_set, setter_of, need_of, freed_by, IsValid, IsChange, is_root_at, tests-fail, room_in_range, none_short, first-then, first-some, sets_row_alone, total, total-cut, total-parts, one, one_at, size-total, added_sum, removed_sum, first_is_valid, set_sums, Row, KeptRow, RowSet, chunks_at, chunks_of, inl, inr, ◌⊎◌, one_short, new_kept, kept_in, row_in, row_shown, object_of, object_in, HaveRows, set_without, Texts, unwrap_or, removed_after, Styles, Styling, styling_of, AreSlots, IsStyled, full_for, Book, entries_in, uses_in, Parts, scene_in, AreKept, on_ok_weaker, on_err_weaker, locals_of, uses_of, no_lists, empty_book, ext_get_or, all_forgotten, book_without, object_tests, need_by, freed_by_styling, named_by, IsRestyled, Place, refusal_of}
+use Rattle.gui_store.proofs.Common.{Ok, Err, ◌≡◌, ◌<◌, ◌≤◌, ◌∙◌, sym, ap, subst, ℕ, zero, suc, ◌+◌, ◌-◌, Bool, true, false, length, slice_set, List, Option, Some, None, is_some, option_map, refl, arith, length-set, nat_eq, eqb-true, ◌++◌, [], ◌∷◌, cond, eqb, if◌then◌else◌, OnOk, OnErr, nat_tests, get_or-set_same, POOLS, Handle, Objects, StyleSlots, Entries, Uses, AreAssetSlots, IsBuilt, AreBuilt, full_for_assets, AssetChange, asset_change_of, FontSet, ImageSet, no_fonts, no_images, FontSlots, Glyphs, Ink, ImageSlots, Pixels, Full, Refusal, Forest, Empty, Tree, and_then, leaf, put_at, has, size, count, preorder, cut, cut_by, tree_at, parent_of, with_children_by, Bounds, Test, first_of, result_of, root_tests, child_tests, removal_tests, move_tests, parent_tests, map-and_then, map-size, map-cut_by, map-tree_by, map-parent_by, map-added_by, map-moved_by, map-moved_last_by, count-has, Table, value_at, value_inserted, value_replaced, numbers, Answer, full_answer, Trees, opened, add_root_answer, add_answer, remove_answer, move_answer, set_parent_answer, with_root, with_child, at_index, below, moved_below, without_tree, Change, is_in_range, is_there, Object, Scene, is_at, handles_of, spare, new_object, first_scene, is_screen_kind, answer_in_range, tests, first_short, scene_after, tree_below, all_below, parent_object, at_index_below, last_below, row_after, over_row, row_set, setter_of, need_of, freed_by, IsValid, IsChange, is_root_at, tests-fail, room_in_range, none_short, first-then, first-some, sets_row_alone, total, total-cut, total-parts, one, one_at, size-total, added_sum, removed_sum, first_is_valid, set_sums, Row, KeptRow, RowSet, chunks_at, chunks_of, inl, inr, ◌⊎◌, one_short, new_kept, kept_in, row_in, row_shown, object_of, object_in, HaveRows, set_without, Texts, unwrap_or, removed_after, Styles, Styling, styling_of, AreSlots, IsStyled, full_for, Book, entries_in, uses_in, Parts, scene_in, AreKept, on_ok_weaker, on_err_weaker, locals_of, uses_of, no_lists, empty_book, ext_get_or, all_forgotten, book_without, object_tests, need_by, freed_by_styling, named_by, IsRestyled, Place, refusal_of}
 use Rattle.gui_base.specs.declared.limits.Pool.{Pool}
 use Rattle.style_defs.specs.Book as book
 use Rattle.style_defs.proofs.Empty.{empty_in_order, empty_bare, no_entries, no_uses}

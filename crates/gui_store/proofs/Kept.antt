@@ -1,5 +1,5 @@
 -- What the parts of a store answer, and that a change keeps them in order.
-use Rattle.gui_store.proofs.Common.{◌≡◌, ◌<◌, ◌∙◌, sym, ap, subst, ℕ, ◌+◌, true, false, length, Option, unwrap_or, Some, None, is_some, option_map, Ok, Err, List, refl, arith, OnOk, OnErr, IsErrAnd, err_from_is_err_and, POOLS, HANDLE, Objects, StyleSlots, Entries, Uses, FontSlots, Glyphs, Ink, ImageSlots, Pixels, AreAssetSlots, Refusal, Full, Forest, has, count, Test, first_of, result_of, Table, value_at, Trees, Answer, Change, is_in_range, Scene, is_there, handles_of, object_at, row_at, spare, answer_in_range, answer_of, scene_after, scene_by, tests, first_short, need_of, freed_by, IsValid, IsChange, IsRow, in_order, one_at, added_sum, removed_sum, after_leaves, after_valid, slots_add_up, Row, KeptRow, RowSet, Texts, new_kept, kept_in, row_of, row_shown, Styles, AreSlots, Parts, scene_in, AreKept, removed_after, new_row, row_in, object_in, StandsOnce}
+use Rattle.gui_store.proofs.Common.{◌≡◌, ◌<◌, ◌∙◌, sym, ap, subst, ℕ, ◌+◌, true, false, length, Option, unwrap_or, Some, None, is_some, option_map, Ok, Err, List, refl, arith, OnOk, OnErr, IsErrAnd, err_from_is_err_and, POOLS, HANDLE, Objects, StyleSlots, Entries, Uses, FontSlots, Glyphs, Ink, ImageSlots, Pixels, AreAssetSlots, Refusal, Full, Forest, has, count, Test, first_of, result_of, value_at, Trees, Answer, Change, is_in_range, Scene, is_there, handles_of, object_at, row_at, spare, answer_in_range, answer_of, scene_after, scene_by, tests, first_short, need_of, freed_by, IsValid, IsChange, IsRow, in_order, one_at, added_sum, removed_sum, after_leaves, after_valid, slots_add_up, Row, KeptRow, RowSet, Texts, new_kept, kept_in, row_of, row_shown, Styles, AreSlots, Parts, scene_in, AreKept, removed_after, row_in, object_in, StandsOnce}
 use Rattle.std.proofs.lemmas.Bool.{and_parts}
 use Rattle.gui_base.specs.declared.limits.Pool.{Pool}
 use Rattle.gui_base.specs.Intervals.{is_counted}

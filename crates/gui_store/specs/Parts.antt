@@ -1,7 +1,8 @@
 -- The parts of a store, and the scene that they show.
 use Rattle.std.specs.Prelude.{◌≡◌, ℕ, ◌+◌, length, is_some}
 use Rattle.gui_base.specs.declared.intervals.TheConstants.{HANDLE}
-use Rattle.gui_base.specs.declared.limits.Pool.TheVariants.{Objects, Styles as StyleSlots, Entries, Uses, Texts}
+use Rattle.gui_base.specs.declared.limits.Pool.TheVariants.{Objects, Styles as StyleSlots, Entries}
+use Rattle.gui_base.specs.declared.limits.Pool.TheVariants.{Uses, Texts}
 use Rattle.gui_base.specs.declared.limits.Pool.TheVariants.{Fonts, Glyphs, Ink, Images, Pixels}
 use Rattle.gui_base.specs.Forest.{map_forest, has}
 use Rattle.gui_base.specs.Limits.{Bounds}

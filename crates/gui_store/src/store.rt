@@ -45,8 +45,8 @@ const SYSTEM_LAYER: Handle = Handle(2);
 /// The screen that is shown at first.
 const FIRST_SCREEN: Handle = Handle(3);
 
-/// A scene: the tree of its objects, a row and a text for each, their styles, the fonts and images, the active
-/// screen and the limits.
+/// A scene: the tree of its objects, a row and a text for each, their styles, the fonts and images, the
+/// active screen and the limits.
 #[derive(Drop)]
 pub struct Store {
     tree: Tree,

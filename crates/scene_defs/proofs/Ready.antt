@@ -1,11 +1,11 @@
 -- The fonts that styles name are finished, and stay so.
-use Rattle.std.proofs.Common.{◌≡◌, ℕ, ℤ, ◌<◌, Bool, true, false, List, [], ◌∷◌, map, length, arith, refl, Option, Some, None, inl, inr, rules, unwrap_or, option_map}
-use Rattle.std.specs.Prelude.{◌==◌, ◌&&◌, if◌then◌else◌, not}
+use Rattle.std.proofs.Common.{◌≡◌, ℕ, ℤ, ◌<◌, true, false, List, [], ◌∷◌, map, length, arith, refl, Option, Some, None, inl, inr, rules}
+use Rattle.std.specs.Prelude.{◌==◌, ◌&&◌, if◌then◌else◌}
 use Rattle.std.specs.List.{All}
 use Rattle.std.proofs.lemmas.Bool.{cases_Bool, cases_lt}
 use Rattle.std.proofs.lemmas.Bool.Decides.{nat_tests}
 use Rattle.std.proofs.lemmas.List.{get_or_past}
-use Rattle.std.proofs.lemmas.List.Elements.{All-nil, All-cons, All-map, All-set, All-weaker, All-get_or, All-replicate}
+use Rattle.std.proofs.lemmas.List.Elements.{All-nil, All-cons, All-set, All-weaker, All-get_or}
 use Rattle.gui_base.specs.Area.{nat_of}
 use Rattle.gui_base.specs.Props.{default_of}
 use Rattle.gui_base.specs.Words.{same_prop}
@@ -19,7 +19,6 @@ use Rattle.style_defs.specs.Firsts.{put_by, drop_by}
 use Rattle.style_defs.specs.Kinds.{entry_in, kind_rows}
 use Rattle.style_defs.specs.Value.{Styled}
 use Rattle.style_defs.specs.declared.Entry.{Entry}
-use Rattle.style_defs.specs.declared.Setting.{Setting}
 use Rattle.style_defs.proofs.Empty.{all_of_none}
 use Rattle.style_defs.proofs.Keeping.{All-put_by, All-drop_by, All-inserted, All-changed}
 use Rattle.style_defs.proofs.Ranges.{value_fits}

@@ -15,7 +15,8 @@ use Rattle.gui_base.specs.Forest.{Forest, and_then, leaf, added_by, cut_by, move
 use Rattle.gui_base.specs.Forest.{preorder}
 use Rattle.gui_base.specs.Forest.{tree_by, parent_by, with_row_by}
 use Rattle.gui_base.specs.Refusing.{Test, first_of, absent, parentless, root_tests, child_tests}
-use Rattle.gui_base.specs.Refusing.{removal_tests, move_tests, parent_tests, Unknown, Kind as WrongKind, Place}
+use Rattle.gui_base.specs.Refusing.{removal_tests, move_tests, parent_tests, Unknown, Place}
+use Rattle.gui_base.specs.Refusing.{Kind as WrongKind}
 use Rattle.gui_pool.specs.Texts.{need_of as chunks_of}
 use Rattle.text_defs.specs.Images.{Image, has_image}
 use Rattle.scene_defs.specs.declared.Feature.{Feature}

@@ -1,15 +1,14 @@
 -- What the items of an object are made of.
-use Rattle.std.specs.Prelude.{ℕ, Some, None, option_map}
+use Rattle.std.specs.Prelude.{ℕ, List, Some, None, option_map}
 use Rattle.std.specs.Str.{chars}
 use Rattle.std.specs.declared.option.Option.{Option}
-use Rattle.std.specs.Prelude.{List}
 use Rattle.gui_base.specs.declared.props.Prop.TheVariants.{TextFont}
 use Rattle.gui_base.specs.declared.words.Part.TheVariants.{Main, Indicator, Knob}
 use Rattle.text_defs.specs.Fonts.{face}
 use Rattle.text_defs.specs.Images.{Image, size_in}
 use Rattle.widget_defs.specs.declared.ImageLook.{ImageLook}
 use Rattle.widget_defs.specs.Looks.{Look, number_of}
-use Rattle.scene_defs.specs.Scene.{Object, Scene, object_at, value}
+use Rattle.scene_defs.specs.Scene.{Object, Scene, value}
 
 -- the font of an object's text
 abbrev pub font_at : Scene → ℕ → ℕ

@@ -39,7 +39,7 @@ IsSize length = is_size length ≡ true
 abbrev pub IsRow : Row → Type 0
 IsRow row = is_row row ≡ true
 
--- whether the handle and each number of an object do, it has a text that may be one, and its picture is one of
+-- whether the handle and each number of an object do, its text is one that may be, and its picture is one of
 -- these images that is finished
 abbrev pub in_order : List Image → Object → Bool
 in_order images object =

@@ -66,6 +66,22 @@ const SHARED_STYLE: Case = Case {
     counts: &[16, 4],
 };
 
+const TEXTS: Case = Case {
+    name: "a longer text: the places of both, which are joined; the same text again: its place",
+    words: ["24", "8", "8"],
+    script: "new 10 3 label\ntext 10 \"a\"\nframe\ntext 10 \"abc\"\nframe\ntext 10 \"abc\"\nframe\n\
+        text 10 \"\"\nframe\n",
+    counts: &[192, 144, 144, 144],
+};
+
+const VALUES: Case = Case {
+    name: "a value that changes, and one that stays at the end of its range: the place of the bar, once",
+    words: ["16", "8", "8"],
+    script: "new 10 3 bar\nsize 10 10 2\npos 10 1 1\nframe\nvalue 10 100\nframe\nvalue 10 101\nframe\n\
+        range 10 0 200\nframe\n",
+    counts: &[128, 20, 20, 20],
+};
+
 #[test]
 fn a_moved_object_sends_both_its_places(rt: HostRuntime) -> Result<(), Fail> {
     try_case(&rt, rt.alloc(), &MOVED)
@@ -89,6 +105,12 @@ fn the_named_object_is_sent_though_it_stays(rt: HostRuntime) -> Result<(), Fail>
 #[test]
 fn a_shared_style_sends_all_its_users(rt: HostRuntime) -> Result<(), Fail> {
     try_case(&rt, rt.alloc(), &SHARED_STYLE)
+}
+
+#[test]
+fn a_text_or_a_value_sends_the_places_of_its_object(rt: HostRuntime) -> Result<(), Fail> {
+    try_case(&rt, rt.alloc(), &TEXTS)?;
+    try_case(&rt, rt.alloc(), &VALUES)
 }
 
 /// 33 objects of a pixel, ten pixels from each other, become black: one area more than the list has room for.

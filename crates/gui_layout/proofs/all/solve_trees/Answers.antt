@@ -11,7 +11,7 @@ use Rattle.gui_layout.specs.Slots.{slots_of, HoldsPlaced}
 use Rattle.gui_layout.proofs.Parts.{whole, distinct_once, distinct-part, height-part, has-part, here, first_of, IsHead, next_head, next_first, IsNext, GoesOn, trees_from, trees_from-first_of, walk_goes_on, found}
 use Rattle.gui_layout.proofs.Solves.{Solves, solves_none, solves_first}
 use Rattle.gui_layout.proofs.all.solve_trees.Goals as goal
-use Rattle.gui_layout.proofs.all.solve_trees.Goals.{In-Some, In_default, After-next-next, Start}
+use Rattle.gui_layout.proofs.all.solve_trees.Goals.{In-Some, After-next-next}
 
 pub loop-next-init : goal.loop-next-init
 loop-next-init c =

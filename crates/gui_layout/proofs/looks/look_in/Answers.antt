@@ -1,4 +1,4 @@
-use Rattle.std.proofs.Common.{◌≡◌, ◌∙◌, sym, ap, ℤ, pos, true, Some, option_map, SFits, w32, to_z, of_z, arith}
+use Rattle.std.proofs.Common.{◌≡◌, ◌∙◌, sym, ap, ℤ, pos, true, Some, option_map, w32, to_z, of_z, arith}
 use Rattle.std.specs.Prelude.{◌&&◌, int_le, int_lt, negsuc, ◌≤ℤ◌, ◌<ℤ◌}
 use Rattle.std.specs.Str.{chars, is_utf8}
 use Rattle.std.proofs.lemmas.Bool.{and_parts}
@@ -9,7 +9,7 @@ use Rattle.gui_base.specs.declared.props.Prop.TheVariants.{TextFont}
 use Rattle.gui_base.specs.Intervals.{is_within}
 use Rattle.scene_defs.specs.declared.Row.{Row}
 use Rattle.text_defs.specs.Fonts.{face}
-use Rattle.widget_defs.specs.Looks.{Look, number_of}
+use Rattle.widget_defs.specs.Looks.{number_of}
 use Rattle.scene_defs.specs.Looks.{look_of, image_look}
 use Rattle.scene_defs.specs.Row.{shown_row, is_range}
 use Rattle.scene_defs.specs.Texts.{is_short}
@@ -18,7 +18,6 @@ use Rattle.scene_defs.proofs.InRange.{numbers_of}
 use Rattle.gui_store.specs.Views.{scene_of}
 use Rattle.gui_layout.proofs.SceneBoxes.{object_found, row_found}
 use Rattle.gui_layout.proofs.looks.look_in.Goals as goal
-use Rattle.gui_layout.proofs.looks.look_in.Goals.{After-values-4, After-t14-1}
 
 -- a value lies in its range, which has two ends, and each of them is kept in 32 bits
 record IsKept (row : Row) : Type 0 where

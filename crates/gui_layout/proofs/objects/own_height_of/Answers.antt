@@ -1,12 +1,12 @@
 use Rattle.std.proofs.Common.{◌≡◌, ◌∙◌, sym, ap, ℤ, w32, to_z, of_z, arith}
-use Rattle.std.specs.Prelude.{nat_abs, Some, None}
+use Rattle.std.specs.Prelude.{nat_abs}
 use Rattle.std.proofs.lemmas.Int.{ints, to_z-of_z}
 use Rattle.gui_base.specs.Area.{nat_of}
 use Rattle.scene_defs.specs.Row.{shown_row}
 use Rattle.widget_defs.specs.Sizes.{own_height}
 use Rattle.gui_store.specs.Views.{scene_of}
 use Rattle.gui_widgets.specs.Looks.{widget_of}
-use Rattle.gui_layout.proofs.SceneBoxes.{no_height, gone_height, look-height}
+use Rattle.gui_layout.proofs.SceneBoxes.{no_height, look-height}
 use Rattle.gui_layout.proofs.objects.own_height_of.Goals as goal
 
 pub returns-in-Some-clause-value : goal.returns-in-Some-clause-value

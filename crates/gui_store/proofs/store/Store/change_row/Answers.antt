@@ -1,6 +1,6 @@
 use denote.Ref.{Bor}
-use Rattle.gui_store.proofs.Common.{tests, first-some, ◌≡◌, ◌∙◌, sym, ap, true, Some, Ok, option_map, arith, err_from_is_err_and, row_set, Unknown, Row, RowSet, KeptRow, shown_row, row_shown, value_replaced, has, parts_of, scene_of}
-use Rattle.gui_store.proofs.Edits.{set_of, kept_after, found-kept, row-done, row-absent}
+use Rattle.gui_store.proofs.Common.{tests, first-some, ◌≡◌, ◌∙◌, sym, ap, true, Some, Ok, option_map, arith, err_from_is_err_and, row_set, Unknown, Row, shown_row, row_shown, has, parts_of, scene_of}
+use Rattle.gui_store.proofs.Edits.{found-kept, row-done, row-absent}
 use Rattle.gui_store.proofs.Kept.{Left, there-is, read-on, read-off, read-row, refused, err-some, ok-none}
 use Rattle.gui_store.proofs.store.Store.change_row.Goals as goal
 use Rattle.gui_store.proofs.store.Store.change_row.Goals.{In-Some, In-Some-get, After-set}

@@ -1,5 +1,5 @@
-use Rattle.gui_store.proofs.Common.{◌≡◌, ◌∙◌, sym, ap, subst, true, Some, Option, option_map, List, ℕ, is_there, has, KeptRow, kept_in, parts_of, scene_of}
-use Rattle.scene_defs.specs.Change.{text_at, text_of}
+use Rattle.gui_store.proofs.Common.{◌≡◌, ◌∙◌, sym, ap, subst, true, Some, option_map, ℕ, KeptRow, kept_in, parts_of}
+use Rattle.scene_defs.specs.Change.{text_of}
 use Rattle.scene_defs.specs.Texts.{is_text}
 use Rattle.gui_store.proofs.Kept.{there-is, object-is, text_fits}
 use Rattle.gui_store.proofs.Edits.{found-kept}

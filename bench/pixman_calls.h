@@ -1,4 +1,4 @@
-/* The calls of pixman that drawing.c makes, for machines with the library and without its header. */
+/* The calls of pixman that drawing.c and settings.c make, for machines with the library and without its header. */
 #include <stdint.h>
 
 typedef union pixman_image pixman_image_t;

@@ -8,10 +8,10 @@ use gui_base::intervals::{
     ADVANCE, CODE, FONT, FONT_HEIGHT, GLYPH_HEIGHT, GLYPH_OFFSET, GLYPH_WIDTH, HANDLE, IMAGE,
     IMAGE_ROW, IMAGE_SIDE, INDEX, NEW_HANDLE, STYLE,
 };
-use scene_defs::{Change, MOST_TEXT};
+use scene_defs::Change;
 use text_defs::GlyphBox;
 
-/// Whether each number of a change lies in its interval.
+/// Whether each number of a change lies in its interval, and its text is one that an object may have.
 pub fn is_in_range(change: &Change) -> bool
     ensures { result ≡ is_in_range change.now }
 {
@@ -26,7 +26,7 @@ pub fn is_in_range(change: &Change) -> bool
         Change::Delete(h) | Change::Front(h) | Change::Back(h) | Change::Load(h) => HANDLE.holds(
             h.0,
         ),
-        Change::Text(h, ref text) => HANDLE.holds(h.0) && text.len() <= MOST_TEXT,
+        Change::Text(h, ref text) => HANDLE.holds(h.0) && text.fits(),
         Change::Style(s) | Change::Unset(s, _) => STYLE.holds(s),
         Change::Set(s, prop, value) => STYLE.holds(s) && prop.values().holds(value),
         Change::Use(h, s, _) | Change::Unuse(h, s, _) => HANDLE.holds(h.0) && STYLE.holds(s),

@@ -19,7 +19,6 @@ fn is_plain(change: &Change) -> bool
 {
     match change {
         Change::New(_, _, kind) => *kind == Kind::Obj,
-        Change::Text(_, _) => false,
         _ => true,
     }
 }

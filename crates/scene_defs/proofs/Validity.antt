@@ -378,8 +378,7 @@ leaves scene (change.EndFont f) v fits c t none = assets_alone scene (change.End
 leaves scene (change.Image i format w h) v fits c t none = assets_alone scene (change.Image i format w h) v _ _ (λ o. shown-after scene (change.Image i format w h) o v none) refl refl refl refl (λ w. refl)
 leaves scene (change.ImageRow i y bytes) v fits c t none = assets_alone scene (change.ImageRow i y bytes) v _ _ (λ o. shown-after scene (change.ImageRow i y bytes) o v none) refl refl refl refl (λ w. refl)
 leaves scene (change.Text h text) v fits c t none =
-    let short = (and_parts _ _ fits).1 in
-    texted scene h text v (sym (has-handles scene.trees h.0) ∙ not-false _ t.0) (and_from _ _ c short)
+    texted scene h text v (sym (has-handles scene.trees h.0) ∙ not-false _ t.0) (and_parts _ _ fits).1
 leaves scene change v fits c t none =
     row_left scene change (handle_in (row_set change)) v refl (sym (has-handles scene.trees (handle_in (row_set change)).0) ∙ not-false _ t.0) fits t
 

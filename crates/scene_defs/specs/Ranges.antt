@@ -11,7 +11,7 @@ use Rattle.text_defs.specs.declared.GlyphBox.{GlyphBox}
 use Rattle.scene_defs.specs.declared.Change.{Change}
 use Rattle.scene_defs.specs.declared.Change.TheVariants as change
 use Rattle.scene_defs.specs.Row.{Setter, setter_of}
-use Rattle.scene_defs.specs.Texts.{is_short}
+use Rattle.scene_defs.specs.Texts.{is_text}
 
 -- whether each number of a glyph's box lies in its interval
 abbrev pub is_shape : GlyphBox → Bool
@@ -22,7 +22,7 @@ is_shape shape =
 -- the same where it sets a row, and where it does not: what is none of these is always refused
 abbrev pub is_in_range_by : Option Setter → Change → Bool
 is_in_range_by (Some setter) change = is_counted HANDLE setter.handle.0 && setter.fits
-is_in_range_by None (change.Text h text) = is_counted HANDLE h.0 && is_short text
+is_in_range_by None (change.Text h text) = is_counted HANDLE h.0 && is_text text
 is_in_range_by None (change.Screen n) = is_counted NEW_HANDLE n.0
 is_in_range_by None (change.New n p kind) = is_counted NEW_HANDLE n.0 && is_counted HANDLE p.0
 is_in_range_by None (change.Delete h) = is_counted HANDLE h.0
@@ -48,6 +48,6 @@ is_in_range_by None (change.Image i format w h) =
 is_in_range_by None (change.ImageRow i y bytes) = is_counted IMAGE i && is_counted IMAGE_ROW y
 is_in_range_by None change = false
 
--- whether each number of a change lies in its interval
+-- whether each number of a change lies in its interval, and its text is one that an object may have
 abbrev pub is_in_range : Change → Bool
 is_in_range change = is_in_range_by (setter_of change) change

@@ -2,7 +2,6 @@
 use Rattle.std.specs.Prelude.{◌≡◌, ◌≢◌, ◌≤◌, ℕ, Bool, true, false, not, ◌&&◌, ◌||◌, ◌==◌, if◌then◌else◌}
 use Rattle.std.specs.Prelude.{ℤ, List, [], ◌∷◌, map, length, pos, sum_by}
 use Rattle.std.specs.List.{list_any, list_all}
-use Rattle.std.specs.Str.{is_utf8}
 use Rattle.gui_base.specs.declared.intervals.TheConstants.{HANDLE, COORDINATE, MAX_DEPTH, FONT}
 use Rattle.gui_base.specs.declared.intervals.TheConstants.{FONT_HEIGHT, ADVANCE, CODE, IMAGE, IMAGE_SIDE}
 use Rattle.gui_base.specs.declared.words.Kind.{Kind}
@@ -146,7 +145,6 @@ pub record IsValid (scene : Scene) : Type 0 where
 -- a change that may be asked for: below a parent stand plain objects, and no screens or layers
 abbrev pub IsChange : Change → Type 0
 IsChange (change.New n p kind) = is_root kind ≡ false
-IsChange (change.Text h text) = is_utf8 text ≡ true
 IsChange change = Unit {0}
 
 -- what is shown of a scene in order is met by a walk

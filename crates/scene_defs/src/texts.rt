@@ -3,7 +3,7 @@ ghost use Rattle.std.specs.Prelude.{◌≡◌, ◌≤◌, ◌<◌, true, false, 
 ghost use Rattle.std.specs.Prelude.{IfSome, IfNone};
 ghost use Rattle.std.specs.Str.{is_utf8};
 ghost use Rattle.scene_defs.specs.Quoted.{unescaped, put_first, that_fits, text_in_quotes};
-ghost use Rattle.scene_defs.specs.Texts.{most_text};
+ghost use Rattle.scene_defs.specs.Texts.{most_text, is_text};
 
 use std::marker::Model;
 
@@ -76,6 +76,13 @@ impl<'a> Text<'a> {
         ensures { result ≡ length self.now }
     {
         self.len
+    }
+
+    /// Whether an object may have it: whether it has at most 1,000 bytes.
+    pub fn fits(&self) -> bool
+        ensures { result ≡ is_text self.now }
+    {
+        self.len <= MOST_TEXT
     }
 
     /// Its bytes. Those that stand between quotes are written into `room`.

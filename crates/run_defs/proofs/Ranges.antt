@@ -7,6 +7,7 @@ use Rattle.std.specs.Option.{option_and_then}
 use Rattle.std.specs.Str.{is_utf8}
 use Rattle.std.proofs.lemmas.Int.{ints}
 use Rattle.std.proofs.lemmas.Str.{IsUtf8-nil, is_utf8-from_IsUtf8}
+use Rattle.std.proofs.lemmas.Bool.{and_from}
 use Rattle.std.proofs.lemmas.Bool.Decides.{nat_tests}
 use Rattle.hex.specs.Hex.{decode_sized}
 use Rattle.hex.specs.declared.error.FromHexError.{FromHexError}
@@ -21,7 +22,7 @@ use Rattle.gui_base.specs.declared.props.Prop.{Prop}
 use Rattle.gui_base.specs.declared.props.Prop.TheVariants as prop
 use Rattle.gui_base.specs.Props.{is_value, values_of}
 use Rattle.scene_defs.specs.Quoted.{text_in_quotes}
-use Rattle.scene_defs.specs.Texts.{is_short}
+use Rattle.scene_defs.specs.Texts.{is_short, is_text}
 use Rattle.scene_defs.proofs.Unescaping.{text_in_quotes-utf8}
 use Rattle.scene_defs.specs.Row.{is_root, is_size, is_cross, is_range}
 use Rattle.run_defs.specs.declared.LineFault.TheVariants.{Range}
@@ -199,30 +200,22 @@ range-in at later =
 
 -- Texts.
 
-text_from-short : (o : Option (List ℕ)) → IfOk (text_from o) (λ text. is_short text ≡ true)
-text_from-short None = tt
-text_from-short (Some text) = grind arith
-
-text_from-utf8 : (o : Option (List ℕ)) → IfSome o (λ text. is_utf8 text ≡ true) → IfOk (text_from o) (λ text. is_utf8 text ≡ true)
-text_from-utf8 None h = tt
-text_from-utf8 (Some text) h = by (is_short text) where
-  by : (short : Bool) → IfOk (if short then Ok text else Err Range) (λ text. is_utf8 text ≡ true)
-  by false = tt
-  by true = h
+text_from-text : (o : Option (List ℕ)) → IfSome o (λ text. is_utf8 text ≡ true) → IfOk (text_from o) (λ text. is_text text ≡ true)
+text_from-text None h = tt
+text_from-text (Some text) h = by (is_short text) refl where
+  by : (short : Bool) → is_short text ≡ short → IfOk (if short then Ok text else Err Range) (λ text. is_text text ≡ true)
+  by false e = tt
+  by true e = and_from (is_utf8 text) (is_short text) h e
 
 quoted-utf8 : (inside : Option (List ℕ)) → IfSome (option_and_then text_in_quotes inside) (λ text. is_utf8 text ≡ true)
 quoted-utf8 None = tt
 quoted-utf8 (Some inside) = text_in_quotes-utf8 inside
 
-text-in : (at : Progress) → is_short (value text at) ≡ true
+text-in : (at : Progress) → is_text (value text at) ≡ true
 unfolding text_said
-text-in at = value-is text is_short refl (λ word. text_from-short (option_and_then text_in_quotes (between_quotes word))) at
-
-text-utf8 : (at : Progress) → is_utf8 (value text at) ≡ true
-unfolding text_said
-text-utf8 at =
-    value-is text is_utf8 (is_utf8-from_IsUtf8 [] IsUtf8-nil)
-    (λ word. text_from-utf8 (option_and_then text_in_quotes (between_quotes word)) (quoted-utf8 (between_quotes word))) at
+text-in at =
+    value-is text is_text (and_from (is_utf8 []) (is_short []) (is_utf8-from_IsUtf8 [] IsUtf8-nil) refl)
+    (λ word. text_from-text (option_and_then text_in_quotes (between_quotes word)) (quoted-utf8 (between_quotes word))) at
 
 ruleset inside = (handle-in, new_handle-in, index-in, extent-in, coordinate-in, cross-in, grow-in, shown_value-in, range-in, text-in, image-in, style_number-in, value-in)
 
@@ -239,7 +232,6 @@ tree-in name at = (simp inside, tt)
 
 row-in : (name : RowName) (at : Progress) → IsInRange (Ok (change_line (row_fields name at)).made)
 row-in row.Flag at = (simp inside, tt)
-row-in row.Text at = (simp inside, text-utf8 _)
 row-in name at = (simp inside, tt)
 
 style-in : (name : StyleName) (at : Progress) → IsInRange (Ok (change_line (style_fields name at)).made)

@@ -10,7 +10,8 @@ use Rattle.text_defs.specs.Fonts.{face}
 use Rattle.text_defs.specs.Lines.{lines, run_width, greatest}
 use Rattle.text_defs.specs.Ink.{inked}
 use Rattle.text_defs.specs.BuiltIn.{column_of}
-use Rattle.std.specs.Str.{chars}
+use Rattle.std.specs.Str.{chars, is_utf8}
+use lib.Utf8.{encode}
 use Rattle.debt_defs.specs.Examples.{one, in_row, overlapping, labelled, styled}
 use Rattle.debt_defs.proofs.less_is_too_little.Goals as goal
 
@@ -39,7 +40,7 @@ styled_showable : IsShowable styled
 styled_showable = let n = no_layer 3 (omega arith) in record { once = two_once; above_top = n.0; above_system = n.1 }
 
 pub returns : goal.returns
-unfolding place has_bit mix mix_channel face lines run_width greatest inked chars column_of
+unfolding place has_bit mix mix_channel face lines run_width greatest inked chars is_utf8 encode column_of
 returns c = record {
   new_places = record { showable = one_showable; outside = refl; painted = refl };
   named_object = record { showable = row_showable; outside = refl; painted = refl };

@@ -1,10 +1,12 @@
 use Rattle.std.proofs.Common.{refl}
+use Rattle.std.specs.Str.{chars, is_utf8}
+use lib.Utf8.{encode}
 use Rattle.gui_base.specs.Bits.{has_bit, with_bit}
 use Rattle.scene_defs.specs.Place.{place}
 use Rattle.debt_defs.proofs.worked_examples.Goals as goal
 
 pub returns : goal.returns
-unfolding place has_bit with_bit
+unfolding place has_bit with_bit chars is_utf8 encode
 returns c = record {
   debts = record {
     moved = refl;

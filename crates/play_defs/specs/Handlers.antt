@@ -1,9 +1,14 @@
 -- The handlers of each object, by its handle, in the order of adding.
-use Rattle.std.specs.Prelude.{ℕ, Bool, not, List, [], ◌∷◌, ◌++◌, map, filter, slice_index_or, slice_set}
+use Rattle.std.specs.Prelude.{ℕ, Bool, not, List, [], ◌∷◌, ◌++◌, map, filter, replicate, slice_index_or}
+use Rattle.std.specs.Prelude.{slice_set}
 use Rattle.gui_base.specs.declared.events.Action.{Action}
 use Rattle.gui_base.specs.declared.events.EventKind.{EventKind}
 use Rattle.play_defs.specs.declared.Handler.{Handler}
 use Rattle.play_defs.specs.Same.{same_kind}
+
+-- no handlers at any handle, which is a number of sixteen bits
+unfoldable pub no_handlers : List (List Handler)
+no_handlers = replicate 65536 []
 
 abbrev pub handlers_of : List (List Handler) → ℕ → List Handler
 handlers_of lists h = slice_index_or lists h []

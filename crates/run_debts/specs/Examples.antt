@@ -4,6 +4,7 @@ use Rattle.gui_base.specs.declared.Handle.{Handle}
 use Rattle.gui_base.specs.declared.words.Kind.TheVariants.{Screen, Layer, Obj}
 use Rattle.gui_base.specs.Forest.{Empty, Tree}
 use Rattle.gui_base.specs.Limits.{with_sizes}
+use Rattle.play_defs.specs.Focus.{no_groups}
 use Rattle.scene_defs.specs.declared.Change.{Change}
 use Rattle.scene_defs.specs.declared.Change.TheVariants as change
 use Rattle.scene_defs.specs.Scene.{new_object}
@@ -29,6 +30,8 @@ machine = record {
     images = [];
     limits = with_sizes 120 60 4;
   };
+  handlers = replicate 12 [];
+  groups = no_groups;
 }
 
 abbrev makes : Change → Said

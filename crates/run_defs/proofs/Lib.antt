@@ -4,4 +4,5 @@ pub mod Ranges
 pub mod Readings
 pub mod Runs
 pub mod SameSaying
+pub mod Steps
 pub mod WorkedLines

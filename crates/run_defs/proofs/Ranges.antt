@@ -16,7 +16,7 @@ use Rattle.gui_base.specs.Intervals.{is_counted, is_within}
 use Rattle.gui_base.specs.Names.{table, named}
 use Rattle.gui_base.specs.declared.intervals.Count.{Count}
 use Rattle.gui_base.specs.declared.intervals.Interval.{Interval}
-use Rattle.gui_base.specs.declared.intervals.TheConstants.{HANDLE, NEW_HANDLE, INDEX, EXTENT, PERCENT, COORDINATE, GROW, VALUE, COLOR, STYLE, TEXT_ALIGN, FONT, FONT_HEIGHT, ADVANCE, CODE, GLYPH_WIDTH, GLYPH_HEIGHT, GLYPH_OFFSET, IMAGE, IMAGE_SIDE, IMAGE_ROW}
+use Rattle.gui_base.specs.declared.intervals.TheConstants.{HANDLE, NEW_HANDLE, INDEX, EXTENT, PERCENT, COORDINATE, GROW, VALUE, COLOR, STYLE, TEXT_ALIGN, FONT, FONT_HEIGHT, ADVANCE, CODE, GLYPH_WIDTH, GLYPH_HEIGHT, GLYPH_OFFSET, IMAGE, IMAGE_SIDE, IMAGE_ROW, GROUP}
 use Rattle.gui_base.specs.declared.words.TextAlign.{TextAlign}
 use Rattle.gui_base.specs.declared.props.Prop.{Prop}
 use Rattle.gui_base.specs.declared.props.Prop.TheVariants as prop
@@ -30,6 +30,10 @@ use Rattle.run_defs.specs.declared.names.AssetName.{AssetName}
 use Rattle.run_defs.specs.declared.names.AssetName.TheVariants as asset
 use Rattle.run_defs.specs.declared.names.Name.{Name}
 use Rattle.run_defs.specs.declared.names.Name.TheVariants as name
+use Rattle.run_defs.specs.declared.names.ActionName.{ActionName}
+use Rattle.run_defs.specs.declared.names.ActionName.TheVariants as does
+use Rattle.run_defs.specs.declared.names.PlayName.{PlayName}
+use Rattle.run_defs.specs.declared.names.PlayName.TheVariants as play
 use Rattle.run_defs.specs.declared.names.RowName.{RowName}
 use Rattle.run_defs.specs.declared.names.RowName.TheVariants as row
 use Rattle.run_defs.specs.declared.names.StyleName.{StyleName}
@@ -38,7 +42,8 @@ use Rattle.run_defs.specs.declared.names.TreeName.{TreeName}
 use Rattle.run_defs.specs.declared.names.TreeName.TheVariants as tree
 use Rattle.run_defs.specs.declared.names.TheConstants.{COMMANDS}
 use Rattle.run_defs.specs.Commands.{handle, new_handle, index, extent, coordinate, cross_placing, grow, kind, shown_value, range_low, range_high, text, style_number, color_value, align_number, value_for, code, glyph_offset}
-use Rattle.run_defs.specs.Commands.{tree_fields, row_fields, style_fields, asset_fields, change_line, line_fields, named_says, command_says}
+use Rattle.run_defs.specs.Commands.{aim_said, aim, action_fields, group_number, play_fields}
+use Rattle.run_defs.specs.Commands.{tree_fields, row_fields, style_fields, asset_fields, command_line, change_line, line_fields, named_says, command_says}
 use Rattle.run_defs.specs.Fields.{Progress, number_in, count_in, value, start}
 use Rattle.run_defs.specs.Language.{Word, Reading, mapped, words_of}
 use Rattle.run_defs.specs.Lengths.{before_percent, length_by, length_said}
@@ -46,6 +51,7 @@ use Rattle.run_defs.specs.Laws.{IsInRange, SaysInRange}
 use Rattle.run_defs.specs.Texts.{between_quotes, text_from, text_said}
 use Rattle.run_defs.specs.Numbers.{within, number, number_of, natural, color_from, color, code_from, code_said}
 use Rattle.run_defs.specs.Script.{line_says, words_say}
+use Rattle.run_defs.specs.Step.{is_aim_in_range, is_action_in_range}
 use Rattle.run_defs.proofs.Fields.{value-over, value-is}
 
 -- Numbers.
@@ -242,12 +248,37 @@ asset-in : (name : AssetName) (at : Progress) → IsInRange (Ok (change_line (as
 asset-in asset.Font at = (simp asset_inside, tt)
 asset-in name at = (simp asset_inside, tt)
 
+-- Actions, and the commands on events and groups.
+
+aim-ok : (word : Word) → IfOk (aim_said word) (λ aim. is_aim_in_range aim ≡ true)
+unfolding aim_said
+aim-ok word = grind (arith, natural-ok HANDLE.low HANDLE.high word)
+
+aim-in : (at : Progress) → is_aim_in_range (value aim at) ≡ true
+aim-in at = value-is aim is_aim_in_range refl aim-ok at
+
+group-in : (at : Progress) → is_counted GROUP (value group_number at) ≡ true
+group-in at = count-in GROUP refl at
+
+ruleset aimed_inside = (aim-in, shown_value-in, value-in)
+
+action-in : (name : ActionName) (at : Progress) → is_action_in_range (action_fields name at).made ≡ true
+action-in does.Say at = refl
+action-in name at = simp aimed_inside
+
+ruleset play_inside = (handle-in, group-in, action-in)
+
+play-in : (name : PlayName) (at : Progress) → IsInRange (Ok (command_line (play_fields name at)).made)
+play-in play.On at = (simp play_inside, tt)
+play-in name at = (simp play_inside, tt)
+
 line-in : (name : Name) (at : Progress) → IsInRange (Ok (line_fields name at).made)
 line-in name.Frame at = tt
 line-in (name.Tree n) at = tree-in n at
 line-in (name.Row n) at = row-in n at
 line-in (name.Style n) at = style-in n at
 line-in (name.Asset n) at = asset-in n at
+line-in (name.Play n) at = play-in n at
 
 words-in : (words : List Word) → IsInRange (words_say words)
 unfolding command_says

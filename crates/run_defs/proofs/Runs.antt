@@ -2,11 +2,10 @@
 use Rattle.std.proofs.Common.{◌≡◌, ◌∙◌, ◌≤◌, ap, sym, ◌+◌, cond, List, [], ◌∷◌, ◌++◌, length, arith, refl}
 use Rattle.std.specs.Prelude.{Ok, Err}
 use Rattle.std.proofs.lemmas.List.Sums.{sum_by-append, sum_by-cons}
-use Rattle.scene_defs.proofs.Changes.{change_keeps_limits}
-use Rattle.run_defs.specs.declared.Command.TheVariants.{Change as CommandOf}
 use Rattle.run_defs.specs.declared.Line.TheVariants.{Blank, Frame, Make}
 use Rattle.run_defs.specs.declared.Outcome.{Outcome}
 use Rattle.run_defs.specs.Script.{Said}
+use Rattle.run_defs.proofs.Steps.{step-limits}
 use Rattle.run_defs.specs.Run.{Moment, after, after_all, frames_asked, Entry, Silent, Replies, Frames, entry, entries, asks_frame, frame_count, Told, Replied, Framed, told, is_fault, fault_count}
 
 pub entries-append : (now : Moment) (xs ys : List Said) → entries now (xs ++ ys) ≡ entries now xs ++ entries (after_all now xs) ys
@@ -50,7 +49,7 @@ told_more now next xs ys o x e h =
 pub after-limits : (now : Moment) (said : Said) → (after now said).machine.scene.limits ≡ now.machine.scene.limits
 after-limits now (Ok Blank) = refl
 after-limits now (Ok Frame) = refl
-after-limits now (Ok (Make (CommandOf change))) = change_keeps_limits now.machine.scene change
+after-limits now (Ok (Make command)) = step-limits now.machine command
 after-limits now (Err fault) = refl
 
 pub after_all-limits : (now : Moment) (lines : List Said) → (after_all now lines).machine.scene.limits ≡ now.machine.scene.limits

@@ -7,21 +7,26 @@ use Rattle.hex.specs.Hex.{decode_pairs}
 use Rattle.gui_base.specs.declared.words.Format.TheVariants.{Rgb565Alpha}
 use Rattle.gui_base.specs.Bits.{with_bit}
 use Rattle.gui_base.specs.Names.{named}
-use Rattle.gui_base.specs.declared.words.Flag.TheVariants.{Bubble}
+use Rattle.gui_base.specs.declared.words.Flag.TheVariants.{Hidden, Bubble}
 use Rattle.gui_base.specs.declared.words.Align.TheVariants.{BottomMid}
 use Rattle.gui_base.specs.declared.words.Kind.TheVariants.{Checkbox}
 use Rattle.gui_base.specs.declared.words.Flow.TheVariants.{RowWrap}
 use Rattle.gui_base.specs.declared.words.Length.TheVariants.{Pixels, Percent, Content}
 use Rattle.gui_base.specs.declared.words.Placing.TheVariants.{End, Center, SpaceEvenly}
 use Rattle.gui_base.specs.declared.words.Part.TheVariants.{Main, Knob}
-use Rattle.gui_base.specs.declared.words.State.TheVariants.{Pressed}
+use Rattle.gui_base.specs.declared.words.State.TheVariants.{Checked, Pressed}
 use Rattle.gui_base.specs.declared.props.Prop.TheVariants.{BgColor, TextAlign}
 use Rattle.scene_defs.specs.declared.Change.{Change}
 use Rattle.scene_defs.specs.declared.Change.TheVariants as change
+use Rattle.gui_base.specs.declared.events.Action.TheVariants as action
+use Rattle.gui_base.specs.declared.events.Aim.TheVariants.{Target, Object}
+use Rattle.gui_base.specs.declared.events.EventKind.TheVariants as event
+use Rattle.run_defs.specs.declared.Command.{Command}
+use Rattle.run_defs.specs.declared.Command.TheVariants as ask
 use Rattle.run_defs.specs.declared.Command.TheVariants.{Change as CommandOf}
 use Rattle.run_defs.specs.declared.Line.TheVariants.{Blank, Frame, Make}
 use Rattle.run_defs.specs.declared.LineFault.TheVariants.{Syntax, Range}
-use Rattle.run_defs.specs.Commands.{command_says, state, property, align, flow}
+use Rattle.run_defs.specs.Commands.{command_says, state, property, align, flow, event as event_field, aim_said, action_name}
 use Rattle.run_defs.specs.Lengths.{length_said}
 use Rattle.run_defs.specs.Fields.{over, value, past}
 use Rattle.scene_defs.specs.Quoted.{text_in_quotes}
@@ -169,3 +174,61 @@ text_of_bytes n escaped = codes "text 10 \"" ++ (replicate n 97 ++ (escaped ++ c
 longest : (parse (text_of_bytes 999 (codes "\\n")) ≡ asks (change.Text (record { 0 = 10 }) (replicate 999 97 ++ 10 ∷ []))) × (parse (text_of_bytes 1000 (codes "\\n")) ≡ Err Range)
 unfolding text_of_bytes line_says command_says named value past over number natural color code_said bytes_said bytes_in_hex decode_pairs state property align flow length_said selector_named state_named with_bit text_said text_in_quotes is_utf8 chars encode
 longest = (refl, refl)
+
+-- commands on events and groups
+
+asks_play : Command → Said
+asks_play command = Ok (Make command)
+
+play_worked : map (λ line. parse line) (
+    codes "on 12 clicked say"
+    ∷ codes "on 12 long_pressed_repeat delete target"
+    ∷ codes "on 12 key load 4"
+    ∷ codes "on 12 pressed front 9999"
+    ∷ codes "on 12 focused flag target hidden on"
+    ∷ codes "on 12 defocused state 13 checked off"
+    ∷ codes "on 12 value_changed value target -10000"
+    ∷ codes "on 12 released local target knob:pressed bg_color #00000a"
+    ∷ codes "off 12 short_clicked"
+    ∷ codes "send 12 pressing"
+    ∷ codes "group 99"
+    ∷ codes "join 1 12"
+    ∷ codes "leave 12"
+    ∷ codes "focus 12"
+    ∷ []) ≡
+    asks_play (ask.On (record { 0 = 12 }) event.Clicked action.Say)
+    ∷ asks_play (ask.On (record { 0 = 12 }) event.LongPressedRepeat (action.Delete Target))
+    ∷ asks_play (ask.On (record { 0 = 12 }) event.Key (action.Load (Object (record { 0 = 4 }))))
+    ∷ asks_play (ask.On (record { 0 = 12 }) event.Pressed (action.Front (Object (record { 0 = 9999 }))))
+    ∷ asks_play (ask.On (record { 0 = 12 }) event.Focused (action.Flag Target Hidden true))
+    ∷ asks_play (ask.On (record { 0 = 12 }) event.Defocused (action.State (Object (record { 0 = 13 })) Checked false))
+    ∷ asks_play (ask.On (record { 0 = 12 }) event.ValueChanged (action.Value Target (neg_ℤ (pos 10000))))
+    ∷ asks_play (ask.On (record { 0 = 12 }) event.Released (action.Local Target (record { part = Knob; states = 32 }) BgColor (pos 10)))
+    ∷ asks_play (ask.Off (record { 0 = 12 }) event.ShortClicked)
+    ∷ asks_play (ask.Send (record { 0 = 12 }) event.Pressing)
+    ∷ asks_play (ask.Group 99)
+    ∷ asks_play (ask.Join 1 (record { 0 = 12 }))
+    ∷ asks_play (ask.Leave (record { 0 = 12 }))
+    ∷ asks_play (ask.Focus (record { 0 = 12 }))
+    ∷ []
+unfolding line_says command_says named value past over number natural color code_said bytes_said bytes_in_hex decode_pairs state property align flow length_said selector_named state_named with_bit text_said text_in_quotes is_utf8 chars encode event_field aim_said action_name asks_play
+play_worked = refl
+
+-- an action has its own fields and no more, and its numbers have their intervals
+play_faults : map (λ line. parse line) (
+    codes "on 12 clicked"
+    ∷ codes "on 12 clicked say target"
+    ∷ codes "on 12 click say"
+    ∷ codes "on 12 clicked shout"
+    ∷ codes "on 12 clicked delete 0"
+    ∷ codes "on 12 clicked delete targets"
+    ∷ codes "on 12 clicked value target 10001"
+    ∷ codes "on 10000 clicked value target 1 1"
+    ∷ codes "on 12 clicked local target main bg_opa #000000"
+    ∷ codes "off 12"
+    ∷ codes "group 0"
+    ∷ codes "group 100"
+    ∷ codes "join 12 10000"
+    ∷ []) ≡ Err Syntax ∷ Err Syntax ∷ Err Syntax ∷ Err Syntax ∷ Err Range ∷ Err Syntax ∷ Err Range ∷ Err Syntax ∷ Err Syntax ∷ Err Syntax ∷ Err Range ∷ Err Range ∷ Err Range ∷ []
+unfolding line_says command_says named value past over number natural color code_said bytes_said bytes_in_hex decode_pairs state property align flow length_said selector_named state_named with_bit text_said text_in_quotes is_utf8 chars encode event_field aim_said action_name
+play_faults = refl

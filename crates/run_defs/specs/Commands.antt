@@ -1,11 +1,19 @@
 -- The commands, each by its fields in their order.
-use Rattle.std.specs.Prelude.{ℕ, ℤ, pos, ◌+ℤ◌, ◌-ℤ◌, Bool, false, List, [], Some, None, Err}
+use Rattle.std.specs.Prelude.{ℕ, ℤ, pos, ◌+ℤ◌, ◌-ℤ◌, Bool, false, List, [], Some, None, Ok, Err, codes}
+use Rattle.std.specs.Prelude.{bytes_eq, if◌then◌else◌}
 use Rattle.std.specs.declared.option.Option.{Option}
 use Rattle.gui_base.specs.declared.Handle.{Handle}
+use Rattle.gui_base.specs.declared.events.Action.{Action}
+use Rattle.gui_base.specs.declared.events.Action.TheVariants as action
+use Rattle.gui_base.specs.declared.events.Aim.{Aim}
+use Rattle.gui_base.specs.declared.events.Aim.TheVariants.{Target, Object}
+use Rattle.gui_base.specs.declared.events.EventKind.{EventKind}
+use Rattle.gui_base.specs.declared.events.EventKind.TheVariants.{Pressed}
+use Rattle.gui_base.specs.declared.events.TheConstants.{EVENTS}
 use Rattle.gui_base.specs.declared.intervals.TheConstants.{HANDLE, NEW_HANDLE, INDEX, COORDINATE, GROW, VALUE}
 use Rattle.gui_base.specs.declared.intervals.TheConstants.{STYLE, FONT, FONT_HEIGHT, ADVANCE, GLYPH_WIDTH}
 use Rattle.gui_base.specs.declared.intervals.TheConstants.{GLYPH_HEIGHT, GLYPH_OFFSET, IMAGE, IMAGE_SIDE}
-use Rattle.gui_base.specs.declared.intervals.TheConstants.{IMAGE_ROW}
+use Rattle.gui_base.specs.declared.intervals.TheConstants.{IMAGE_ROW, GROUP}
 use Rattle.gui_base.specs.declared.words.TheConstants.{KINDS, FLAGS, ON_OFF, STATES, TEXT_ALIGNS, ALIGNS}
 use Rattle.gui_base.specs.declared.words.TheConstants.{FLOWS, PLACINGS, CROSS_PLACINGS, FORMATS}
 use Rattle.gui_base.specs.declared.words.Align.{Align}
@@ -36,26 +44,31 @@ use Rattle.gui_base.specs.Props.{values_of}
 use Rattle.text_defs.specs.declared.GlyphBox.{GlyphBox}
 use Rattle.scene_defs.specs.declared.Change.{Change}
 use Rattle.scene_defs.specs.declared.Change.TheVariants as change
-use Rattle.run_defs.specs.declared.Command.TheVariants.{Change as CommandOf}
+use Rattle.run_defs.specs.declared.Command.{Command}
+use Rattle.run_defs.specs.declared.Command.TheVariants as ask
 use Rattle.run_defs.specs.declared.Line.{Line}
 use Rattle.run_defs.specs.declared.Line.TheVariants.{Frame, Make}
 use Rattle.run_defs.specs.declared.LineFault.TheVariants.{Syntax}
+use Rattle.run_defs.specs.declared.names.ActionName.{ActionName}
+use Rattle.run_defs.specs.declared.names.ActionName.TheVariants as does
 use Rattle.run_defs.specs.declared.names.AssetName.{AssetName}
 use Rattle.run_defs.specs.declared.names.AssetName.TheVariants as asset
 use Rattle.run_defs.specs.declared.names.Name.{Name}
 use Rattle.run_defs.specs.declared.names.Name.TheVariants as name
+use Rattle.run_defs.specs.declared.names.PlayName.{PlayName}
+use Rattle.run_defs.specs.declared.names.PlayName.TheVariants as play
 use Rattle.run_defs.specs.declared.names.RowName.{RowName}
 use Rattle.run_defs.specs.declared.names.RowName.TheVariants as row
 use Rattle.run_defs.specs.declared.names.StyleName.{StyleName}
 use Rattle.run_defs.specs.declared.names.StyleName.TheVariants as style
 use Rattle.run_defs.specs.declared.names.TreeName.{TreeName}
 use Rattle.run_defs.specs.declared.names.TreeName.TheVariants as tree
-use Rattle.run_defs.specs.declared.names.TheConstants.{COMMANDS}
+use Rattle.run_defs.specs.declared.names.TheConstants.{COMMANDS, ACTIONS}
 use Rattle.run_defs.specs.Fields.{Field, Progress, Made, number_in, count_in, over, name_in, fields, ◌▹◌}
-use Rattle.run_defs.specs.Fields.{or_syntax, with_two, start, ended}
-use Rattle.run_defs.specs.Language.{Word, Reading}
+use Rattle.run_defs.specs.Fields.{or_syntax, making, with_several, with_two, value, past, start, ended}
+use Rattle.run_defs.specs.Language.{Word, Reading, mapped}
 use Rattle.run_defs.specs.Lengths.{length_said}
-use Rattle.run_defs.specs.Numbers.{number, color, code_said, bytes_said}
+use Rattle.run_defs.specs.Numbers.{number, natural, color, code_said, bytes_said}
 use Rattle.run_defs.specs.Selectors.{selector_named}
 use Rattle.run_defs.specs.Texts.{text_said}
 
@@ -225,9 +238,57 @@ asset_fields asset.EndFont at = fields change.EndFont at ▹ count_in FONT
 asset_fields asset.Image at = fields change.Image at ▹ count_in IMAGE ▹ format ▹ image_side ▹ image_side
 asset_fields asset.ImageRow at = fields change.ImageRow at ▹ count_in IMAGE ▹ count_in IMAGE_ROW ▹ bytes
 
--- the line of a change
+-- an event
+unfoldable pub event : Field EventKind
+event = name_in (table {A = EventKind} EVENTS) Pressed
+
+-- what a word says that an action is for
+unfoldable pub aim_said : Word → Reading Aim
+aim_said word =
+    if bytes_eq word (codes "target") then Ok Target
+    else mapped (λ n. Object (record { 0 = n })) (natural HANDLE.low HANDLE.high word)
+
+abbrev pub aim : Field Aim
+aim = record { says = aim_said; stand_in = Target }
+
+-- what an action does
+unfoldable pub action_name : Field ActionName
+action_name = name_in (table {A = ActionName} ACTIONS) does.Say
+
+abbrev pub action_fields : ActionName → Progress → Made Action
+action_fields does.Say at = fields action.Say at
+action_fields does.Delete at = fields action.Delete at ▹ aim
+action_fields does.Load at = fields action.Load at ▹ aim
+action_fields does.Front at = fields action.Front at ▹ aim
+action_fields does.Flag at = fields action.Flag at ▹ aim ▹ flag ▹ switch
+action_fields does.State at = fields action.State at ▹ aim ▹ state ▹ switch
+action_fields does.Value at = fields action.Value at ▹ aim ▹ shown_value
+action_fields does.Local at = with_two (fields action.Local at ▹ aim ▹ selector) property value_for
+
+-- an action: its name, and the fields that this one has
+abbrev pub action_read : Progress → Made Action
+action_read at = action_fields (value action_name at) (past action_name at)
+
+-- the number of a focus group
+abbrev pub group_number : Field ℕ
+group_number = count_in GROUP
+
+-- the commands on events and on focus groups
+abbrev pub play_fields : PlayName → Progress → Made Command
+play_fields play.On at = with_several (fields ask.On at ▹ handle ▹ event) action_read
+play_fields play.Off at = fields ask.Off at ▹ handle ▹ event
+play_fields play.Send at = fields ask.Send at ▹ handle ▹ event
+play_fields play.Group at = fields ask.Group at ▹ group_number
+play_fields play.Join at = fields ask.Join at ▹ group_number ▹ handle
+play_fields play.Leave at = fields ask.Leave at ▹ handle
+play_fields play.Focus at = fields ask.Focus at ▹ handle
+
+-- the line of a command, and that of a change
+abbrev pub command_line : Made Command → Made Line
+command_line m = making Make m
+
 abbrev pub change_line : Made Change → Made Line
-change_line m = record { made = Make (CommandOf m.made); at = m.at }
+change_line m = command_line (making ask.Change m)
 
 abbrev pub line_fields : Name → Progress → Made Line
 line_fields name.Frame at = fields Frame at
@@ -235,6 +296,7 @@ line_fields (name.Tree n) at = change_line (tree_fields n at)
 line_fields (name.Row n) at = change_line (row_fields n at)
 line_fields (name.Style n) at = change_line (style_fields n at)
 line_fields (name.Asset n) at = change_line (asset_fields n at)
+line_fields (name.Play n) at = command_line (play_fields n at)
 
 abbrev pub named_says : Option Name → List Word → Reading Line
 named_says None words = Err Syntax

@@ -1,11 +1,17 @@
 -- Laws on scripts and runs.
 use Rattle.std.specs.Prelude.{◌≡◌, ◌≤◌, ◌<◌, true, false, ℕ, List, ◌++◌, length, codes, Ok, Err, None, ⊤}
 use Rattle.std.specs.List.{flat_map, list_any, AllByRecursion}
+use Rattle.gui_base.specs.declared.refusal.Refusal.{Refusal}
+use Rattle.scene_defs.specs.Valid.{IsChange}
+use Rattle.run_defs.specs.declared.Command.{Command}
 use Rattle.run_defs.specs.declared.Outcome.{Outcome}
 use Rattle.run_defs.specs.declared.Line.TheVariants.{Blank, Frame, Make}
+use Rattle.run_defs.specs.declared.Reply.TheVariants.{Refused}
 use Rattle.run_defs.specs.Language.{words_of, is_comment, is_control}
 use Rattle.run_defs.specs.Fields.{Field, Progress, value, past, next_of}
-use Rattle.run_defs.specs.Step.{is_command_in_range, IsCommand}
+use Rattle.run_defs.specs.Machine.{Machine}
+use Rattle.run_defs.specs.Play.{after_changes}
+use Rattle.run_defs.specs.Step.{is_command_in_range, IsCommand, step, refused}
 use Rattle.run_defs.specs.Script.{Said, parse, max_line, is_newline, without_return, says_cut}
 use Rattle.run_defs.specs.Run.{Entry, frame_count, told, log_text}
 
@@ -67,3 +73,21 @@ abbrev pub SameWordsSaySame : Type 0
 SameWordsSaySame =
     (first second : List ℕ) → IsPlain first → IsPlain second →
     words_of first ≡ words_of second → parse first ≡ parse second
+
+-- the scene after a command is the one after the changes that it makes
+abbrev pub StepsChangeTheScene : Type 0
+StepsChangeTheScene =
+    (machine : Machine) (command : Command) →
+    (step machine command).machine.scene ≡ after_changes machine.scene (step machine command).changes
+
+-- each of these may be asked for
+abbrev pub StepsAsk : Type 0
+StepsAsk =
+    (machine : Machine) (command : Command) → IsCommand command →
+    AllByRecursion IsChange (step machine command).changes
+
+-- a command that is refused changes nothing and writes nothing
+abbrev pub RefusedStepIsNone : Type 0
+RefusedStepIsNone =
+    (machine : Machine) (command : Command) (refusal : Refusal) →
+    (step machine command).reply ≡ Refused refusal → step machine command ≡ refused refusal machine

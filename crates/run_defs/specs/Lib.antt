@@ -1,10 +1,15 @@
 pub mod Commands
+pub mod Events
+pub mod Examples
 pub mod Fields
+pub mod Focusing
 pub mod Language
 pub mod Laws
 pub mod Lengths
 pub mod Machine
+pub mod Making
 pub mod Numbers
+pub mod Play
 pub mod Run
 pub mod Script
 pub mod Selectors

@@ -3,13 +3,18 @@
 #![tactic(auto)]
 
 ghost use Rattle.std.specs.Prelude.{◌≡◌};
+ghost use Rattle.run_defs.specs.Examples.{StepsAreWorked};
 ghost use Rattle.run_defs.specs.Laws.{ShowsOutcomes, SaysInRange, NoStandIn, FaultStays, ReturnSaysNothing};
-ghost use Rattle.run_defs.specs.Laws.{SameWordsSaySame};
+ghost use Rattle.run_defs.specs.Laws.{SameWordsSaySame, StepsChangeTheScene, StepsAsk, RefusedStepIsNone};
 
 mod names;
+mod refusals;
 
-use gui_base::Refusal;
-pub use names::{AssetName, COMMANDS, Name, RowName, StyleName, TreeName};
+use gui_base::{Action, EventKind, Handle, Refusal};
+pub use names::{
+    ACTIONS, ActionName, AssetName, COMMANDS, Name, PlayName, RowName, StyleName, TreeName,
+};
+pub use refusals::why;
 use scene_defs::Change;
 use thiserror::Error;
 
@@ -18,6 +23,20 @@ use thiserror::Error;
 pub enum Command<'a> {
     /// A change of the scene.
     Change(Change<'a>),
+    /// Adds a handler to an object, the last of those that it has.
+    On(Handle, EventKind, Action),
+    /// Removes an object's handlers of an event.
+    Off(Handle, EventKind),
+    /// Runs the handlers of an event on its path, from this target on.
+    Send(Handle, EventKind),
+    /// Makes a focus group with this number.
+    Group(u8),
+    /// Makes an object the last member of a group.
+    Join(u8, Handle),
+    /// Takes an object out of its group.
+    Leave(Handle),
+    /// Gives an object the focus of its group.
+    Focus(Handle),
 }
 
 /// The reply of the machine to a command.
@@ -107,4 +126,18 @@ pub fn carriage_returns_say_nothing()
 #[tactic(auto, using(crate::proofs::SameSaying::same_words_say_same))]
 pub fn same_words_say_the_same()
     ensures { SameWordsSaySame }
+{}
+
+/// A command changes the scene by changes that may be asked for, one after another; one that is refused does
+/// nothing.
+#[tactic(auto, using(crate::proofs::Steps::step_laws))]
+pub fn steps_make_changes()
+    ensures scene { StepsChangeTheScene }
+    ensures asked { StepsAsk }
+    ensures refused { RefusedStepIsNone }
+{}
+
+/// Commands on events and groups that were worked out by hand.
+pub fn worked_steps()
+    ensures { StepsAreWorked }
 {}

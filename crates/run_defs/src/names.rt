@@ -52,6 +52,43 @@ pub enum AssetName {
     ImageRow,
 }
 
+/// A command on events or on focus groups.
+#[derive(Clone, Copy)]
+pub enum PlayName {
+    On,
+    Off,
+    Send,
+    Group,
+    Join,
+    Leave,
+    Focus,
+}
+
+/// What a handler does.
+#[derive(Clone, Copy)]
+pub enum ActionName {
+    Say,
+    Delete,
+    Load,
+    Front,
+    Flag,
+    State,
+    Value,
+    Local,
+}
+
+/// The names of all actions.
+pub const ACTIONS: [(&'static str, ActionName); 8] = [
+    ("say", ActionName::Say),
+    ("delete", ActionName::Delete),
+    ("load", ActionName::Load),
+    ("front", ActionName::Front),
+    ("flag", ActionName::Flag),
+    ("state", ActionName::State),
+    ("value", ActionName::Value),
+    ("local", ActionName::Local),
+];
+
 /// The first word of a line that is neither blank nor a comment.
 #[derive(Clone, Copy)]
 pub enum Name {
@@ -60,10 +97,11 @@ pub enum Name {
     Row(RowName),
     Style(StyleName),
     Asset(AssetName),
+    Play(PlayName),
 }
 
 /// The names of all commands.
-pub const COMMANDS: [(&'static str, Name); 33] = [
+pub const COMMANDS: [(&'static str, Name); 40] = [
     ("frame", Name::Frame),
     ("screen", Name::Tree(TreeName::Screen)),
     ("new", Name::Tree(TreeName::New)),
@@ -97,4 +135,11 @@ pub const COMMANDS: [(&'static str, Name); 33] = [
     ("endfont", Name::Asset(AssetName::EndFont)),
     ("image", Name::Asset(AssetName::Image)),
     ("row", Name::Asset(AssetName::ImageRow)),
+    ("on", Name::Play(PlayName::On)),
+    ("off", Name::Play(PlayName::Off)),
+    ("send", Name::Play(PlayName::Send)),
+    ("group", Name::Play(PlayName::Group)),
+    ("join", Name::Play(PlayName::Join)),
+    ("leave", Name::Play(PlayName::Leave)),
+    ("focus", Name::Play(PlayName::Focus)),
 ];

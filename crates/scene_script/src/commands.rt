@@ -4,6 +4,7 @@ ghost use Rattle.run_defs.specs.Commands.{tree_fields, row_fields, style_fields,
 ghost use Rattle.run_defs.specs.Commands.{line_fields, command_says};
 ghost use Rattle.run_defs.specs.Language.{words_of};
 
+use crate::actions::play_command;
 use crate::fields::Fields;
 use gui_base::intervals::{
     ADVANCE, COORDINATE, FONT, FONT_HEIGHT, GLYPH_HEIGHT, GLYPH_WIDTH, GROW, IMAGE, IMAGE_ROW,
@@ -40,6 +41,7 @@ fn line<'a>(name: Name, fields: &mut Fields<'a>) -> Line<'a>
         Name::Row(name) => Line::Make(Command::Change(row_change(name, fields))),
         Name::Style(name) => Line::Make(Command::Change(style_change(name, fields))),
         Name::Asset(name) => Line::Make(Command::Change(asset_change(name, fields))),
+        Name::Play(name) => Line::Make(play_command(name, fields)),
     }
 }
 

@@ -3,22 +3,26 @@ ghost use Rattle.std.specs.Prelude.{◌≡◌, ◌<◌};
 ghost use Rattle.gui_base.specs.Names.{slice};
 ghost use Rattle.run_defs.specs.Commands.{handle, new_handle, extent, align, flow, state};
 ghost use Rattle.run_defs.specs.Commands.{selector, property, code, glyph_offset, bytes, text};
-ghost use Rattle.run_defs.specs.Commands.{range_low, range_high};
+ghost use Rattle.run_defs.specs.Commands.{range_low, range_high, event, aim, action_name};
 ghost use Rattle.run_defs.specs.Commands.{color_value, align_value, value_for};
 ghost use Rattle.run_defs.specs.Fields.{number_in, count_in, name_in, value, past, value_or, with_fault};
 ghost use Rattle.run_defs.specs.Fields.{next_of, after_next, fields, start, ended};
 ghost use Rattle.run_defs.specs.Language.{first_fault, words_of};
 
+use crate::aims::aim;
 use crate::lengths::length;
 use crate::numbers::{bytes, code, color, count, number, number_above, offset, small};
 use crate::selectors::selector;
 use crate::texts::text;
 use crate::words::next_word;
+use gui_base::events::EVENTS;
 use gui_base::intervals::{Count, GLYPH_OFFSET, HANDLE, Interval, NEW_HANDLE, VALUE};
 use gui_base::props::PROPS;
 use gui_base::words::{ALIGNS, FLOWS, STATES, TEXT_ALIGNS};
-use gui_base::{Align, Flow, Handle, Length, Part, Prop, Selector, State, TextAlign, named};
-use run_defs::{Line, LineFault};
+use gui_base::{
+    Aim, Align, EventKind, Flow, Handle, Length, Part, Prop, Selector, State, TextAlign, named,
+};
+use run_defs::{ACTIONS, ActionName, Line, LineFault};
 use scene_defs::{Rows, Text};
 use std::marker::Model;
 
@@ -217,6 +221,34 @@ impl<'a> Fields<'a> {
         ensures state { self.new ≡ past state self.old }
     {
         self.name(&STATES, State::Checked)
+    }
+
+    /// An event.
+    #[tactic(auto, unfolding(run_defs::specs::Commands::event))]
+    pub(crate) fn event(&mut self) -> EventKind
+        ensures value { result ≡ value event self.old }
+        ensures state { self.new ≡ past event self.old }
+    {
+        self.name(&EVENTS, EventKind::Pressed)
+    }
+
+    /// What an action does.
+    #[tactic(auto, unfolding(run_defs::specs::Commands::action_name))]
+    pub(crate) fn action_name(&mut self) -> ActionName
+        ensures value { result ≡ value action_name self.old }
+        ensures state { self.new ≡ past action_name self.old }
+    {
+        self.name(&ACTIONS, ActionName::Say)
+    }
+
+    /// What an action is for.
+    #[tactic(auto, unfolding(run_defs::specs::Fields::value, run_defs::specs::Fields::past))]
+    pub(crate) fn aim(&mut self) -> Aim
+        ensures value { result ≡ value aim self.old }
+        ensures state { self.new ≡ past aim self.old }
+    {
+        let word = self.word();
+        self.note(aim(word), Aim::Target)
     }
 
     /// A property.

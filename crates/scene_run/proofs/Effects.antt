@@ -17,7 +17,7 @@ use Rattle.run_defs.proofs.Runs.{fault_count-append}
 use Rattle.gui_edge.specs.Causes.{Rose}
 use Rattle.gui_edge.specs.Panel.{PanelState}
 use Rattle.gui_edge.specs.Sink.{SinkState, AppendsPrefix}
-use Rattle.gui_core.specs.Panels.{ShowsScene}
+use Rattle.gui_play.specs.Panels.{ShowsScene}
 use Rattle.scene_run.specs.Effects.{Output, output, PanelEffects, Effects, Breaks, FrameBroke}
 
 -- nothing is a prefix of anything

@@ -13,7 +13,7 @@ use Rattle.run_defs.proofs.Runs.{after_all-append, after-limits, after_all-limit
 use Rattle.gui_edge.specs.Panel.{HasSizes}
 use Rattle.gui_damage.specs.Pending.{Pending}
 use Rattle.gui_refresh.specs.Owing.{standing_of}
-use Rattle.gui_core.specs.Panels.{ShowsScene, AgreesWith}
+use Rattle.gui_play.specs.Panels.{ShowsScene, AgreesWith}
 use Rattle.run_debts.specs.Accounts.{LineCounts}
 use Rattle.scene_run.specs.Effects.{Output, Effects, LineBreaks, SendsAsOwed, WriteFailed, Halted}
 use Rattle.scene_run.specs.Running.{Running, IsReady, Answered, GoesOn, Halts}

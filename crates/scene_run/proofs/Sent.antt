@@ -6,7 +6,7 @@ use Rattle.gui_damage.specs.Pending.{Pending, total}
 use Rattle.gui_edge.specs.Causes.{Rose}
 use Rattle.gui_edge.specs.Panel.{PanelState, Presents}
 use Rattle.gui_edge.specs.Sink.{SinkState, AppendsPrefix}
-use Rattle.gui_core.specs.Panels.{AgreesWith, Refreshes}
+use Rattle.gui_play.specs.Panels.{AgreesWith, Refreshes}
 use Rattle.gui_refresh.specs.Owing.{standing_of}
 use Rattle.gui_refresh.specs.declared.Refreshed.{Refreshed}
 use Rattle.gui_refresh.specs.declared.Refreshed.TheVariants.{Done}

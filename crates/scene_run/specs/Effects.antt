@@ -14,7 +14,7 @@ use Rattle.gui_edge.specs.Sink.{SinkState, AppendsPrefix}
 use Rattle.gui_edge.specs.Panel.{PanelState, HasSizes}
 use Rattle.gui_damage.specs.Pending.{Pending}
 use Rattle.gui_refresh.specs.Owing.{standing_of}
-use Rattle.gui_core.specs.Panels.{ShowsScene}
+use Rattle.gui_play.specs.Panels.{ShowsScene}
 use Rattle.run_debts.specs.Accounts.{LineCounts}
 use Rattle.run_debts.specs.Owing.{may_send}
 

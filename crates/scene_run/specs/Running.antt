@@ -11,7 +11,7 @@ use Rattle.gui_base.specs.Limits.{Bounds}
 use Rattle.gui_damage.specs.Pending.{Pending}
 use Rattle.gui_refresh.specs.Owing.{standing_of}
 use Rattle.gui_core.specs.Machines.{machine_of, pending_in}
-use Rattle.gui_core.specs.Panels.{AgreesWith}
+use Rattle.gui_play.specs.Panels.{AgreesWith}
 use Rattle.owed_defs.specs.Standings.{Standing}
 use Rattle.run_debts.specs.Accounts.{IsRunAccounted}
 use Rattle.run_debts.specs.Owing.{panel_size}

@@ -14,7 +14,7 @@ ghost use Rattle.gui_edge.specs.Sink.{AppendsPrefix};
 ghost use Rattle.gui_damage.specs.Adding.{AddsAll};
 ghost use Rattle.gui_refresh.specs.Owing.{standing_of};
 ghost use Rattle.gui_core.specs.Machines.{machine_of, pending_in};
-ghost use Rattle.gui_core.specs.Panels.{ShowsScene, AgreesWith, GoesOnAgreeing, Refreshes};
+ghost use Rattle.gui_play.specs.Panels.{ShowsScene, AgreesWith, GoesOnAgreeing, Refreshes};
 ghost use Rattle.run_debts.specs.Accounts.{FrameCounts, LineCounts};
 ghost use Rattle.run_debts.specs.Owing.{command_owes};
 ghost use Rattle.scene_run.specs.Effects.{output, PanelEffects, Effects, LineBreaks, FrameBroke};

@@ -5,7 +5,7 @@ ghost use Rattle.run_defs.specs.Machine.{Machine};
 ghost use Rattle.run_defs.specs.Script.{max_script};
 ghost use Rattle.gui_edge.specs.Causes.{Rose};
 ghost use Rattle.gui_core.specs.Machines.{machine_of, pending_in};
-ghost use Rattle.gui_core.specs.Panels.{AgreesWith};
+ghost use Rattle.gui_play.specs.Panels.{AgreesWith};
 ghost use Rattle.gui_edge.specs.Panel.{PanelState, HasSizes};
 ghost use Rattle.scene_run.specs.Effects.{SinceOpening};
 ghost use Rattle.scene_run.specs.Headline.{Outside, outside, Runs, IfUnstarted};

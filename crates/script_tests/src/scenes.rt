@@ -86,6 +86,22 @@ const CASES: &[Case] = &[
             10 frame 3 fault\n11 frame 4 done\n",
         frames: &["WRRWWRRW", "WWGGWWGG"],
     },
+    Case {
+        name: "a flush after a new value fails",
+        faults: &[Flush(3)],
+        script: "new 10 3 bar\nsize 10 4 1\nlocal 10 main bg_opa 0\n\
+            local 10 indicator bg_color #FF0000\nvalue 10 25\nframe\nvalue 10 75\nframe\nframe\n",
+        log: "1 ok\n2 ok\n3 ok\n4 ok\n5 ok\n6 frame 1 done\n7 ok\n8 frame 2 fault\n9 frame 3 done\n",
+        frames: &["RWWWWWWW", "RRRWWWWW"],
+    },
+    Case {
+        name: "a flush after a new picture fails",
+        faults: &[Flush(3)],
+        script: "image 1 565 2 1\nrow 1 0 F80007E0\nnew 10 3 image\nframe\nsource 10 1\npos 10 1 1\n\
+            frame\nframe\n",
+        log: "1 ok\n2 ok\n3 ok\n4 frame 1 done\n5 ok\n6 ok\n7 frame 2 fault\n8 frame 3 done\n",
+        frames: &["WWWWWWWW", "WWWWWRGW"],
+    },
 ];
 
 #[test]

@@ -3,7 +3,7 @@ use Rattle.std.specs.Option.{option_to_list}
 use Rattle.gui_edge.proofs.Prefixes.{on_err}
 use Rattle.gui_refresh.specs.Owing.{standing_of}
 use Rattle.gui_core.specs.Machines.{machine_of, pending_in}
-use Rattle.gui_core.specs.Panels.{AgreesWith}
+use Rattle.gui_play.specs.Panels.{AgreesWith}
 use Rattle.gui_core.specs.declared.gui.Gui.{Gui}
 use Rattle.run_debts.specs.Accounts.{LineCounts}
 use Rattle.scene_run.specs.Running.{running}

@@ -1,0 +1,16 @@
+pub mod Adding
+pub mod Answering
+pub mod Areas
+pub mod Boards
+pub mod Bubbling
+pub mod Climbs
+pub mod Groups
+pub mod Handled
+pub mod NoHandlers
+pub mod Plays
+pub mod Regrouped
+pub mod Removals
+pub mod Sending
+pub mod Shown
+pub mod Stepped
+pub mod Writes

@@ -1,0 +1,22 @@
+-- A machine without handlers and groups.
+use Rattle.std.proofs.Common.{◌≡◌, ◌∙◌, sym, subst, ℕ, ◌<◌, List, [], length, replicate, get_or}
+use Rattle.std.proofs.lemmas.List.{ext_get_or, length-replicate, get_or-replicate}
+use Rattle.gui_base.specs.Limits.{Bounds}
+use Rattle.play_defs.specs.Focus.{no_groups}
+use Rattle.play_defs.specs.Handlers.{no_handlers, handlers_of}
+use Rattle.play_defs.specs.declared.Handler.{Handler}
+use Rattle.run_defs.specs.Machine.{Machine, first_machine}
+use Rattle.scene_defs.specs.Scene.{first_scene}
+
+empty_lists : {A : Type 0} (n : ℕ) (lists : List (List A)) → length lists ≡ n → ((h : ℕ) → get_or lists h [] ≡ []) → lists ≡ replicate n []
+empty_lists n lists long none =
+    ext_get_or [] lists (replicate n []) (long ∙ sym (length-replicate n []))
+    (λ h within. none h ∙ sym (get_or-replicate n h [] [] (subst (λ (m : ℕ). h < m) long within)))
+
+pub no_handlers_is : (lists : List (List Handler)) → length lists ≡ 65536 → ((h : ℕ) → handlers_of lists h ≡ []) → lists ≡ no_handlers
+unfolding no_handlers
+no_handlers_is lists long none = empty_lists 65536 lists long none
+
+-- a machine without handlers and groups
+pub first_machine_is : (m : Machine) (limits : Bounds) → m.scene ≡ first_scene limits → m.handlers ≡ no_handlers → m.groups ≡ no_groups → m ≡ first_machine limits
+first_machine_is m limits scene handlers groups = λ i. record { scene = scene i; handlers = handlers i; groups = groups i }

@@ -1,0 +1,10 @@
+pub mod Boards
+pub mod Commands
+pub mod Handling
+pub mod Hiding
+pub mod Laws
+pub mod Panels
+pub mod Sizes
+pub mod Stages
+pub mod Steps
+pub mod Writing

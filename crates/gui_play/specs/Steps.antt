@@ -1,0 +1,24 @@
+-- What carrying out a command does, beside the step of the machine.
+use Rattle.std.specs.Prelude.{◌≡◌, IfOk, OnOk, OnErr}
+use Rattle.std.specs.declared.result.Result.{Result}
+use Rattle.std.specs.Io.KnownBytes.{Appends}
+use Rattle.gui_damage.specs.Adding.{AddsAll}
+use Rattle.gui_damage.specs.Pending.{IsPending}
+use Rattle.gui_edge.specs.Causes.{HasCause}
+use Rattle.gui_edge.specs.Sink.{AppendsPrefix}
+use Rattle.gui_edge.specs.declared.Failed.{Failed}
+use Rattle.run_debts.specs.Owing.{owed_along}
+use Rattle.run_defs.specs.Step.{Step}
+use Rattle.run_defs.specs.declared.Reply.{Reply}
+use Rattle.gui_play.specs.Stages.{Stage}
+
+-- A step was made: the machine is that of the step, and what its changes owe has become pending. The reply and
+-- the lines are those of the step, or the log has failed and holds a prefix of the lines.
+pub record Steps (old new : Stage) (result : Result Reply Failed) (step : Step) : Type 0 where
+  pub machine : new.machine ≡ step.machine
+  pub owed : IsPending old.pending →
+      AddsAll old.pending new.pending (owed_along old.machine.scene step.changes)
+  pub reply : IfOk result (λ reply. reply ≡ step.reply)
+  pub lines : OnOk result (Appends old.log.held new.log.held step.lines)
+  pub cut : OnErr result (AppendsPrefix old.log.held new.log.held step.lines)
+  pub cause : HasCause old.log.faults new.log.faults result

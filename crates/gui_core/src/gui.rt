@@ -8,7 +8,7 @@ ghost use Rattle.gui_play.specs.Boards.{machine_of as machine_on};
 ghost use Rattle.gui_play.specs.Panels.{AgreesWith, GoesOnAgreeing, Refreshes};
 ghost use Rattle.run_laws.specs.Members.{AreJoined};
 
-use gui_base::{Limits, NoMemory, Steps};
+use gui_base::{Handle, Limits, NoMemory, Steps};
 use gui_edge::{Failed, Panel, Sink};
 use gui_layout::Places;
 use gui_play::Board;
@@ -18,8 +18,8 @@ use run_defs::{Command, Reply};
 use std::alloc::Global;
 use std::sync::ledger::Ledger;
 
-/// A scene with its places, handlers of events, focus groups, the areas of the panel that are pending, and
-/// what sends their pixels of the scene's picture.
+/// A scene with its places, handlers of events, focus groups, input devices, the time, the areas of the panel
+/// that are pending, and what sends their pixels of the scene's picture.
 ///
 /// From the opening on, and after each call, each pixel of the panel is pending, or the panel shows the
 /// scene's colour there.
@@ -34,6 +34,7 @@ pub struct Gui {
 impl Gui {
     ghost use Rattle.gui_base.specs.Bounded.{bounds_of};
     ghost use Rattle.run_defs.specs.Machine.{first_machine};
+    ghost use Rattle.run_defs.specs.Pointing.{hit};
     ghost use Rattle.run_defs.specs.Step.{step, IsCommand};
     ghost use Rattle.run_debts.specs.Owing.{command_owes};
     ghost use Rattle.std.specs.Io.KnownBytes.{Appends};
@@ -43,8 +44,8 @@ impl Gui {
     ghost use Rattle.gui_core.specs.Machines.{machine_of, pending_in};
 
     /// A machine whose scene has the roots 1, 2 and 3, with screen 3 active, and no handlers and no groups.
-    /// The whole panel is pending. It takes all the memory that the machine will need; NoMemory where there is
-    /// too little.
+    /// The whole panel is pending. It takes all the memory that the machine will need; NoMemory where there
+    /// is too little.
     pub fn open(alloc: Global, limits: &Limits) -> Result<Gui, NoMemory>
         ensures machine { IfOk result (λ gui. machine_of gui ≡ first_machine (bounds_of limits.now)) }
         ensures whole { IfOk result (λ gui. (pending_in gui).areas ≡ (pending_in gui).panel ∷ []) }
@@ -90,6 +91,14 @@ impl Gui {
         ensures { AreSolved result.now (machine_of self.now).scene }
     {
         self.board.places()
+    }
+
+    /// The object that a point of the panel hits: the last in paint order that is clickable and whose visible
+    /// area holds the point. `None` exactly where there is none.
+    pub fn hit(&self, x: i32, y: i32) -> Option<Handle>
+        ensures { result ≡ hit (machine_of self.now).scene x y }
+    {
+        self.board.hit(x, y)
     }
 
     /// Sends what is pending of the scene's picture, in slices of at most the panel's limit, and stops at the

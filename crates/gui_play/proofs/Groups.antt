@@ -6,8 +6,7 @@ use Rattle.gui_base.specs.declared.words.State.TheVariants.{Focused}
 use Rattle.gui_event.specs.Groups.{FocusGroups, Answer, leave_answer, left, left_by}
 use Rattle.play_defs.specs.Focus.{Groups, group_of, with_focused}
 use Rattle.play_defs.specs.Focus as focus
-use Rattle.run_defs.specs.Making.{heir, leave_from, leave_group, pass_on, put_state, with_groups, forget, without_handlers}
-use Rattle.run_defs.specs.Play.{with}
+use Rattle.run_defs.specs.Making.{heir, leave_from, leave_group, pass_on, put_state, with_groups}
 use Rattle.gui_play.specs.Stages.{Stage, Played}
 use Rattle.gui_play.proofs.Plays.{played_nothing, played_then}
 
@@ -35,8 +34,3 @@ left_group a b id h to is next played =
 pub left_none : (a : Stage) (h : Handle) → None ≡ group_of a.machine.groups h → Played a a (leave_group h a.machine)
 unfolding leave_group leave_from
 left_none a h is = subst (λ (o : Option ℕ). Played a a (leave_from o h a.machine)) is (played_nothing a)
-
--- its handlers go, and it leaves its group
-pub forgot : (a b c : Stage) (h : Handle) → Played b c (leave_group h b.machine) → Played a b (with (without_handlers h) a.machine) → Played a c (forget h a.machine)
-unfolding forget
-forgot a b c h later first = played_then a b c (with (without_handlers h)) (leave_group h) first later

@@ -1,12 +1,15 @@
--- A machine without handlers and groups.
+-- The first machine.
 use Rattle.std.proofs.Common.{◌≡◌, ◌∙◌, sym, subst, ℕ, ◌<◌, List, [], length, replicate, get_or}
 use Rattle.std.proofs.lemmas.List.{ext_get_or, length-replicate, get_or-replicate}
 use Rattle.gui_base.specs.Limits.{Bounds}
-use Rattle.play_defs.specs.Focus.{no_groups}
+use Rattle.play_defs.specs.Focus.{Groups, no_groups}
 use Rattle.play_defs.specs.Handlers.{no_handlers, handlers_of}
 use Rattle.play_defs.specs.declared.Handler.{Handler}
-use Rattle.run_defs.specs.Machine.{Machine, first_machine}
-use Rattle.scene_defs.specs.Scene.{first_scene}
+use Rattle.run_defs.specs.Machine.{first_machine}
+use Rattle.scene_defs.specs.Scene.{Scene, first_scene}
+use Rattle.gui_play.specs.Boards.{machine_with}
+use Rattle.gui_play.specs.Inputs.{first_inputs}
+use Rattle.gui_play.specs.declared.inputs.Inputs.{Inputs}
 
 empty_lists : {A : Type 0} (n : ℕ) (lists : List (List A)) → length lists ≡ n → ((h : ℕ) → get_or lists h [] ≡ []) → lists ≡ replicate n []
 empty_lists n lists long none =
@@ -17,6 +20,7 @@ pub no_handlers_is : (lists : List (List Handler)) → length lists ≡ 65536 �
 unfolding no_handlers
 no_handlers_is lists long none = empty_lists 65536 lists long none
 
--- a machine without handlers and groups
-pub first_machine_is : (m : Machine) (limits : Bounds) → m.scene ≡ first_scene limits → m.handlers ≡ no_handlers → m.groups ≡ no_groups → m ≡ first_machine limits
-first_machine_is m limits scene handlers groups = λ i. record { scene = scene i; handlers = handlers i; groups = groups i }
+-- the first machine
+pub first_machine_is : (scene : Scene) (handlers : List (List Handler)) (groups : Groups) (inputs : Inputs) (limits : Bounds) → scene ≡ first_scene limits → handlers ≡ no_handlers → groups ≡ no_groups → inputs ≡ first_inputs →
+    machine_with scene handlers groups inputs ≡ first_machine limits
+first_machine_is scene handlers groups inputs limits a b c d = λ i. machine_with (a i) (b i) (c i) (d i)

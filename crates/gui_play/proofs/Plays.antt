@@ -70,7 +70,7 @@ and_false false = refl
 pub both_nothing : (p : Play) → both p (only p.machine) ≡ p
 both_nothing p = rw (append-nil p.changes, append-nil p.lines, and_false p.noted) refl
 
-both_assoc : (p q r : Play) → both (both p q) r ≡ both p (both q r)
+pub both_assoc : (p q r : Play) → both (both p q) r ≡ both p (both q r)
 both_assoc p q r = rw (append_assoc p.changes q.changes r.changes, append_assoc p.lines q.lines r.lines, or_assoc p.noted q.noted r.noted) refl
 
 pub each-append : {A : Type 0} (rule : A → Rule) (xs ys : List A) (m : Machine) → each rule (xs ++ ys) m ≡ both (each rule xs m) (each rule ys (each rule xs m).machine)

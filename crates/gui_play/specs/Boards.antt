@@ -1,24 +1,39 @@
 -- What a board is: a machine, what is pending, and how the log goes.
-use Rattle.std.specs.Prelude.{◌≡◌, Bool, true, false, Ok, Err}
+use Rattle.std.specs.Prelude.{◌≡◌, Bool, true, false, List, Ok, Err}
 use Rattle.std.specs.declared.result.Result.{Result}
 use Rattle.gui_change.specs.Canvas.{scene_in}
 use Rattle.gui_damage.specs.Pending.{Pending}
 use Rattle.gui_edge.specs.Sink.{SinkState}
 use Rattle.gui_edge.specs.declared.Failed.{Failed}
+use Rattle.play_defs.specs.Focus.{Groups}
+use Rattle.play_defs.specs.declared.Handler.{Handler}
 use Rattle.run_defs.specs.Machine.{Machine}
 use Rattle.run_defs.specs.Play.{Rule}
 use Rattle.run_defs.specs.declared.Reply.{Reply}
 use Rattle.run_defs.specs.declared.Reply.TheVariants.{Ok as Fine}
 use Rattle.scene_defs.specs.Place.{panel_of}
+use Rattle.scene_defs.specs.Scene.{Scene}
 use Rattle.gui_play.specs.declared.board.Board.{Board}
+use Rattle.gui_play.specs.declared.inputs.Inputs.{Inputs}
+use Rattle.gui_play.specs.Inputs.{pointer_of, keypad_of, encoder_of}
 use Rattle.gui_play.specs.Stages.{Stage, Played}
 
-abbrev pub machine_of : Board → Machine
-machine_of board = record {
-  scene = scene_in board.canvas;
-  handlers = board.handlers.lists;
-  groups = board.groups.all;
+-- the machine with this scene, these handlers and groups, and this time and these devices
+abbrev pub machine_with : Scene → List (List Handler) → Groups → Inputs → Machine
+machine_with scene handlers groups inputs = record {
+  scene = scene;
+  handlers = handlers;
+  groups = groups;
+  time = inputs.time;
+  pointer = pointer_of inputs;
+  keypad = keypad_of inputs;
+  encoder = encoder_of inputs;
+  keypad_group = inputs.keypad_group;
+  encoder_group = inputs.encoder_group;
 }
+
+abbrev pub machine_of : Board → Machine
+machine_of board = machine_with (scene_in board.canvas) board.handlers.lists board.groups.all board.inputs
 
 -- the areas of the panel that are pending
 abbrev pub pending_of : Board → Pending

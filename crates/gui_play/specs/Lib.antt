@@ -2,9 +2,12 @@ pub mod Boards
 pub mod Commands
 pub mod Handling
 pub mod Hiding
+pub mod Hits
+pub mod Inputs
 pub mod Laws
 pub mod Panels
 pub mod Sizes
+pub mod Sliding
 pub mod Stages
 pub mod Steps
 pub mod Writing

@@ -12,8 +12,8 @@ use Rattle.run_defs.specs.Step.{Step}
 use Rattle.run_defs.specs.declared.Reply.{Reply}
 use Rattle.gui_play.specs.Stages.{Stage}
 
--- A step was made: the machine is that of the step, and what its changes owe has become pending. The reply and
--- the lines are those of the step, or the log has failed and holds a prefix of the lines.
+-- A step was made: the machine is that of the step, and what its changes owe has become pending. The reply
+-- and the lines are those of the step, or the log has failed and holds a prefix of the lines.
 pub record Steps (old new : Stage) (result : Result Reply Failed) (step : Step) : Type 0 where
   pub machine : new.machine ≡ step.machine
   pub owed : IsPending old.pending →

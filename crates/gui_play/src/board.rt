@@ -21,6 +21,7 @@ ghost use Rattle.scene_defs.specs.Valid.{IsChange, IsValid};
 ghost use Rattle.gui_play.specs.Panels.{Refreshes};
 ghost use Rattle.gui_play.specs.Sizes.{AreSized};
 
+use crate::inputs::Inputs;
 use crate::scribe::Scribe;
 use gui_base::{Area, Bits, Handle, Limits, NoMemory, Refusal, State, Steps};
 use gui_change::Canvas;
@@ -37,13 +38,14 @@ use std::alloc::Global;
 use std::sync::ledger::Ledger;
 
 /// What the rules read and change: a scene with its places, the areas that are pending, the handlers, the
-/// focus groups, and how the log goes in this step.
+/// focus groups, the time and the input devices, and how the log goes in this step.
 #[derive(Drop)]
 pub struct Board {
     pub(crate) canvas: Canvas,
     damage: Damage,
     pub(crate) handlers: Handlers,
     pub(crate) groups: Groups,
+    pub(crate) inputs: Inputs,
     pub(crate) scribe: Scribe,
     ghost panel: { damage.panel ≡ panel_of (scene_in canvas) },
     ghost sized: { AreSized handlers groups (scene_in canvas).limits },
@@ -68,6 +70,7 @@ impl Board {
             damage,
             handlers,
             groups,
+            inputs: Inputs::new(),
             scribe: Scribe::new(),
         })
     }

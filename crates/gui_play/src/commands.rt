@@ -3,8 +3,9 @@ ghost use Rattle.std.specs.Prelude.{◌≡◌, ◌∷◌, [], false, None};
 ghost use Rattle.gui_base.specs.Refusing.{first_of};
 ghost use Rattle.gui_edge.specs.Sink.{SinkState};
 ghost use Rattle.run_defs.specs.Step.{answer, is_action_in_range, is_aim_in_range, is_command_in_range};
-ghost use Rattle.run_defs.specs.Step.{full_for, gone, handler_added, handlers_dropped, rule_of, step, tests_of};
-ghost use Rattle.run_defs.specs.Step.{IsCommand};
+ghost use Rattle.run_defs.specs.Step.{full_for, gone, handler_added, handlers_dropped, rule_of, step};
+ghost use Rattle.run_defs.specs.Step.{IsCommand, down_at, encoder_in, keypad_in, lifted, no_such_group};
+ghost use Rattle.run_defs.specs.Step.{tests_of};
 ghost use Rattle.run_defs.specs.Focusing.{join};
 ghost use Rattle.run_defs.specs.Making.{with_groups};
 ghost use Rattle.run_defs.specs.Play.{with};
@@ -16,9 +17,10 @@ ghost use Rattle.gui_play.specs.Commands.{IsPlay};
 ghost use Rattle.gui_play.specs.Steps.{Steps};
 
 use crate::board::Board;
-use gui_base::intervals::{GROUP, HANDLE, VALUE};
+use gui_base::intervals::{COORDINATE, DEVICE_GROUP, GROUP, HANDLE, TICK, TURN, VALUE};
 use gui_base::{Action, Aim, EventKind, Handle, Pool, Refusal};
 use gui_edge::{Failed, Sink};
+use play_defs::{EncoderReading, KeyReading, PointerReading};
 use run_defs::{Command, Reply};
 use scene_defs::Change;
 
@@ -45,7 +47,7 @@ fn is_action_in_range(action: Action) -> bool
     }
 }
 
-/// Whether each number of a command on events and groups lies in its interval.
+/// Whether each number of a command on events, groups and devices lies in its interval.
 fn is_in_range(command: &Command) -> bool
     requires { IsPlay command.now }
     ensures { result ≡ is_command_in_range command.now }
@@ -58,6 +60,29 @@ fn is_in_range(command: &Command) -> bool
         Command::Off(h, _) | Command::Send(h, _) | Command::Leave(h) | Command::Focus(h) => {
             HANDLE.holds(h.0)
         }
+        Command::Keypad(id) | Command::Encoder(id) => DEVICE_GROUP.holds(u16::from(id)),
+        Command::Touch(x, y) => COORDINATE.holds(x) && COORDINATE.holds(y),
+        Command::Turn(n) => TURN.holds(i32::from(n)),
+        Command::Tick(ms) => TICK.holds(ms),
+        Command::Release | Command::Key(_, _) | Command::Push(_) => true,
+    }
+}
+
+/// What a pointer reads that is down at a point.
+fn down_at(x: i32, y: i32) -> PointerReading
+    ensures { result ≡ down_at x y }
+{
+    PointerReading { x, y, down: true }
+}
+
+/// What a pointer reads that is up.
+fn lifted() -> PointerReading
+    ensures { result ≡ lifted }
+{
+    PointerReading {
+        x: 0,
+        y: 0,
+        down: false,
     }
 }
 
@@ -133,6 +158,17 @@ impl Board {
         }
     }
 
+    /// The first refusal of a group that a device is to have, 0 for none.
+    fn device_refusal(&self, id: u8) -> Option<Refusal>
+        ensures { result ≡ first_of (no_such_group (machine_of self.now) id ∷ []) None }
+    {
+        if id != 0 && !self.groups.has(id) {
+            Some(Refusal::Unknown)
+        } else {
+            None
+        }
+    }
+
     /// Adds a handler, the last of its object, where there is room.
     fn add_handler(&mut self, h: Handle, kind: EventKind, action: Action)
         requires { full_for (machine_of self.old) (Command.On h kind action) ≡ None }
@@ -157,6 +193,20 @@ impl Board {
         let _ = self.groups.group(id);
     }
 
+    /// Gives the keypad a group, 0 for none.
+    fn set_keypad_group(&mut self, id: u8)
+        ensures { Quiet self.old self.new (with (keypad_in id)) }
+    {
+        self.inputs.keypad_group = id;
+    }
+
+    /// Gives the encoder a group, 0 for none.
+    fn set_encoder_group(&mut self, id: u8)
+        ensures { Quiet self.old self.new (with (encoder_in id)) }
+    {
+        self.inputs.encoder_group = id;
+    }
+
     /// Makes an object a member of a group where nothing is against that.
     fn join_new<S: Sink>(&mut self, id: u8, h: Handle, log: &mut S)
         requires answer { answer (machine_of self.old) (Command.Join id h) ≡ None }
@@ -168,7 +218,7 @@ impl Board {
         self.join(id, h, log);
     }
 
-    /// The first refusal of a command on events and groups, or none where it is done.
+    /// The first refusal of a command on events, groups and devices, or none where it is done.
     fn refusal_of(&self, command: &Command) -> Option<Refusal>
         requires { IsPlay command.now }
         ensures { result ≡ answer (machine_of self.now) command.now }
@@ -183,10 +233,13 @@ impl Board {
             Command::Join(id, h) => self.join_refusal(id, h),
             Command::Off(h, _) | Command::Send(h, _) => self.unknown(h),
             Command::Leave(h) | Command::Focus(h) => self.member_refusal(h),
+            Command::Keypad(id) | Command::Encoder(id) => self.device_refusal(id),
+            Command::Touch(_, _) | Command::Release | Command::Key(_, _) => None,
+            Command::Turn(_) | Command::Push(_) | Command::Tick(_) => None,
         }
     }
 
-    /// Carries out a command on events and groups against which there is no refusal.
+    /// Carries out a command on events, groups and devices against which there is no refusal.
     fn carry_out<S: Sink>(&mut self, command: &Command, log: &mut S)
         requires play { IsPlay command.now }
         requires answer { answer (machine_of self.old) command.now ≡ None }
@@ -202,6 +255,14 @@ impl Board {
             Command::Join(id, h) => self.join_new(id, h, log),
             Command::Leave(h) => self.leave(h),
             Command::Focus(h) => self.focus(h, log),
+            Command::Keypad(id) => self.set_keypad_group(id),
+            Command::Encoder(id) => self.set_encoder_group(id),
+            Command::Touch(x, y) => self.feed_pointer(Some(down_at(x, y)), log),
+            Command::Release => self.feed_pointer(Some(lifted()), log),
+            Command::Key(key, down) => self.feed_keypad(Some(KeyReading { key, down }), log),
+            Command::Turn(n) => self.feed_encoder(Some(EncoderReading::Turn(n)), log),
+            Command::Push(down) => self.feed_encoder(Some(EncoderReading::Push(down)), log),
+            Command::Tick(ms) => self.tick(ms, log),
         }
     }
 
@@ -218,7 +279,7 @@ impl Board {
         }
     }
 
-    /// Carries out a command on events and groups, or answers its first refusal.
+    /// Carries out a command on events, groups and devices, or answers its first refusal.
     fn apply_play<S: Sink>(&mut self, command: &Command, log: &mut S) -> Result<Reply, Failed>
         requires play { IsPlay command.now }
         requires members { AreJoined (machine_of self.old) }

@@ -5,14 +5,14 @@ ghost use Rattle.gui_base.specs.declared.words.Flag.TheVariants.{Bubble};
 ghost use Rattle.gui_edge.specs.Sink.{SinkState};
 ghost use Rattle.gui_tree.specs.Handles.{as_handle};
 ghost use Rattle.run_defs.specs.Events.{act, aim_at, asked, path as path_of, run_at, say as say_of, send};
-ghost use Rattle.run_defs.specs.Events.{send_there};
+ghost use Rattle.run_defs.specs.Events.{send_input, send_there, takes_input};
 ghost use Rattle.run_defs.specs.Making.{handles};
 ghost use Rattle.scene_defs.specs.Row.{is_on};
 
 use crate::board::Board;
 use crate::scribe::event_text;
 use arrayvec::ArrayVec;
-use gui_base::{Action, Aim, EventKind, Flag, Handle};
+use gui_base::{Action, Aim, EventKind, Flag, Handle, State};
 use gui_edge::Sink;
 use gui_tree::Tree;
 use scene_defs::{Change, Row};
@@ -53,8 +53,8 @@ fn asked(target: Handle, action: Action) -> Option<Change<'static>>
 
 /// Where an event goes on from an object: to its parent, if it has the bubble flag.
 fn bubbles_to(tree: &Tree, h: Handle, row: &Row) -> Option<Handle>
-    ensures { result ≡ (if is_on row.now.flags Bubble then option_map as_handle (parent_of tree.now.forest h.0)
-        else None) }
+    ensures { result ≡ (if is_on row.now.flags Bubble
+        then option_map as_handle (parent_of tree.now.forest h.0) else None) }
 {
     if row.is_on(Flag::Bubble) {
         tree.parent(h)
@@ -152,6 +152,23 @@ impl Board {
         ensures { Plays self.old self.new (S.state log.old) (S.state log.new) (send_there kind target) }
     {
         if self.has(target) {
+            self.send(kind, target, log);
+        }
+    }
+
+    /// Whether input goes to an object: it is there and not disabled.
+    pub(crate) fn takes_input(&self, h: Handle) -> bool
+        ensures { result ≡ takes_input (machine_of self.now).scene h }
+    {
+        self.has(h) && !self.is_in_state(State::Disabled, h)
+    }
+
+    /// Sends an event of input to an object that takes it.
+    #[tactic(auto, unfolding(run_defs::specs::Events::send_input), using(crate::proofs::Plays::played_nothing))]
+    pub(crate) fn send_input<S: Sink>(&mut self, kind: EventKind, target: Handle, log: &mut S)
+        ensures { Plays self.old self.new (S.state log.old) (S.state log.new) (send_input kind target) }
+    {
+        if self.takes_input(target) {
             self.send(kind, target, log);
         }
     }

@@ -5,7 +5,7 @@ ghost use Rattle.gui_edge.specs.Sink.{SinkState};
 ghost use Rattle.play_defs.specs.Focus.{group_at, group_of, has_group, focused_in};
 ghost use Rattle.run_defs.specs.Events.{send_there};
 ghost use Rattle.run_defs.specs.Focusing.{first_focus, focus, focus_taken, hand_over, has_focus, join, leave};
-ghost use Rattle.run_defs.specs.Focusing.{move_focus, move_from, refocus, unfocus};
+ghost use Rattle.run_defs.specs.Focusing.{move_focus, move_from, next_to_focus, refocus, step_focus, unfocus};
 ghost use Rattle.run_defs.specs.Making.{with_groups};
 ghost use Rattle.run_defs.specs.Play.{aimed, nothing};
 
@@ -97,6 +97,37 @@ impl Board {
         self.move_from(old, id, by_key, h, log);
     }
 
+    /// Who gets the focus of a group where a device moves it on, forwards or backwards.
+    fn next_to_focus(&self, forwards: bool, id: u8) -> Option<Handle>
+        ensures { result ≡ next_to_focus forwards id (machine_of self.now) }
+    {
+        if forwards {
+            self.groups.focus_next(id, |k| self.is_usable(k))
+        } else {
+            self.groups.focus_prev(id, |k| self.is_usable(k))
+        }
+    }
+
+    /// The focus of a group moves to an object, if there is one, by a device.
+    #[tactic(auto, unfolding(run_defs::specs::Play::aimed), using(crate::proofs::Plays::played_nothing))]
+    fn move_focus_aimed<S: Sink>(&mut self, next: Option<Handle>, id: u8, log: &mut S)
+        ensures { Plays self.old self.new (S.state log.old) (S.state log.new)
+            (aimed next (move_focus id true)) }
+    {
+        if let Some(h) = next {
+            self.move_focus(id, true, h, log);
+        }
+    }
+
+    /// A device moves the focus of a group on, where there is a member that may get it.
+    #[tactic(auto, unfolding(run_defs::specs::Focusing::step_focus))]
+    pub(crate) fn step_focus<S: Sink>(&mut self, forwards: bool, id: u8, log: &mut S)
+        ensures { Plays self.old self.new (S.state log.old) (S.state log.new) (step_focus forwards id) }
+    {
+        let next = self.next_to_focus(forwards, id);
+        self.move_focus_aimed(next, id, log);
+    }
+
     /// Whether an object has the focus of the group that it is in.
     fn has_focus(&self, h: Handle) -> bool
         ensures { result ≡ has_focus (machine_of self.now).groups h }
@@ -125,7 +156,8 @@ impl Board {
     pub(crate) fn join<S: Sink>(&mut self, id: u8, h: Handle, log: &mut S)
         requires there { has_group (machine_of self.old).groups id ≡ true }
         requires free { group_of (machine_of self.old).groups h ≡ None }
-        requires room { length (machine_of self.old).groups.members < (machine_of self.old).scene.limits.objects }
+        requires room { length (machine_of self.old).groups.members
+            < (machine_of self.old).scene.limits.objects }
         ensures { Plays self.old self.new (S.state log.old) (S.state log.new) (join id h) }
     {
         let _ = self.groups.join(id, h);

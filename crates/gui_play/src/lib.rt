@@ -1,13 +1,18 @@
-//! The rules of events and focus as code: what a step makes of the machine, what becomes pending, and what is
-//! written into the log.
+//! The rules of events, focus and input as code: what a step makes of the machine, what becomes pending, and
+//! what is written into the log.
 #![tactic(auto)]
 
 mod board;
 mod changes;
 mod commands;
+mod devices;
 mod events;
 mod focus;
+mod inputs;
+mod pointing;
+mod reactions;
 mod scribe;
+mod ticks;
 
 ghost use Rattle.gui_play.specs.Laws.{NothingIsPlayed, PlaysFollow};
 

@@ -1,17 +1,15 @@
 -- The windows of a run that were worked out by hand.
 use Rattle.std.specs.Prelude.{◌≡◌, ℕ, List, [], ◌∷◌, replicate, Ok, pos}
 use Rattle.gui_base.specs.declared.Handle.{Handle}
-use Rattle.gui_base.specs.declared.words.Kind.TheVariants.{Screen, Layer, Obj}
-use Rattle.gui_base.specs.Forest.{Empty, Tree}
+use Rattle.gui_base.specs.declared.words.Kind.TheVariants.{Obj}
 use Rattle.gui_base.specs.Limits.{with_sizes}
-use Rattle.play_defs.specs.Focus.{no_groups}
 use Rattle.scene_defs.specs.declared.Change.{Change}
 use Rattle.scene_defs.specs.declared.Change.TheVariants as change
-use Rattle.scene_defs.specs.Scene.{new_object}
+use Rattle.scene_defs.specs.Scene.{first_scene}
 use Rattle.run_defs.specs.declared.Command.TheVariants.{Change as CommandOf}
 use Rattle.run_defs.specs.declared.Line.TheVariants.{Frame, Make}
 use Rattle.run_defs.specs.declared.Outcome.TheVariants.{Done, Fault}
-use Rattle.run_defs.specs.Machine.{Machine}
+use Rattle.run_defs.specs.Machine.{Machine, first_machine}
 use Rattle.run_defs.specs.Script.{Said}
 use Rattle.run_debts.specs.Owing.{run_windows}
 
@@ -20,18 +18,11 @@ handle h = record { 0 = h }
 
 -- a panel of 120 by 60 pixels that shows an empty screen, with a book for the handles below 12
 abbrev machine : Machine
-machine = record {
-  scene = record {
-    trees = Tree (new_object 1 Layer) Empty
-        (Tree (new_object 2 Layer) Empty (Tree (new_object 3 Screen) Empty Empty));
-    active = 3;
+machine = record (first_machine (with_sizes 120 60 4)) {
+  scene = record (first_scene (with_sizes 120 60 4)) {
     book = record { styles = []; locals = replicate 12 []; uses = replicate 12 [] };
-    fonts = [];
-    images = [];
-    limits = with_sizes 120 60 4;
   };
   handlers = replicate 12 [];
-  groups = no_groups;
 }
 
 abbrev makes : Change → Said

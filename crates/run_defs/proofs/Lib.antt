@@ -1,4 +1,5 @@
 pub mod Fields
+pub mod Inputs
 pub mod Lines
 pub mod Ranges
 pub mod Readings

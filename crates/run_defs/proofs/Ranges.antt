@@ -16,7 +16,7 @@ use Rattle.gui_base.specs.Intervals.{is_counted, is_within}
 use Rattle.gui_base.specs.Names.{table, named}
 use Rattle.gui_base.specs.declared.intervals.Count.{Count}
 use Rattle.gui_base.specs.declared.intervals.Interval.{Interval}
-use Rattle.gui_base.specs.declared.intervals.TheConstants.{HANDLE, NEW_HANDLE, INDEX, EXTENT, PERCENT, COORDINATE, GROW, VALUE, COLOR, STYLE, TEXT_ALIGN, FONT, FONT_HEIGHT, ADVANCE, CODE, GLYPH_WIDTH, GLYPH_HEIGHT, GLYPH_OFFSET, IMAGE, IMAGE_SIDE, IMAGE_ROW, GROUP}
+use Rattle.gui_base.specs.declared.intervals.TheConstants.{HANDLE, NEW_HANDLE, INDEX, EXTENT, PERCENT, COORDINATE, GROW, VALUE, COLOR, STYLE, TEXT_ALIGN, FONT, FONT_HEIGHT, ADVANCE, CODE, GLYPH_WIDTH, GLYPH_HEIGHT, GLYPH_OFFSET, IMAGE, IMAGE_SIDE, IMAGE_ROW, GROUP, DEVICE_GROUP, TURN, TICK}
 use Rattle.gui_base.specs.declared.words.TextAlign.{TextAlign}
 use Rattle.gui_base.specs.declared.props.Prop.{Prop}
 use Rattle.gui_base.specs.declared.props.Prop.TheVariants as prop
@@ -28,6 +28,8 @@ use Rattle.scene_defs.specs.Row.{is_root, is_size, is_cross, is_range}
 use Rattle.run_defs.specs.declared.LineFault.TheVariants.{Range}
 use Rattle.run_defs.specs.declared.names.AssetName.{AssetName}
 use Rattle.run_defs.specs.declared.names.AssetName.TheVariants as asset
+use Rattle.run_defs.specs.declared.names.DeviceName.{DeviceName}
+use Rattle.run_defs.specs.declared.names.DeviceName.TheVariants as device
 use Rattle.run_defs.specs.declared.names.Name.{Name}
 use Rattle.run_defs.specs.declared.names.Name.TheVariants as name
 use Rattle.run_defs.specs.declared.names.ActionName.{ActionName}
@@ -42,7 +44,7 @@ use Rattle.run_defs.specs.declared.names.TreeName.{TreeName}
 use Rattle.run_defs.specs.declared.names.TreeName.TheVariants as tree
 use Rattle.run_defs.specs.declared.names.TheConstants.{COMMANDS}
 use Rattle.run_defs.specs.Commands.{handle, new_handle, index, extent, coordinate, cross_placing, grow, kind, shown_value, range_low, range_high, text, style_number, color_value, align_number, value_for, code, glyph_offset}
-use Rattle.run_defs.specs.Commands.{aim_said, aim, action_fields, group_number, play_fields}
+use Rattle.run_defs.specs.Commands.{aim_said, aim, action_fields, group_number, play_fields, device_group, steps, passing, device_fields}
 use Rattle.run_defs.specs.Commands.{tree_fields, row_fields, style_fields, asset_fields, command_line, change_line, line_fields, named_says, command_says}
 use Rattle.run_defs.specs.Fields.{Progress, number_in, count_in, value, start}
 use Rattle.run_defs.specs.Language.{Word, Reading, mapped, words_of}
@@ -272,6 +274,23 @@ play-in : (name : PlayName) (at : Progress) → IsInRange (Ok (command_line (pla
 play-in play.On at = (simp play_inside, tt)
 play-in name at = (simp play_inside, tt)
 
+device_group-in : (at : Progress) → is_counted DEVICE_GROUP (value device_group at) ≡ true
+device_group-in at = count-in DEVICE_GROUP refl at
+
+steps-in : (at : Progress) → is_within TURN (value steps at) ≡ true
+steps-in at = number-in TURN refl at
+
+passing-in : (at : Progress) → is_counted TICK (value passing at) ≡ true
+passing-in at = count-in TICK refl at
+
+ruleset device_inside = (device_group-in, coordinate-in, steps-in, passing-in)
+
+device-in : (name : DeviceName) (at : Progress) → IsInRange (Ok (command_line (device_fields name at)).made)
+device-in device.Release at = (refl, tt)
+device-in device.Key at = (refl, tt)
+device-in device.Push at = (refl, tt)
+device-in name at = (simp device_inside, tt)
+
 line-in : (name : Name) (at : Progress) → IsInRange (Ok (line_fields name at).made)
 line-in name.Frame at = tt
 line-in (name.Tree n) at = tree-in n at
@@ -279,6 +298,7 @@ line-in (name.Row n) at = row-in n at
 line-in (name.Style n) at = style-in n at
 line-in (name.Asset n) at = asset-in n at
 line-in (name.Play n) at = play-in n at
+line-in (name.Device n) at = device-in n at
 
 words-in : (words : List Word) → IsInRange (words_say words)
 unfolding command_says

@@ -5,6 +5,7 @@ use Rattle.std.specs.List.{AllByRecursion}
 use Rattle.gui_base.specs.declared.Handle.{Handle}
 use Rattle.gui_base.specs.declared.events.Action.{Action}
 use Rattle.gui_base.specs.declared.events.Action.TheVariants as action
+use Rattle.gui_base.specs.declared.events.Aim.TheVariants.{Object as Named}
 use Rattle.gui_base.specs.declared.events.EventKind.{EventKind}
 use Rattle.gui_base.specs.declared.events.EventKind.TheVariants as event
 use Rattle.gui_base.specs.declared.refusal.Refusal.{Refusal}
@@ -24,9 +25,10 @@ use Rattle.run_defs.specs.Events.{path, actions_at, asked, say, say_or_change, a
 use Rattle.run_defs.specs.Focusing.{unfocus, refocus, focus_taken, hand_over, move_from, move_focus, has_focus, focus_by, focus, first_focus, join, leave}
 use Rattle.run_defs.specs.Laws.{StepsChangeTheScene, StepsAsk, RefusedStepIsNone}
 use Rattle.run_defs.specs.Machine.{Machine}
-use Rattle.run_defs.specs.Making.{make, make_by, put_state, is_same, is_in_state, with_groups, heir, pass_on, leave_from, leave_group, without_handlers, forget, removed, made, note, attempt, attempt_by}
+use Rattle.run_defs.specs.Making.{make, make_by, put_state, is_same, is_in_state, with_groups, heir, pass_on, leave_from, leave_group, without_handlers, without_targets, forget, removed, made, note, attempt, attempt_by}
 use Rattle.run_defs.specs.Play.{Play, Rule, nothing, with, both, ◌⊳◌, ◌▷◌, each, aimed, after_changes}
-use Rattle.run_defs.specs.Step.{handler_added, handlers_dropped, answer, rule_of, unless, refused, step, IsCommand}
+use Rattle.run_defs.specs.Step.{handler_added, handlers_dropped, keypad_in, encoder_in, down_at, lifted, answer, rule_of, unless, refused, step, IsCommand}
+use Rattle.run_defs.proofs.Inputs.{IsClosed, good_feed_pointer, good_feed_keypad, good_feed_encoder, good_tick}
 
 pub after-append : (scene : Scene) (cs ds : List Change) → after_changes scene (cs ++ ds) ≡ after_changes (after_changes scene cs) ds
 after-append scene [] ds = refl
@@ -109,7 +111,7 @@ module _ (P : Change → Type 0) (states : (h : Handle) (state : State) (on : Bo
 
   sound_forget : (h : Handle) → Sound (forget h)
   unfolding forget
-  sound_forget h = sound_then _ _ (sound_with (without_handlers h) (λ m. refl)) (sound_leave_group h)
+  sound_forget h = sound_then _ _ (sound_then _ _ (sound_with (without_handlers h) (λ m. refl)) (sound_with (without_targets h) (λ m. refl))) (sound_leave_group h)
 
   sound_made : (change : Change) → P change → Sound (made change)
   unfolding made
@@ -190,6 +192,19 @@ module _ (P : Change → Type 0) (states : (h : Handle) (state : State) (on : Bo
   unfolding leave
   sound_leave h m = sound_then _ _ (sound_if (has_focus m.groups h) _ _ (sound_unfocus h) sound_nothing) (sound_leave_group h) m
 
+  -- Input and time.
+  sound_closed : IsClosed Sound
+  sound_closed = record {
+    none = sound_nothing;
+    next = sound_then;
+    look = λ f h m. h m m;
+    aside = λ f is. sound_with f is.scene;
+    value = λ h n. sound_make (change.Value h n) (acts h (action.Value (Named h) n));
+    put = sound_put;
+    sent = sound_send;
+    moved = sound_move;
+  }
+
   -- Commands.
   abbrev pub IfChange : Command → Type 0
   IfChange (ask.Change change) = P change
@@ -204,6 +219,14 @@ module _ (P : Change → Type 0) (states : (h : Handle) (state : State) (on : Bo
   sound_rule (ask.Join id h) is = sound_join id h
   sound_rule (ask.Leave h) is = sound_leave h
   sound_rule (ask.Focus h) is = sound_focus h
+  sound_rule (ask.Keypad id) is = sound_with (keypad_in id) (λ m. refl)
+  sound_rule (ask.Encoder id) is = sound_with (encoder_in id) (λ m. refl)
+  sound_rule (ask.Touch x y) is = good_feed_pointer Sound sound_closed (Some (down_at x y))
+  sound_rule ask.Release is = good_feed_pointer Sound sound_closed (Some lifted)
+  sound_rule (ask.Key key down) is = good_feed_keypad Sound sound_closed _
+  sound_rule (ask.Turn n) is = good_feed_encoder Sound sound_closed _
+  sound_rule (ask.Push down) is = good_feed_encoder Sound sound_closed _
+  sound_rule (ask.Tick ms) is = good_tick Sound sound_closed ms
 
 -- any change
 abbrev Any : Change → Type 0

@@ -21,12 +21,13 @@ use Rattle.scene_defs.specs.declared.Change.TheVariants as change
 use Rattle.gui_base.specs.declared.events.Action.TheVariants as action
 use Rattle.gui_base.specs.declared.events.Aim.TheVariants.{Target, Object}
 use Rattle.gui_base.specs.declared.events.EventKind.TheVariants as event
+use Rattle.gui_base.specs.declared.events.Key.TheVariants as key
 use Rattle.run_defs.specs.declared.Command.{Command}
 use Rattle.run_defs.specs.declared.Command.TheVariants as ask
 use Rattle.run_defs.specs.declared.Command.TheVariants.{Change as CommandOf}
 use Rattle.run_defs.specs.declared.Line.TheVariants.{Blank, Frame, Make}
 use Rattle.run_defs.specs.declared.LineFault.TheVariants.{Syntax, Range}
-use Rattle.run_defs.specs.Commands.{command_says, state, property, align, flow, event as event_field, aim_said, action_name}
+use Rattle.run_defs.specs.Commands.{command_says, state, property, align, flow, event as event_field, aim_said, action_name, key as key_field}
 use Rattle.run_defs.specs.Lengths.{length_said}
 use Rattle.run_defs.specs.Fields.{over, value, past}
 use Rattle.scene_defs.specs.Quoted.{text_in_quotes}
@@ -232,3 +233,50 @@ play_faults : map (λ line. parse line) (
     ∷ []) ≡ Err Syntax ∷ Err Syntax ∷ Err Syntax ∷ Err Syntax ∷ Err Range ∷ Err Syntax ∷ Err Range ∷ Err Syntax ∷ Err Syntax ∷ Err Syntax ∷ Err Range ∷ Err Range ∷ Err Range ∷ []
 unfolding line_says command_says named value past over number natural color code_said bytes_said bytes_in_hex decode_pairs state property align flow length_said selector_named state_named with_bit text_said text_in_quotes is_utf8 chars encode event_field aim_said action_name
 play_faults = refl
+
+-- commands on input devices
+
+devices_worked : map (λ line. parse line) (
+    codes "keypad 0"
+    ∷ codes "encoder 99"
+    ∷ codes "touch -4000 4000"
+    ∷ codes "release"
+    ∷ codes "key enter down"
+    ∷ codes "key left up"
+    ∷ codes "turn -100"
+    ∷ codes "turn 0"
+    ∷ codes "push down"
+    ∷ codes "push up"
+    ∷ codes "tick 60000"
+    ∷ []) ≡
+    asks_play (ask.Keypad 0)
+    ∷ asks_play (ask.Encoder 99)
+    ∷ asks_play (ask.Touch (neg_ℤ (pos 4000)) (pos 4000))
+    ∷ asks_play ask.Release
+    ∷ asks_play (ask.Key key.Enter true)
+    ∷ asks_play (ask.Key key.Left false)
+    ∷ asks_play (ask.Turn (neg_ℤ (pos 100)))
+    ∷ asks_play (ask.Turn (pos 0))
+    ∷ asks_play (ask.Push true)
+    ∷ asks_play (ask.Push false)
+    ∷ asks_play (ask.Tick 60000)
+    ∷ []
+unfolding line_says command_says named value past over number natural color code_said bytes_said bytes_in_hex decode_pairs state property align flow length_said selector_named state_named with_bit text_said text_in_quotes is_utf8 chars encode event_field aim_said action_name key_field asks_play
+devices_worked = refl
+
+device_faults : map (λ line. parse line) (
+    codes "keypad 100"
+    ∷ codes "encoder -1"
+    ∷ codes "touch 4001 0"
+    ∷ codes "touch 4001"
+    ∷ codes "release 1 1"
+    ∷ codes "key escape down"
+    ∷ codes "key enter on"
+    ∷ codes "turn 101"
+    ∷ codes "turn -101"
+    ∷ codes "push"
+    ∷ codes "tick 60001"
+    ∷ codes "tick -1"
+    ∷ []) ≡ Err Range ∷ Err Range ∷ Err Range ∷ Err Syntax ∷ Err Syntax ∷ Err Syntax ∷ Err Syntax ∷ Err Range ∷ Err Range ∷ Err Syntax ∷ Err Range ∷ Err Range ∷ []
+unfolding line_says command_says named value past over number natural color code_said bytes_said bytes_in_hex decode_pairs state property align flow length_said selector_named state_named with_bit text_said text_in_quotes is_utf8 chars encode event_field aim_said action_name key_field
+device_faults = refl

@@ -9,11 +9,13 @@ use Rattle.gui_base.specs.declared.events.Aim.{Aim}
 use Rattle.gui_base.specs.declared.events.Aim.TheVariants.{Target, Object}
 use Rattle.gui_base.specs.declared.events.EventKind.{EventKind}
 use Rattle.gui_base.specs.declared.events.EventKind.TheVariants.{Pressed}
-use Rattle.gui_base.specs.declared.events.TheConstants.{EVENTS}
+use Rattle.gui_base.specs.declared.events.Key.{Key}
+use Rattle.gui_base.specs.declared.events.Key.TheVariants.{Up}
+use Rattle.gui_base.specs.declared.events.TheConstants.{EVENTS, KEYS, DOWN_UP}
 use Rattle.gui_base.specs.declared.intervals.TheConstants.{HANDLE, NEW_HANDLE, INDEX, COORDINATE, GROW, VALUE}
 use Rattle.gui_base.specs.declared.intervals.TheConstants.{STYLE, FONT, FONT_HEIGHT, ADVANCE, GLYPH_WIDTH}
 use Rattle.gui_base.specs.declared.intervals.TheConstants.{GLYPH_HEIGHT, GLYPH_OFFSET, IMAGE, IMAGE_SIDE}
-use Rattle.gui_base.specs.declared.intervals.TheConstants.{IMAGE_ROW, GROUP}
+use Rattle.gui_base.specs.declared.intervals.TheConstants.{IMAGE_ROW, GROUP, DEVICE_GROUP, TURN, TICK}
 use Rattle.gui_base.specs.declared.words.TheConstants.{KINDS, FLAGS, ON_OFF, STATES, TEXT_ALIGNS, ALIGNS}
 use Rattle.gui_base.specs.declared.words.TheConstants.{FLOWS, PLACINGS, CROSS_PLACINGS, FORMATS}
 use Rattle.gui_base.specs.declared.words.Align.{Align}
@@ -53,6 +55,8 @@ use Rattle.run_defs.specs.declared.names.ActionName.{ActionName}
 use Rattle.run_defs.specs.declared.names.ActionName.TheVariants as does
 use Rattle.run_defs.specs.declared.names.AssetName.{AssetName}
 use Rattle.run_defs.specs.declared.names.AssetName.TheVariants as asset
+use Rattle.run_defs.specs.declared.names.DeviceName.{DeviceName}
+use Rattle.run_defs.specs.declared.names.DeviceName.TheVariants as device
 use Rattle.run_defs.specs.declared.names.Name.{Name}
 use Rattle.run_defs.specs.declared.names.Name.TheVariants as name
 use Rattle.run_defs.specs.declared.names.PlayName.{PlayName}
@@ -283,6 +287,36 @@ play_fields play.Join at = fields ask.Join at ▹ group_number ▹ handle
 play_fields play.Leave at = fields ask.Leave at ▹ handle
 play_fields play.Focus at = fields ask.Focus at ▹ handle
 
+-- a key, and whether it or the encoder's button goes down
+unfoldable pub key : Field Key
+key = name_in (table {A = Key} KEYS) Up
+
+abbrev pub down : Field Bool
+down = name_in (table {A = Bool} DOWN_UP) false
+
+-- the group of a device, 0 for none
+abbrev pub device_group : Field ℕ
+device_group = count_in DEVICE_GROUP
+
+-- how many steps the encoder turns
+abbrev pub steps : Field ℤ
+steps = number_in TURN
+
+-- how much time passes, in milliseconds
+abbrev pub passing : Field ℕ
+passing = count_in TICK
+
+-- the commands on input devices
+abbrev pub device_fields : DeviceName → Progress → Made Command
+device_fields device.Keypad at = fields ask.Keypad at ▹ device_group
+device_fields device.Encoder at = fields ask.Encoder at ▹ device_group
+device_fields device.Touch at = fields ask.Touch at ▹ coordinate ▹ coordinate
+device_fields device.Release at = fields ask.Release at
+device_fields device.Key at = fields ask.Key at ▹ key ▹ down
+device_fields device.Turn at = fields ask.Turn at ▹ steps
+device_fields device.Push at = fields ask.Push at ▹ down
+device_fields device.Tick at = fields ask.Tick at ▹ passing
+
 -- the line of a command, and that of a change
 abbrev pub command_line : Made Command → Made Line
 command_line m = making Make m
@@ -297,6 +331,7 @@ line_fields (name.Row n) at = change_line (row_fields n at)
 line_fields (name.Style n) at = change_line (style_fields n at)
 line_fields (name.Asset n) at = change_line (asset_fields n at)
 line_fields (name.Play n) at = command_line (play_fields n at)
+line_fields (name.Device n) at = command_line (device_fields n at)
 
 abbrev pub named_says : Option Name → List Word → Reading Line
 named_says None words = Err Syntax

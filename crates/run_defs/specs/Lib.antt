@@ -1,4 +1,6 @@
 pub mod Commands
+pub mod DeviceExamples
+pub mod Devices
 pub mod Events
 pub mod Examples
 pub mod Fields
@@ -10,10 +12,13 @@ pub mod Machine
 pub mod Making
 pub mod Numbers
 pub mod Play
+pub mod Pointing
+pub mod Reactions
 pub mod Run
 pub mod Script
 pub mod Selectors
 pub mod Step
 pub mod Texts
+pub mod Ticks
 pub mod Why
 pub mod Words

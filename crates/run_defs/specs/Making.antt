@@ -19,7 +19,7 @@ use Rattle.scene_defs.specs.declared.Row.{Row}
 use Rattle.scene_defs.specs.Change.{answer_of, changed, below}
 use Rattle.scene_defs.specs.Row.{is_on}
 use Rattle.scene_defs.specs.Scene.{Object, Scene, is_there, row_at, path_at}
-use Rattle.run_defs.specs.Machine.{Machine}
+use Rattle.run_defs.specs.Machine.{Machine, Device}
 use Rattle.run_defs.specs.Play.{Rule, nothing, ◌▷◌, each, with}
 use Rattle.run_defs.specs.Why.{why}
 
@@ -105,9 +105,21 @@ leave_group h machine = leave_from (group_of machine.groups h) h machine
 abbrev pub without_handlers : Handle → Machine → Machine
 without_handlers h machine = record machine { handlers = forgotten machine.handlers h.0 }
 
--- its handlers go, and it leaves its group
+-- what is held on h is held on nothing
+abbrev pub untargeted : {Hold : Type 0} → Handle → Device Hold → Device Hold
+untargeted h device =
+    record device { target = if is_it h device.target then None else device.target }
+
+abbrev pub without_targets : Handle → Machine → Machine
+without_targets h machine = record machine {
+  pointer = untargeted h machine.pointer;
+  keypad = untargeted h machine.keypad;
+  encoder = untargeted h machine.encoder;
+}
+
+-- its handlers go, no device has it as its target, and it leaves its group
 unfoldable pub forget : Handle → Rule
-forget h = with (without_handlers h) ▷ leave_group h
+forget h = with (without_handlers h) ▷ with (without_targets h) ▷ leave_group h
 
 -- the object that a change deletes, if it is one that deletes
 abbrev pub deleted : Change → Option Handle

@@ -1,6 +1,6 @@
 -- What a command makes of the machine.
-use Rattle.std.specs.Prelude.{ℕ, Bool, true, not, ◌&&◌, nat_le, if◌then◌else◌, List, [], ◌∷◌, length, sum_by}
-use Rattle.std.specs.Prelude.{Some, None, is_some}
+use Rattle.std.specs.Prelude.{ℕ, Bool, true, false, not, ◌&&◌, ◌==◌, nat_le, if◌then◌else◌, List, [], ◌∷◌}
+use Rattle.std.specs.Prelude.{length, sum_by, Some, None, is_some, ℤ, pos}
 use Rattle.std.specs.declared.option.Option.{Option}
 use Rattle.gui_base.specs.Intervals.{is_counted, is_within}
 use Rattle.gui_base.specs.Props.{is_value}
@@ -12,12 +12,15 @@ use Rattle.gui_base.specs.declared.events.Aim.{Aim}
 use Rattle.gui_base.specs.declared.events.Aim.TheVariants.{Target, Object as Named}
 use Rattle.gui_base.specs.declared.events.EventKind.{EventKind}
 use Rattle.gui_base.specs.declared.intervals.TheConstants.{HANDLE, GROUP, VALUE}
+use Rattle.gui_base.specs.declared.intervals.TheConstants.{DEVICE_GROUP, COORDINATE, TURN, TICK}
 use Rattle.gui_base.specs.declared.limits.Pool.{Pool}
 use Rattle.gui_base.specs.declared.limits.Pool.TheVariants.{Handlers, Groups}
 use Rattle.gui_base.specs.declared.refusal.Refusal.{Refusal}
 use Rattle.gui_base.specs.declared.refusal.Refusal.TheVariants.{Range, Full}
 use Rattle.play_defs.specs.Focus.{has_group, group_of, with_group}
 use Rattle.play_defs.specs.Handlers.{with_handler, without_kind}
+use Rattle.play_defs.specs.declared.EncoderReading.TheVariants.{Turn, Push}
+use Rattle.play_defs.specs.declared.PointerReading.{PointerReading}
 use Rattle.scene_defs.specs.Change.{answer_of}
 use Rattle.scene_defs.specs.Ranges.{is_in_range}
 use Rattle.scene_defs.specs.Scene.{handles_of}
@@ -27,11 +30,13 @@ use Rattle.run_defs.specs.declared.Command.{Command}
 use Rattle.run_defs.specs.declared.Command.TheVariants as ask
 use Rattle.run_defs.specs.declared.Reply.{Reply}
 use Rattle.run_defs.specs.declared.Reply.TheVariants.{Ok as Fine, Refused}
+use Rattle.run_defs.specs.Devices.{feed_pointer, feed_keypad, feed_encoder}
 use Rattle.run_defs.specs.Events.{send}
 use Rattle.run_defs.specs.Focusing.{join, leave, focus}
 use Rattle.run_defs.specs.Machine.{Machine}
 use Rattle.run_defs.specs.Making.{made, with_groups}
 use Rattle.run_defs.specs.Play.{Play, Rule, with}
+use Rattle.run_defs.specs.Ticks.{tick}
 
 -- the machine after it, the changes of the scene that it made in order, what its events write into the log,
 -- and the reply
@@ -68,6 +73,14 @@ is_command_in_range (ask.Group id) = is_counted GROUP id
 is_command_in_range (ask.Join id h) = is_counted GROUP id && is_counted HANDLE h.0
 is_command_in_range (ask.Leave h) = is_counted HANDLE h.0
 is_command_in_range (ask.Focus h) = is_counted HANDLE h.0
+is_command_in_range (ask.Keypad id) = is_counted DEVICE_GROUP id
+is_command_in_range (ask.Encoder id) = is_counted DEVICE_GROUP id
+is_command_in_range (ask.Touch x y) = is_within COORDINATE x && is_within COORDINATE y
+is_command_in_range ask.Release = true
+is_command_in_range (ask.Key key down) = true
+is_command_in_range (ask.Turn n) = is_within TURN n
+is_command_in_range (ask.Push down) = true
+is_command_in_range (ask.Tick ms) = is_counted TICK ms
 
 -- Refusals.
 
@@ -76,6 +89,10 @@ gone machine h = absent (handles_of machine.scene.trees) h.0
 
 abbrev pub ungrouped : Machine → Handle → Test
 ungrouped machine h = (not (is_some (group_of machine.groups h)), Place)
+
+-- a group of a device that is not there; 0 is none
+abbrev pub no_such_group : Machine → ℕ → Test
+no_such_group machine id = (not (id == 0) && not (has_group machine.groups id), Unknown)
 
 -- the tests of a command, in order: what is asked whatever room there is
 abbrev pub tests_of : Machine → Command → List Test
@@ -91,6 +108,9 @@ tests_of machine (ask.Join id h) =
     ∷ []
 tests_of machine (ask.Leave h) = gone machine h ∷ ungrouped machine h ∷ []
 tests_of machine (ask.Focus h) = gone machine h ∷ ungrouped machine h ∷ []
+tests_of machine (ask.Keypad id) = no_such_group machine id ∷ []
+tests_of machine (ask.Encoder id) = no_such_group machine id ∷ []
+tests_of machine command = []
 
 -- a pool with as many in use as it has slots is full
 abbrev pub full_by : ℕ → ℕ → Pool → Option Refusal
@@ -119,6 +139,19 @@ handler_added h kind action machine =
 abbrev pub handlers_dropped : Handle → EventKind → Machine → Machine
 handlers_dropped h kind machine = record machine { handlers = without_kind machine.handlers h.0 kind }
 
+abbrev pub keypad_in : ℕ → Machine → Machine
+keypad_in id machine = record machine { keypad_group = id }
+
+abbrev pub encoder_in : ℕ → Machine → Machine
+encoder_in id machine = record machine { encoder_group = id }
+
+-- what a pointer reads that is down at a point, and that is up
+abbrev pub down_at : ℤ → ℤ → PointerReading
+down_at x y = record { x = x; y = y; down = true }
+
+abbrev pub lifted : PointerReading
+lifted = record { x = pos 0; y = pos 0; down = false }
+
 -- the rule of a command that is done
 abbrev pub rule_of : Command → Rule
 rule_of (ask.Change change) = made change
@@ -129,6 +162,14 @@ rule_of (ask.Group id) = with_groups (λ groups. with_group groups id)
 rule_of (ask.Join id h) = join id h
 rule_of (ask.Leave h) = leave h
 rule_of (ask.Focus h) = focus h
+rule_of (ask.Keypad id) = with (keypad_in id)
+rule_of (ask.Encoder id) = with (encoder_in id)
+rule_of (ask.Touch x y) = feed_pointer (Some (down_at x y))
+rule_of ask.Release = feed_pointer (Some lifted)
+rule_of (ask.Key key down) = feed_keypad (Some (record { key = key; down = down }))
+rule_of (ask.Turn n) = feed_encoder (Some (Turn n))
+rule_of (ask.Push down) = feed_encoder (Some (Push down))
+rule_of (ask.Tick ms) = tick ms
 
 abbrev pub done : Play → Step
 done play = record {

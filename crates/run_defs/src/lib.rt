@@ -3,6 +3,7 @@
 #![tactic(auto)]
 
 ghost use Rattle.std.specs.Prelude.{◌≡◌};
+ghost use Rattle.run_defs.specs.DeviceExamples.{DevicesAreWorked};
 ghost use Rattle.run_defs.specs.Examples.{StepsAreWorked};
 ghost use Rattle.run_defs.specs.Laws.{ShowsOutcomes, SaysInRange, NoStandIn, FaultStays, ReturnSaysNothing};
 ghost use Rattle.run_defs.specs.Laws.{SameWordsSaySame, StepsChangeTheScene, StepsAsk, RefusedStepIsNone};
@@ -10,9 +11,10 @@ ghost use Rattle.run_defs.specs.Laws.{SameWordsSaySame, StepsChangeTheScene, Ste
 mod names;
 mod refusals;
 
-use gui_base::{Action, EventKind, Handle, Refusal};
+use gui_base::{Action, EventKind, Handle, Key, Refusal};
 pub use names::{
-    ACTIONS, ActionName, AssetName, COMMANDS, Name, PlayName, RowName, StyleName, TreeName,
+    ACTIONS, ActionName, AssetName, COMMANDS, DeviceName, Name, PlayName, RowName, StyleName,
+    TreeName,
 };
 pub use refusals::why;
 use scene_defs::Change;
@@ -37,6 +39,31 @@ pub enum Command<'a> {
     Leave(Handle),
     /// Gives an object the focus of its group.
     Focus(Handle),
+    /// The group of the keypad, 0 for none.
+    Keypad(u8),
+    /// The group of the encoder, 0 for none.
+    Encoder(u8),
+    /// The pointer is down at this x and y, in pixels.
+    Touch(i32, i32),
+    /// The pointer goes up.
+    Release,
+    /// A key goes down, or up.
+    Key(Key, bool),
+    /// The encoder turns by so many steps, backwards below 0.
+    Turn(i8),
+    /// The encoder's button goes down, or up.
+    Push(bool),
+    /// So many milliseconds pass.
+    Tick(u16),
+}
+
+/// What of an object an input may set, so that value_changed tells of it.
+#[derive(Clone, Copy, Debug, PartialEq, Eq)]
+pub struct Setting {
+    /// The value of a bar or a slider, and 0 of any other object.
+    pub value: i32,
+    /// Whether it is checked.
+    pub checked: bool,
 }
 
 /// The reply of the machine to a command.
@@ -140,4 +167,9 @@ pub fn steps_make_changes()
 /// Commands on events and groups that were worked out by hand.
 pub fn worked_steps()
     ensures { StepsAreWorked }
+{}
+
+/// Commands on input devices that were worked out by hand.
+pub fn worked_devices()
+    ensures { DevicesAreWorked }
 {}

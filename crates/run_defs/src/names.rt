@@ -64,6 +64,19 @@ pub enum PlayName {
     Focus,
 }
 
+/// A command on input devices, or the time.
+#[derive(Clone, Copy)]
+pub enum DeviceName {
+    Keypad,
+    Encoder,
+    Touch,
+    Release,
+    Key,
+    Turn,
+    Push,
+    Tick,
+}
+
 /// What a handler does.
 #[derive(Clone, Copy)]
 pub enum ActionName {
@@ -98,10 +111,11 @@ pub enum Name {
     Style(StyleName),
     Asset(AssetName),
     Play(PlayName),
+    Device(DeviceName),
 }
 
 /// The names of all commands.
-pub const COMMANDS: [(&'static str, Name); 40] = [
+pub const COMMANDS: [(&'static str, Name); 48] = [
     ("frame", Name::Frame),
     ("screen", Name::Tree(TreeName::Screen)),
     ("new", Name::Tree(TreeName::New)),
@@ -142,4 +156,12 @@ pub const COMMANDS: [(&'static str, Name); 40] = [
     ("join", Name::Play(PlayName::Join)),
     ("leave", Name::Play(PlayName::Leave)),
     ("focus", Name::Play(PlayName::Focus)),
+    ("keypad", Name::Device(DeviceName::Keypad)),
+    ("encoder", Name::Device(DeviceName::Encoder)),
+    ("touch", Name::Device(DeviceName::Touch)),
+    ("release", Name::Device(DeviceName::Release)),
+    ("key", Name::Device(DeviceName::Key)),
+    ("turn", Name::Device(DeviceName::Turn)),
+    ("push", Name::Device(DeviceName::Push)),
+    ("tick", Name::Device(DeviceName::Tick)),
 ];

@@ -14,7 +14,7 @@ use Rattle.gui_base.specs.declared.words.State.{State}
 use Rattle.gui_base.specs.declared.words.State.TheVariants.{Focused, FocusKey, Edited}
 use Rattle.gui_base.specs.Forest.{preorder}
 use Rattle.gui_base.proofs.Forests.{map-size}
-use Rattle.play_defs.specs.Focus.{Groups, group_at, group_of, focused_in, is_object, put_some, with_focused, with_released, released_by, joined, left}
+use Rattle.play_defs.specs.Focus.{Groups, group_at, group_of, focused_in, is_object, with_focused, with_released, released_by, joined, left}
 use Rattle.play_defs.specs.declared.Group.{Group}
 use Rattle.play_defs.specs.declared.Member.{Member}
 use Rattle.scene_defs.specs.declared.Change.{Change}
@@ -31,9 +31,10 @@ use Rattle.run_defs.specs.declared.Command.TheVariants as ask
 use Rattle.run_defs.specs.Events.{path, actions_at, asked, say, say_or_change, act, run_at, send, send_there}
 use Rattle.run_defs.specs.Focusing.{unfocus, refocus, focus_taken, hand_over, move_from, move_focus, has_focus, focus_by, focus, first_focus, join, leave}
 use Rattle.run_defs.specs.Machine.{Machine}
-use Rattle.run_defs.specs.Making.{make, make_by, put_state, is_same, is_in_state, with_groups, heir, pass_on, leave_from, leave_group, without_handlers, forget, handles, not_there, made, note, attempt, attempt_by}
+use Rattle.run_defs.specs.Making.{make, make_by, put_state, is_same, is_in_state, with_groups, heir, pass_on, leave_from, leave_group, without_handlers, without_targets, forget, handles, not_there, made, note, attempt, attempt_by}
 use Rattle.run_defs.specs.Play.{Rule, nothing, with, ◌⊳◌, ◌▷◌, each, aimed}
-use Rattle.run_defs.specs.Step.{answer, tests_of, is_command_in_range, rule_of, unless, step, IsCommand}
+use Rattle.run_defs.specs.Step.{down_at, lifted, answer, tests_of, is_command_in_range, rule_of, unless, step, IsCommand}
+use Rattle.run_defs.proofs.Inputs.{put-members, IsAside, IsClosed, good_feed_pointer, good_feed_keypad, good_feed_encoder, good_tick}
 use Rattle.run_laws.specs.Members.{member_handles, AreJoined, FirstAreJoined, StepsKeepMembers, OneMoreFits}
 use Rattle.run_laws.proofs.Counting.{among-append, among-filter, once-filter, no_more, preorder-length, preorder-has}
 use Rattle.run_laws.proofs.Scenes.{none-goes, others-stay}
@@ -50,11 +51,6 @@ in_none groups h none = no_member groups.members h (by (find (is_object h) group
   by : (found : Option Member) → option_map (λ (member : Member). member.group) found ≡ None → found ≡ None
   by None e = refl
   by (Some member) e = cc
-
--- a group in place of another leaves the members
-put-members : (groups : Groups) (group : Option Group) → (put_some groups group).members ≡ groups.members
-put-members groups None = refl
-put-members groups (Some group) = refl
 
 focused-members : (groups : Groups) (id : ℕ) (h : Option Handle) → (with_focused groups id h).members ≡ groups.members
 focused-members groups id h = put-members groups (option_map (λ (group : Group). record group { focused = h }) (group_at groups id))
@@ -166,7 +162,7 @@ module _ (hs : List ℕ) (h : Handle) where
 
   lets_forget : Lets (forget h)
   unfolding forget with ◌▷◌ ◌⊳◌
-  lets_forget m s = lets_group (without_handlers h m) (record { valid = s.valid; there = s.there; once = s.once })
+  lets_forget m s = lets_group (without_targets h (without_handlers h m)) (record { valid = s.valid; there = s.there; once = s.once })
 
 keeps_leave_group : (hs : List ℕ) (h : Handle) → Keeps hs (leave_group h)
 keeps_leave_group hs h m s = lets_group hs h m (record { valid = s.valid; there = λ k is. grind (arith, s.there k is); once = s.once })
@@ -290,6 +286,24 @@ join_stands id h m on none s =
       once = rw more (once-append members h.0 (in_none m.groups h none) s.once);
     })
 
+-- Input and time.
+
+keeps_aside : (f : Machine → Machine) → IsAside f → Keeps [] (with f)
+unfolding with
+keeps_aside f is m s = record { valid = rw (is.scene m) s.valid; there = rw (is.scene m, is.members m) s.there; once = rw (is.members m) s.once }
+
+keeps_closed : IsClosed (Keeps [])
+keeps_closed = record {
+  none = keeps_nothing [];
+  next = keeps_then [];
+  look = λ f h m. h m m;
+  aside = keeps_aside;
+  value = λ h n. keeps_make [] (change.Value h n) tt (λ scene k. refl);
+  put = keeps_put [];
+  sent = keeps_send;
+  moved = keeps_move;
+}
+
 -- Commands.
 
 -- an option that has no value
@@ -309,6 +323,14 @@ rule_stands (ask.Join id h) m c none s =
     join_stands id h m (not-false _ t.1.0) (is_none (group_of m.groups h) t.1.1.0) s
 rule_stands (ask.Leave h) m c none s = keeps_leave h m s
 rule_stands (ask.Focus h) m c none s = keeps_focus h m s
+rule_stands (ask.Keypad id) m c none s = record { valid = s.valid; there = s.there; once = s.once }
+rule_stands (ask.Encoder id) m c none s = record { valid = s.valid; there = s.there; once = s.once }
+rule_stands (ask.Touch x y) m c none s = good_feed_pointer (Keeps []) keeps_closed (Some (down_at x y)) m s
+rule_stands ask.Release m c none s = good_feed_pointer (Keeps []) keeps_closed (Some lifted) m s
+rule_stands (ask.Key key down) m c none s = good_feed_keypad (Keeps []) keeps_closed _ m s
+rule_stands (ask.Turn n) m c none s = good_feed_encoder (Keeps []) keeps_closed _ m s
+rule_stands (ask.Push down) m c none s = good_feed_encoder (Keeps []) keeps_closed _ m s
+rule_stands (ask.Tick ms) m c none s = good_tick (Keeps []) keeps_closed ms m s
 
 pub steps_keep_members : StepsKeepMembers
 unfolding step

@@ -1,2 +1,4 @@
+pub mod CornerSamples
+pub mod DeviceSamples
 pub mod Reference
 pub mod Samples

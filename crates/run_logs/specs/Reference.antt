@@ -1,4 +1,4 @@
--- Logs of scripts of events, groups and focus are those that a reference implementation gives.
+-- Logs of scripts of events, groups, focus and input devices are those that a reference implementation gives.
 use Rattle.std.specs.Prelude.{◌≡◌, ℕ, List, [], Some, replicate, option_map}
 use Rattle.std.specs.declared.option.Option.{Option}
 use Rattle.gui_base.specs.Limits.{Bounds}
@@ -9,6 +9,10 @@ use Rattle.run_defs.specs.Machine.{Machine, first_machine}
 use Rattle.run_defs.specs.Run.{entries, first_moment, told, log_text}
 use Rattle.run_defs.specs.Script.{Whole, says}
 use Rattle.run_defs.specs.Words.{limits_of}
+use Rattle.run_logs.specs.CornerSamples.{corner_1, corner_2, corner_3, corner_4, corner_5, corner_6}
+use Rattle.run_logs.specs.CornerSamples.{corner_7, corner_8, corner_9, corner_10, corner_11, corner_12}
+use Rattle.run_logs.specs.DeviceSamples.{device_1, device_2, device_3, device_4, device_5, device_6}
+use Rattle.run_logs.specs.DeviceSamples.{device_7, device_8, device_9, device_10, device_11, device_12}
 use Rattle.run_logs.specs.Samples.{Sample, opening, sample_1, sample_2, sample_3, sample_4, sample_5}
 use Rattle.run_logs.specs.Samples.{sample_6, sample_7, sample_8, sample_9, sample_10, sample_11, sample_12}
 
@@ -54,3 +58,33 @@ pub record ReferenceLogs : Type 0 where
 -- the first forty lines of the first script, from the first machine itself
 abbrev pub FirstReferenceLog : Type 0
 FirstReferenceLog = IsItsLog first_machine opening
+
+-- the same for the scripts of input devices
+pub record DeviceLogs : Type 0 where
+  pub devices_1 : IsItsLog small_machine device_1
+  pub devices_2 : IsItsLog small_machine device_2
+  pub devices_3 : IsItsLog small_machine device_3
+  pub devices_4 : IsItsLog small_machine device_4
+  pub devices_5 : IsItsLog small_machine device_5
+  pub devices_6 : IsItsLog small_machine device_6
+  pub devices_7 : IsItsLog small_machine device_7
+  pub devices_8 : IsItsLog small_machine device_8
+  pub devices_9 : IsItsLog small_machine device_9
+  pub devices_10 : IsItsLog small_machine device_10
+  pub devices_11 : IsItsLog small_machine device_11
+  pub devices_12 : IsItsLog small_machine device_12
+
+-- and for those at the corners of their rules
+pub record CornerLogs : Type 0 where
+  pub corners_1 : IsItsLog small_machine corner_1
+  pub corners_2 : IsItsLog small_machine corner_2
+  pub corners_3 : IsItsLog small_machine corner_3
+  pub corners_4 : IsItsLog small_machine corner_4
+  pub corners_5 : IsItsLog small_machine corner_5
+  pub corners_6 : IsItsLog small_machine corner_6
+  pub corners_7 : IsItsLog small_machine corner_7
+  pub corners_8 : IsItsLog small_machine corner_8
+  pub corners_9 : IsItsLog small_machine corner_9
+  pub corners_10 : IsItsLog small_machine corner_10
+  pub corners_11 : IsItsLog small_machine corner_11
+  pub corners_12 : IsItsLog small_machine corner_12

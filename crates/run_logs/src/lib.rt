@@ -1,13 +1,17 @@
-//! Scripts of events, groups and focus with the logs that a reference implementation gives. There is no code
-//! here.
+//! Scripts of events, groups, focus and input devices with the logs that a reference implementation gives.
+//! There is no code here.
 #![tactic(auto)]
 
 ghost use Rattle.run_logs.specs.Reference.{ReferenceLogs, FirstReferenceLog};
+ghost use Rattle.run_logs.specs.Reference.{DeviceLogs, CornerLogs};
 
-/// Twelve scripts of a hundred lines have the logs that a reference implementation gives, by the definitions
-/// of the language, of a step and of a run. They begin with lists for few handles, so that a log is quickly
-/// worked out; forty lines begin from the first machine itself.
+/// Twelve scripts of a hundred lines, twelve more of input devices, and twelve at the corners of their rules
+/// have the logs that a reference implementation gives, by the definitions of the language, of a step and of
+/// a run. They begin with lists for few handles, so that a log is quickly worked out; forty lines begin from
+/// the first machine itself.
 pub fn reference_logs()
     ensures logs { ReferenceLogs }
+    ensures devices { DeviceLogs }
+    ensures corners { CornerLogs }
     ensures first { FirstReferenceLog }
 {}

@@ -5,6 +5,7 @@ ghost use Rattle.run_defs.specs.Commands.{line_fields, command_says};
 ghost use Rattle.run_defs.specs.Language.{words_of};
 
 use crate::actions::play_command;
+use crate::devices::device_command;
 use crate::fields::Fields;
 use gui_base::intervals::{
     ADVANCE, COORDINATE, FONT, FONT_HEIGHT, GLYPH_HEIGHT, GLYPH_WIDTH, GROW, IMAGE, IMAGE_ROW,
@@ -42,6 +43,7 @@ fn line<'a>(name: Name, fields: &mut Fields<'a>) -> Line<'a>
         Name::Style(name) => Line::Make(Command::Change(style_change(name, fields))),
         Name::Asset(name) => Line::Make(Command::Change(asset_change(name, fields))),
         Name::Play(name) => Line::Make(play_command(name, fields)),
+        Name::Device(name) => Line::Make(device_command(name, fields)),
     }
 }
 

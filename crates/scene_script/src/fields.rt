@@ -3,7 +3,7 @@ ghost use Rattle.std.specs.Prelude.{◌≡◌, ◌<◌};
 ghost use Rattle.gui_base.specs.Names.{slice};
 ghost use Rattle.run_defs.specs.Commands.{handle, new_handle, extent, align, flow, state};
 ghost use Rattle.run_defs.specs.Commands.{selector, property, code, glyph_offset, bytes, text};
-ghost use Rattle.run_defs.specs.Commands.{range_low, range_high, event, aim, action_name};
+ghost use Rattle.run_defs.specs.Commands.{range_low, range_high, event, aim, action_name, key, steps};
 ghost use Rattle.run_defs.specs.Commands.{color_value, align_value, value_for};
 ghost use Rattle.run_defs.specs.Fields.{number_in, count_in, name_in, value, past, value_or, with_fault};
 ghost use Rattle.run_defs.specs.Fields.{next_of, after_next, fields, start, ended};
@@ -15,12 +15,12 @@ use crate::numbers::{bytes, code, color, count, number, number_above, offset, sm
 use crate::selectors::selector;
 use crate::texts::text;
 use crate::words::next_word;
-use gui_base::events::EVENTS;
-use gui_base::intervals::{Count, GLYPH_OFFSET, HANDLE, Interval, NEW_HANDLE, VALUE};
+use gui_base::events::{EVENTS, KEYS};
+use gui_base::intervals::{Count, GLYPH_OFFSET, HANDLE, Interval, NEW_HANDLE, TURN, VALUE};
 use gui_base::props::PROPS;
 use gui_base::words::{ALIGNS, FLOWS, STATES, TEXT_ALIGNS};
 use gui_base::{
-    Aim, Align, EventKind, Flow, Handle, Length, Part, Prop, Selector, State, TextAlign, named,
+    Aim, Align, EventKind, Flow, Handle, Key, Length, Part, Prop, Selector, State, TextAlign, named,
 };
 use run_defs::{ACTIONS, ActionName, Line, LineFault};
 use scene_defs::{Rows, Text};
@@ -230,6 +230,25 @@ impl<'a> Fields<'a> {
         ensures state { self.new ≡ past event self.old }
     {
         self.name(&EVENTS, EventKind::Pressed)
+    }
+
+    /// A key of the keypad.
+    #[tactic(auto, unfolding(run_defs::specs::Commands::key))]
+    pub(crate) fn key(&mut self) -> Key
+        ensures value { result ≡ value key self.old }
+        ensures state { self.new ≡ past key self.old }
+    {
+        self.name(&KEYS, Key::Up)
+    }
+
+    /// How many steps the encoder turns, backwards below 0.
+    #[tactic(auto, unfolding(run_defs::specs::Fields::value, run_defs::specs::Fields::past))]
+    pub(crate) fn steps(&mut self) -> i8
+        ensures value { result ≡ value steps self.old }
+        ensures state { self.new ≡ past steps self.old }
+    {
+        let word = self.word();
+        self.note(offset(word, TURN), -100)
     }
 
     /// What an action does.

@@ -5,6 +5,7 @@ mod actions;
 mod aims;
 mod commands;
 mod cutter;
+mod devices;
 mod fields;
 mod lengths;
 mod numbers;

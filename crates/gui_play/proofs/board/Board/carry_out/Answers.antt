@@ -11,3 +11,9 @@ returns-in-Group g c = rw c.in-Group.is (c.add_group.ensures (g.S.Sink.state c.a
 
 pub returns-in-Leave : goal.returns-in-Leave
 returns-in-Leave g c = rw c.in-Leave.is (c.leave.ensures (g.S.Sink.state c.args.log.now))
+
+pub returns-in-Keypad : goal.returns-in-Keypad
+returns-in-Keypad g c = rw c.in-Keypad.is (c.set_keypad_group.ensures (g.S.Sink.state c.args.log.now))
+
+pub returns-in-Encoder : goal.returns-in-Encoder
+returns-in-Encoder g c = rw c.in-Encoder.is (c.set_encoder_group.ensures (g.S.Sink.state c.args.log.now))

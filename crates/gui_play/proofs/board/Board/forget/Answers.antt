@@ -1,14 +1,8 @@
-use Rattle.std.proofs.Common.{ap, refl}
-use Rattle.gui_event.specs.Handlers.{Handlers}
-use Rattle.run_defs.specs.Making.{without_handlers}
-use Rattle.gui_play.specs.Boards.{machine_of, stage}
-use Rattle.gui_play.proofs.Boards.{played_with}
-use Rattle.gui_play.proofs.Groups.{forgot}
-use Rattle.gui_play.proofs.Writes.{writes_nothing}
+use Rattle.run_defs.specs.Making.{forget}
+use Rattle.gui_play.proofs.Plays.{played_then}
 use Rattle.gui_play.proofs.board.Board.forget.Goals as goal
 
 pub returns-clause-done : goal.returns-clause-done
+unfolding forget
 returns-clause-done c = λ log.
-    let now = c.args.self.now in
-    forgot (stage now log) _ _ c.args.h (c.leave_group.ensures.done log)
-    (played_with _ _ (without_handlers c.args.h) (ap (λ (s : Handlers). record (machine_of now) { handlers = s.lists }) c.forget.ensures) refl refl (writes_nothing now.scribe.cut log) refl)
+    played_then _ _ _ _ _ (played_then _ _ _ _ _ (c.forget_handlers.ensures.done log) (c.forget_targets.ensures.done log)) (c.leave_group.ensures.done log)

@@ -1,4 +1,4 @@
-use Rattle.std.proofs.Common.{◌∙◌, ap, ℕ, List}
+use Rattle.std.proofs.Common.{◌∙◌, ap}
 use Rattle.run_defs.specs.Making.{handles}
 use Rattle.gui_play.proofs.Handled.{sends_start, sends_next, sends_end}
 use Rattle.gui_play.proofs.board.Board.send.Goals as goal

@@ -2,7 +2,7 @@ use Rattle.std.proofs.Common.{◌∙◌, ap, false}
 use Rattle.gui_event.specs.Groups.{FocusGroups, with_editing}
 use Rattle.run_defs.specs.Focusing.{focus_taken}
 use Rattle.gui_play.specs.Boards.{stage}
-use Rattle.gui_play.proofs.Regrouped.{played_groups, regrouped}
+use Rattle.gui_play.proofs.Regrouped.{played_groups}
 use Rattle.gui_play.proofs.board.Board.take_focus.Goals as goal
 
 pub returns : goal.returns

@@ -1,5 +1,5 @@
 -- What each change of a book keeps, takes and frees.
-use Rattle.std.proofs.Common.{◌≡◌, ◌≢◌, ◌≤◌, ◌<◌, ◌∙◌, refl, sym, ap, ℕ, ◌+◌, Bool, true, false, is_some, List, [], ◌∷◌, ◌++◌, length, map, sum_by, fold, ℤ, Some, None, inl, inr, arith, eqb, subst, length-append, length-set}
+use Rattle.std.proofs.Common.{◌≡◌, ◌≤◌, ◌<◌, ◌∙◌, refl, ℕ, ◌+◌, Bool, true, false, is_some, List, [], ◌∷◌, ◌++◌, length, map, sum_by, inl, inr, arith, eqb, subst, length-append, length-set}
 use Rattle.std.specs.Prelude.{if◌then◌else◌, slice_set, slice_index_or}
 use Rattle.std.specs.List.{All, list_any}
 use Rattle.std.proofs.lemmas.Bool.{cases_Bool, cases_lt, eqb-true, eqb-false}
@@ -10,7 +10,7 @@ use Rattle.gui_base.specs.declared.words.Selector.{Selector}
 use Rattle.style_defs.specs.declared.Entry.{Entry}
 use Rattle.style_defs.specs.declared.Setting.{Setting}
 use Rattle.style_defs.specs.declared.Use.{Use}
-use Rattle.style_defs.specs.Book.{Book, locals_of, uses_of, entries_in, uses_in, inserted, with_settings, has_setting, with_style, with_prop, without_prop, with_use, without_use, with_local, without_local, forgotten, all_forgotten, is_for, is_use, has_use, has_local}
+use Rattle.style_defs.specs.Book.{Book, locals_of, uses_of, entries_in, uses_in, with_settings, has_setting, with_style, with_prop, without_prop, with_use, without_use, with_local, without_local, forgotten, all_forgotten, is_for, is_use, has_use, has_local}
 use Rattle.style_defs.specs.Cascade.{Style, has_style, sets, settings_of, selector_of}
 use Rattle.style_defs.specs.Firsts.{first_by, put_by, drop_by}
 use Rattle.style_defs.specs.InOrder.{IsBook, IsBare, IsSetting, IsEntry}

@@ -1,14 +1,12 @@
 -- How many slots of a book are in use after a change.
-use Rattle.std.proofs.Common.{◌≡◌, ◌∙◌, refl, sym, ap, ℕ, ◌+◌, ◌<◌, Bool, true, false, if◌then◌else◌, is_some, List, [], ◌∷◌, ◌++◌, length, map, sum_by, Option, Some, None, ℤ, inl, inr, arith}
-use Rattle.std.specs.Prelude.{◌&&◌, slice_set, slice_index_or, nat_lt, ◌==◌}
+use Rattle.std.proofs.Common.{◌≡◌, refl, ap, ℕ, ◌+◌, ◌<◌, Bool, true, false, if◌then◌else◌, is_some, List, [], ◌∷◌, length, map, sum_by, inl, inr, arith}
+use Rattle.std.specs.Prelude.{slice_set, slice_index_or, nat_lt}
 use Rattle.std.specs.List.{list_all}
 use Rattle.std.proofs.lemmas.Bool.{cases_Bool}
 use Rattle.std.proofs.lemmas.Bool.Decides.{nat_tests}
 use Rattle.std.proofs.lemmas.List.Sums.{sum_by-set, sum_by-cons}
-use Rattle.style_defs.specs.declared.Entry.{Entry}
 use Rattle.style_defs.specs.declared.Setting.{Setting}
-use Rattle.style_defs.specs.declared.Use.{Use}
-use Rattle.style_defs.specs.Book.{Book, inserted, with_settings, settings_count}
+use Rattle.style_defs.specs.Book.{inserted, with_settings, settings_count}
 use Rattle.style_defs.specs.Cascade.{Style, is_numbered, has_style, settings_of}
 use Rattle.style_defs.specs.Firsts.{first_by, put_by, drop_by}
 use Rattle.style_defs.specs.InOrder.{comes_before, are_ordered}

@@ -1,6 +1,6 @@
 -- A book stays in order.
-use Rattle.std.proofs.Common.{◌≡◌, ◌∙◌, refl, ℕ, ◌<◌, Bool, true, false, List, [], ◌∷◌, length, map, inl, inr, arith, length-set}
-use Rattle.std.specs.Prelude.{◌&&◌, nat_lt, slice_set, if◌then◌else◌}
+use Rattle.std.proofs.Common.{◌≡◌, ◌∙◌, refl, ℕ, Bool, true, false, List, [], ◌∷◌, map, inl, inr, arith, length-set}
+use Rattle.std.specs.Prelude.{nat_lt, slice_set, if◌then◌else◌}
 use Rattle.std.specs.List.{All, list_all}
 use Rattle.std.proofs.lemmas.Bool.{cases_Bool}
 use Rattle.std.proofs.lemmas.Bool.Decides.{nat_tests}

@@ -2,14 +2,12 @@
 use Rattle.std.specs.Prelude.{ℕ, ◌+◌, ℤ, Bool, ◌&&◌, ◌==◌, nat_lt, if◌then◌else◌}
 use Rattle.std.specs.Prelude.{List, [], ◌∷◌, ◌++◌, map, fold, is_some, length, replicate, sum_by}
 use Rattle.std.specs.Prelude.{slice_index_or, slice_set}
-use Rattle.std.specs.declared.option.Option.{Option}
-use Rattle.gui_base.specs.declared.words.Part.{Part}
 use Rattle.gui_base.specs.declared.props.Prop.{Prop}
 use Rattle.gui_base.specs.declared.words.Selector.{Selector}
 use Rattle.style_defs.specs.declared.Entry.{Entry}
 use Rattle.style_defs.specs.declared.Setting.{Setting}
 use Rattle.style_defs.specs.declared.Use.{Use}
-use Rattle.style_defs.specs.Cascade.{Style, is_numbered, has_style, sets, settings_of, selector_of}
+use Rattle.style_defs.specs.Cascade.{Style, is_numbered, sets, settings_of, selector_of}
 use Rattle.style_defs.specs.Firsts.{first_by, put_by, drop_by}
 use Rattle.gui_base.specs.Words.{same_prop, same_selector}
 

@@ -1,4 +1,4 @@
--- Whether an object lies below another: whether the walk up from it meets that.
+-- Whether an object lies below another, or below a user of a style: whether the walk up from it meets one.
 use Rattle.std.proofs.Common.{◌≡◌, ◌∙◌, sym, ap, subst, refl, ℕ, ◌+◌, ◌<◌, ◌≤◌, Bool, true, false, eqb, ◌||◌, List, [], ◌∷◌, map, length, Option, Some, None, is_some, option_map, arith, inl, inr}
 use Rattle.std.specs.List.{list_any}
 use Rattle.std.proofs.lemmas.Bool.{cases_Bool, false≢true}
@@ -19,12 +19,13 @@ use Rattle.scene_defs.specs.Styling.{Styling}
 use Rattle.debt_defs.specs.Concerns.{lies_in}
 use Rattle.debt_defs.specs.Look.{is_among}
 use Rattle.debt_defs.specs.Orders.{sets_text, leaves_trees}
-use Rattle.gui_change.specs.Concerned.{is_below}
+use Rattle.gui_style.specs.Styles.{uses_style}
+use Rattle.gui_change.specs.Concerned.{is_below, is_below_user}
 
--- whether the walk up meets h from here on
-abbrev pub meets_from : Forest ℕ → ℕ → Option Handle → Bool
-meets_from f h None = false
-meets_from f h (Some k) = eqb k.0 h || is_among (path_of f k.0) h
+-- whether the walk up meets what passes a test from here on
+abbrev pub meets_from : Forest ℕ → (ℕ → Bool) → Option Handle → Bool
+meets_from f test None = false
+meets_from f test (Some k) = test k.0 || list_any test (path_of f k.0)
 
 -- how many steps are left
 abbrev pub steps_from : Forest ℕ → Option Handle → ℕ
@@ -41,39 +42,51 @@ parent-gone Empty k above off = refl
 parent-gone (Tree j cs rest) k above off = grind (arith, nat_tests, parent-gone rest k above)
 
 -- one step up from k
-pub record Climbs (f : Forest ℕ) (h : ℕ) (k : Handle) (next : Option Handle) : Type 0 where
-  pub met : eqb k.0 h ≡ false → meets_from f h (Some k) ≡ meets_from f h next
+pub record Climbs (f : Forest ℕ) (test : ℕ → Bool) (k : Handle) (next : Option Handle) : Type 0 where
+  pub met : test k.0 ≡ false → meets_from f test (Some k) ≡ meets_from f test next
   pub fewer : steps_from f next < steps_from f (Some k)
 
-rest-met : (f : Forest ℕ) (h : ℕ) (next : Option Handle) → StandsOnce f → IsThere f next → is_among (rest_at f next) h ≡ meets_from f h next
-rest-met f h None once there = refl
-rest-met f h (Some k) once there = grind (arith, nat_tests, (goes_up f k.0 once there).path)
+rest-met : (f : Forest ℕ) (test : ℕ → Bool) (next : Option Handle) → StandsOnce f → IsThere f next → list_any test (rest_at f next) ≡ meets_from f test next
+rest-met f test None once there = refl
+rest-met f test (Some k) once there =
+    let u = goes_up f k.0 once there in
+    elim (cases_Bool (test k.0)) [
+      | inl is ↦ rw (u.path, is) refl
+      | inr isnt ↦ rw (u.path, isnt) refl
+    ]
 
 rest-steps : (f : Forest ℕ) (next : Option Handle) → steps_from f next ≤ length (rest_at f next) + 1
 rest-steps f None = omega arith
 rest-steps f (Some k) = omega arith
 
-pub climbs : (f : Forest ℕ) (h : ℕ) (k : Handle) (next : Option Handle) → StandsOnce f → next ≡ option_map as_handle (parent_of f k.0) → Climbs f h k next
-climbs f h k next once up = elim (cases_Bool (has f k.0)) [
+pub climbs : (f : Forest ℕ) (test : ℕ → Bool) (k : Handle) (next : Option Handle) → StandsOnce f → next ≡ option_map as_handle (parent_of f k.0) → Climbs f test k next
+climbs f test k next once up = elim (cases_Bool (has f k.0)) [
   | inl there ↦
       let u = subst (GoesUp f k.0) (sym up) (goes_up f k.0 once there) in
-      record { met = λ off. rw (off, u.path) (rw off (rest-met f h next once u.there)); fewer = omega (arith, ap (λ (hs : List ℕ). length hs) u.path, rest-steps f next) }
+      record { met = λ off. rw (off, u.path) (rw off (rest-met f test next once u.there)); fewer = omega (arith, ap (λ (hs : List ℕ). length hs) u.path, rest-steps f next) }
   | inr gone ↦
       let none : next ≡ None = up ∙ ap (option_map as_handle) (parent-gone f k.0 None gone) in
       record { met = λ off. rw (none, off, path-gone f k.0 [] gone) refl; fewer = rw none (omega arith) }
 ]
 
 -- A path as handles.
-any-among : (h : ℕ) (objects : List Object) → list_any (is_at h) objects ≡ is_among (map handle_of objects) h
-any-among h [] = refl
-any-among h (object ∷ objects) = rw (any-among h objects) refl
+any-handle : (test : ℕ → Bool) (objects : List Object) → list_any (λ (object : Object). test object.handle) objects ≡ list_any test (map handle_of objects)
+any-handle test [] = refl
+any-handle test (object ∷ objects) = rw (any-handle test objects) refl
+
+any-above : (scene : Scene) (test : ℕ → Bool) (k : ℕ) → list_any (λ (object : Object). test object.handle) (path_at scene k) ≡ list_any test (path_of (handles_of scene.trees) k)
+any-above scene test k = any-handle test (path_at scene k) ∙ ap (list_any test) (map-path_by handle_of (λ j. eqb j k) [] scene.trees)
 
 lies-among : (scene : Scene) (h k : ℕ) → lies_in scene h k ≡ is_among (path_of (handles_of scene.trees) k) h
-lies-among scene h k = any-among h (path_at scene k) ∙ ap (λ (ks : List ℕ). is_among ks h) (map-path_by handle_of (λ j. eqb j k) [] scene.trees)
+lies-among scene h k = any-above scene (λ j. eqb j h) k
 
 -- it lies below what the walk meets
-pub below_met : (scene : Scene) (h : ℕ) (k : Handle) → meets_from (handles_of scene.trees) h (Some k) ≡ is_below scene h k.0
+pub below_met : (scene : Scene) (h : ℕ) (k : Handle) → meets_from (handles_of scene.trees) (λ j. eqb j h) (Some k) ≡ is_below scene h k.0
 below_met scene h k = ap (λ (b : Bool). eqb k.0 h || b) (sym (lies-among scene h k.0))
+
+-- it lies below a user that the walk meets
+pub user_met : (scene : Scene) (number : ℕ) (k : Handle) → meets_from (handles_of scene.trees) (λ j. uses_style scene.book j number) (Some k) ≡ is_below_user scene number k.0
+user_met scene number k = ap (λ (b : Bool). uses_style scene.book k.0 number || b) (sym (any-above scene (λ j. uses_style scene.book j number) k.0))
 
 -- Changes that leave the trees leave what lies below an object.
 set-handles : (h : ℕ) (f : Object → Object) → ((object : Object) → (f object).handle ≡ object.handle) → (g : Forest Object) →

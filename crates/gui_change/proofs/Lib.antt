@@ -4,6 +4,7 @@ pub mod Covering
 pub mod Listing
 pub mod Orders
 pub mod Owing
+pub mod Parents
 pub mod Sighted
 pub mod Sparing
 pub mod Trees

@@ -6,7 +6,7 @@ use Rattle.widget_defs.specs.Items.{Item}
 use Rattle.widget_defs.specs.Items as widget
 use Rattle.widget_defs.specs.Looks.{Look as Widget}
 use Rattle.scene_defs.specs.declared.Change.{Change}
-use Rattle.scene_defs.specs.Change.{changed}
+use Rattle.scene_defs.specs.Change.{answer_of, changed}
 use Rattle.scene_defs.specs.Items.{items, items_of as items_in}
 use Rattle.scene_defs.specs.Looks.{look_of}
 use Rattle.scene_defs.specs.Place.{place}
@@ -52,8 +52,8 @@ keeps before after h s is same there =
     ∙ (stands (look_at before h) (place before h) (place after h) at
     ∙ (ap (λ (l : Option Widget). painted l (place after h)) (sym (look-same before after h same)) ∙ sym (painted-is after (object_at after h) (place after h))))
 
--- what was seen before a change keeps for others after it
-pub others_keep : (scene : Scene) (change : Change) (concerned : Concerned) (table : Table Seen) → IsValid scene → IsChange change → Covers concerned change →
-    AreSeen table scene → KeepOthers table concerned (changed scene change)
-others_keep scene change concerned table valid plain covers seen h s off found =
-    keeps scene (changed scene change) h s (seen h s found) (others_are_same scene change h valid plain (covers scene h off))
+-- what was seen before a change that is done keeps for others after it
+pub others_keep : (scene : Scene) (change : Change) (concerned : Concerned) (table : Table Seen) → IsValid scene → IsChange change → answer_of scene change ≡ None →
+    Covers concerned scene change → AreSeen table scene → KeepOthers table concerned (changed scene change)
+others_keep scene change concerned table valid plain done covers seen h s there off found =
+    keeps scene (changed scene change) h s (seen h s found) (others_are_same scene change h valid plain (covers done h there off))

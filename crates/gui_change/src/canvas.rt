@@ -80,10 +80,10 @@ impl Canvas {
         // Lending the areas tells that the list is sound, and lending the tree that the scene is in order.
         let _areas = damage.areas();
         let _tree = self.store.tree();
+        let concerned = concerned_by(&self.store, change);
         match self.store.apply(change) {
             Ok(()) => {
                 self.places.solve_all(&self.store);
-                let concerned = concerned_by(change);
                 self.spare
                     .take(&self.store, &self.places, &self.look, concerned);
                 owe_all(damage, named_by(change), &self.look, &self.spare);

@@ -1,8 +1,10 @@
 //! What is seen of a scene.
-ghost use Rattle.std.specs.Prelude.{◌≡◌, ◌≤◌, ◌<◌, ℕ, [], false, None, Some, IfOk, IfSome, length};
-ghost use Rattle.scene_defs.specs.Scene.{Scene};
+ghost use Rattle.std.specs.Prelude.{◌≡◌, ◌≤◌, ◌<◌, ℕ, [], true, false, None, IfOk, IfSome, length};
+ghost use Rattle.std.specs.Option.{option_map};
+ghost use Rattle.scene_defs.specs.Scene.{Scene, is_there};
 ghost use Rattle.scene_defs.specs.Valid.{IsValid};
 ghost use Rattle.gui_change.specs.Concerned.{may_be};
+ghost use Rattle.gui_change.specs.Seen.{KeepsItems};
 ghost use Rattle.gui_change.specs.Sights.{AreSeen, KeepOthers};
 ghost use Rattle.gui_pool.specs.Table.{value_at, value_inserted};
 ghost use Rattle.gui_tree.specs.Handles.{numbers};
@@ -45,15 +47,18 @@ fn put(table: &mut Table<Seen>, h: Handle, value: Seen)
     };
 }
 
-/// What is known of an object that a change does not concern.
+/// What is known of an object that is there, where a change does not concern it.
 fn known_of<'a>(
     known: &'a Table<Seen>,
     store: &Store,
     concerned: Concerned,
     h: Handle,
 ) -> Option<&'a Seen>
-    ensures other { IfSome result (λ s. may_be (scene_of store.now) concerned h.0 ≡ false) }
-    ensures known { IfSome result (λ s. value_at known.now h.0 ≡ Some s.now) }
+    requires there { is_there (scene_of store.now) h.0 ≡ true }
+    requires known { KeepOthers known.now concerned (scene_of store.now) }
+    ensures items { IfSome result (λ s. KeepsItems (scene_of store.now) h.0 s.now) }
+    ensures kept { may_be (scene_of store.now) concerned h.0 ≡ false →
+        option_map (λ s. s.now) result ≡ value_at known.now h.0 }
 {
     if concerned.may_be(store, h) {
         None

@@ -13,6 +13,7 @@ ghost use Rattle.scene_defs.specs.Change.{absent_image, unfinished_image};
 ghost use Rattle.scene_defs.specs.Texts.{is_text};
 ghost use Rattle.scene_defs.specs.Ranges.{is_in_range};
 ghost use Rattle.scene_defs.specs.Valid.{IsValid, IsChange, IsRow};
+ghost use Rattle.gui_style.specs.Styles.{uses_style};
 ghost use Rattle.gui_store.specs.Parts.{AreKept};
 ghost use Rattle.gui_store.specs.Removed.{removed_by};
 ghost use Rattle.gui_store.specs.Rows.{HaveRows, set_without, row_shown};
@@ -204,6 +205,13 @@ impl Store {
             Some(value) => value,
             None => default_in(row.kind, part, row.states, prop),
         }
+    }
+
+    /// Whether an object uses a style, for any selector.
+    pub fn uses_style(&self, h: Handle, id: u16) -> bool
+        ensures { result ≡ uses_style (scene_of self.now).book h.0 id }
+    {
+        self.styles.uses_style(h, id)
     }
 
     /// What wins for a part of an object that has this row, in its states.

@@ -1,7 +1,8 @@
 -- What a contract sees of `Styles`, what its calls answer and what they leave.
-use Rattle.std.specs.Prelude.{ℕ, ◌+◌, ◌-◌, ℤ, ◌==◌, not, if◌then◌else◌, List, [], map, fold, length}
+use Rattle.std.specs.Prelude.{ℕ, ◌+◌, ◌-◌, ℤ, Bool, ◌==◌, not, if◌then◌else◌, List, map, fold, length}
 use Rattle.std.specs.Prelude.{Result, Ok, Err}
 use Rattle.std.specs.declared.option.Option.{Option}
+use Rattle.std.specs.List.{list_any}
 use Rattle.gui_base.specs.declared.Handle.{Handle}
 use Rattle.gui_base.specs.declared.limits.Pool.{Pool}
 use Rattle.gui_base.specs.declared.limits.Pool.TheVariants.{Styles as StyleSlots, Entries, Uses}
@@ -37,6 +38,13 @@ module _ (s : Book) (h : ℕ) (part : Part) (states : ℕ) (prop : Prop) where
   -- what each local entry gives
   abbrev pub local_at : List (Option Candidate)
   local_at = map (of_entry part states prop) (locals_of s h)
+
+abbrev pub is_of_style : ℕ → Use → Bool
+is_of_style number u = u.style == number
+
+-- whether an object uses a style, for any selector
+abbrev pub uses_style : Book → ℕ → ℕ → Bool
+uses_style s h number = list_any (is_of_style number) (uses_of s h)
 
 abbrev pub Answer : Type 0
 Answer = Result (Unit {0}) Refusal

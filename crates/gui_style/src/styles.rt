@@ -4,7 +4,7 @@ ghost use Rattle.style_defs.specs.Firsts.{place_by};
 ghost use Rattle.style_defs.specs.Cascade.{has_style, sets, settings_of, setting_of, of_use, stronger};
 ghost use Rattle.gui_pool.specs.Lists.{pushed};
 ghost use Rattle.style_defs.specs.Book.{locals_of, uses_of, is_for, is_use, an_entry, a_use, a_setting};
-ghost use Rattle.gui_style.specs.Styles.{winning_at, shared_at, local_at, full_answer};
+ghost use Rattle.gui_style.specs.Styles.{winning_at, shared_at, local_at, uses_style, full_answer};
 ghost use Rattle.gui_style.specs.Kept.{first_style};
 ghost use Rattle.gui_style.specs.Styles.{style_answer, with_style, style_prop_answer, with_prop};
 ghost use Rattle.gui_style.specs.Styles.{unset_prop_answer, without_prop, add_style_answer, with_use};
@@ -307,6 +307,19 @@ impl Styles {
             }
             None => Err(Refusal::Unknown),
         }
+    }
+
+    /// Whether an object uses a style, for any selector.
+    pub fn uses_style(&self, h: Handle, id: u16) -> bool
+        ensures { result ≡ uses_style self.now.book h.0 id }
+    {
+        let mut uses = self.uses.of(h.0 as u32);
+        while let Some(used) = uses.next() {
+            if used.style == id {
+                return true;
+            }
+        }
+        false
     }
 
     /// Where a property that is set locally for a selector stands among the entries of an object.

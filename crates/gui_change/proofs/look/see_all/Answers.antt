@@ -17,6 +17,10 @@ loop-h-init c = record {
   seen = λ h s found. some_none c.args.table.now.spare c.args.table.now h c.requires.blank (ap is_some found);
 }
 
+pub known_of-kept-requires-clause-there : goal.known_of-kept-requires-clause-there
+known_of-kept-requires-clause-there c =
+    listed_there (scene_of c.args.store.now) c.requires.valid c.args.listed.now c.requires.order c.loop-h.h-index c.loop-h-test.true
+
 pub see-seen-requires-clause-there : goal.see-seen-requires-clause-there
 see-seen-requires-clause-there c =
     listed_there (scene_of c.args.store.now) c.requires.valid c.args.listed.now c.requires.order c.loop-h.h-index c.loop-h-test.true

@@ -13,7 +13,7 @@ use Rattle.gui_change.specs.Looks.{IsBlank, Shows}
 use Rattle.gui_change.specs.Owed.{owed_all}
 use Rattle.gui_change.specs.Sights.{KeepOthers}
 use Rattle.gui_change.specs.declared.look.Look.{Look}
-use Rattle.gui_change.proofs.Changes.{refuses, done, adds_debt}
+use Rattle.gui_change.proofs.Changes.{refuses, is_done, done, adds_debt}
 use Rattle.gui_change.proofs.Owing.{owed_is_debt}
 use Rattle.gui_change.proofs.Sparing.{others_keep}
 use Rattle.gui_change.proofs.canvas.Canvas.change.Goals as goal
@@ -35,7 +35,7 @@ take-requires-clause-known c =
     let look = c.args.self.now.look in
     let concerned = c.concerned_by-concerned.result in
     subst (KeepOthers look.seen concerned) (sym c.apply.ensures.after)
-    (others_keep before c.args.change.now concerned look.seen c.tree-tree.ensures.valid c.requires.plain c.concerned_by-concerned.ensures c.args.self.now.shows.seen)
+    (others_keep before c.args.change.now concerned look.seen c.tree-tree.ensures.valid c.requires.plain (is_done before c.args.change.now c.in-Ok.ensures.answer) c.concerned_by-concerned.ensures c.args.self.now.shows.seen)
 
 pub invariant_of-self-clause-limits : goal.invariant_of-self-clause-limits
 invariant_of-self-clause-limits c = c.solve_all.ensures.limits ∙ (c.args.self.now.limits ∙ sym (limits_stay (goal.at.invariant_of-self-clause-limits c).After-apply))

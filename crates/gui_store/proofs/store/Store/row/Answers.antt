@@ -1,4 +1,4 @@
-use Rattle.gui_store.proofs.Common.{arith, ◌≡◌, ◌∙◌, parts_of}
+use Rattle.gui_store.proofs.Common.{arith, parts_of}
 use Rattle.gui_store.proofs.Kept.{named, in_range, read-on, read-at, read-row}
 use Rattle.gui_store.proofs.store.Store.row.Goals as goal
 

@@ -65,7 +65,7 @@ impl Anims {
     }
 
     /// Whether an animation runs for this variable of this object.
-    fn is_moved(&self, h: Handle, var: Var) -> bool
+    pub fn is_moved(&self, h: Handle, var: Var) -> bool
         ensures { result ≡ is_moved h.0 var self.now.running }
     {
         any_moves(&self.running, h, var)

@@ -11,6 +11,7 @@ ghost use Rattle.run_laws.specs.Members.{AreJoined};
 use gui_base::{Handle, Limits, NoMemory, Steps};
 use gui_edge::{Failed, Panel, Sink};
 use gui_layout::Places;
+use gui_paint::Shown;
 use gui_play::Board;
 use gui_refresh::{Refreshed, Refresher};
 use gui_store::Store;
@@ -42,10 +43,11 @@ impl Gui {
     ghost use Rattle.gui_edge.specs.Causes.{HasCause};
     ghost use Rattle.gui_edge.specs.Sink.{AppendsPrefix};
     ghost use Rattle.gui_core.specs.Machines.{machine_of, pending_in};
+    ghost use Rattle.gui_core.specs.Sums.{picture_sum};
 
-    /// A machine whose scene has the roots 1, 2 and 3, with screen 3 active, and no handlers and no groups.
-    /// The whole panel is pending. It takes all the memory that the machine will need; NoMemory where there
-    /// is too little.
+    /// A machine whose scene has the roots 1, 2 and 3, with screen 3 active, and no handlers, no groups and
+    /// no animations. Its devices have read nothing yet, and its time is 0. The whole panel is pending. It
+    /// takes all the memory that the machine will need; NoMemory where there is too little.
     pub fn open(alloc: Global, limits: &Limits) -> Result<Gui, NoMemory>
         ensures machine { IfOk result (λ gui. machine_of gui ≡ first_machine (bounds_of limits.now)) }
         ensures whole { IfOk result (λ gui. (pending_in gui).areas ≡ (pending_in gui).panel ∷ []) }
@@ -99,6 +101,19 @@ impl Gui {
         ensures { result ≡ hit (machine_of self.now).scene x y }
     {
         self.board.hit(x, y)
+    }
+
+    /// The sum of the numbers of the colours of all pixels of the scene's picture, modulo 65536. The picture
+    /// is painted in slices, which `steps` counts as in a refresh. Nothing is sent, and nothing changes.
+    pub fn picture_sum<B: Ledger>(&mut self, steps: &mut Steps<B>) -> u16
+        ensures same { self.new ≡ self.old }
+        ensures sum { result ≡ picture_sum (machine_of self.old).scene }
+    {
+        let shown = Shown {
+            store: self.board.store(),
+            places: self.board.places(),
+        };
+        self.refresher.sum_of(&shown, steps)
     }
 
     /// Sends what is pending of the scene's picture, in slices of at most the panel's limit, and stops at the

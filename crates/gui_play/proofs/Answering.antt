@@ -42,7 +42,7 @@ room slots used pool e = by (nat_le slots used) refl e where
   by false f g = grind (arith, nat_tests, f)
 
 -- what a call leaves that is not refused
-ok_leaves : {E P : Type 0} (r s : Result (Unit {0}) E) → r ≡ s → s ≡ Ok tt → OnOk r P → P
+pub ok_leaves : {E P : Type 0} (r s : Result (Unit {0}) E) → r ≡ s → s ≡ Ok tt → OnOk r P → P
 ok_leaves (Ok v) s e f h = h
 ok_leaves (Err x) s e f h = cc
 

@@ -23,25 +23,26 @@ use Rattle.scene_defs.specs.declared.Change.{Change}
 use Rattle.scene_defs.specs.Change.{answer_of, changed, scene_by}
 use Rattle.gui_change.specs.Canvas.{scene_in}
 use Rattle.gui_play.specs.Boards.{stage, Quiet}
+use Rattle.gui_anim.specs.Anims.{Anims}
 use Rattle.gui_event.specs.Groups.{FocusGroups}
 use Rattle.gui_event.specs.Handlers.{Handlers}
 use Rattle.gui_play.specs.Sizes.{AreSized}
 use Rattle.gui_play.specs.Stages.{Stage, Played}
 use Rattle.gui_play.specs.Writing.{WritesBy}
 use Rattle.gui_play.specs.declared.board.Board.{Board}
-use Rattle.gui_play.proofs.Plays.{played_nothing, played_then}
+use Rattle.gui_play.proofs.Plays.{idle, played_then}
 
 or_false : (b : Bool) → b ≡ (b || false)
 or_false true = refl
 or_false false = refl
 
 -- room for what equal limits say
-pub sized_for : {before after : Bounds} (handlers : Handlers) (groups : FocusGroups) → before ≡ after → AreSized handlers groups before → AreSized handlers groups after
-sized_for handlers groups same sized = subst (AreSized handlers groups) same sized
+pub sized_for : {before after : Bounds} (handlers : Handlers) (groups : FocusGroups) (anims : Anims) → before ≡ after → AreSized handlers groups anims before → AreSized handlers groups anims after
+sized_for handlers groups anims same sized = subst (AreSized handlers groups anims) same sized
 
 -- nothing is done
 pub quiet_nothing : (board : Board) → Quiet board board only
-quiet_nothing board log = played_nothing (stage board log)
+quiet_nothing board log = idle (stage board log)
 
 -- one rule and then another, neither of which writes
 pub quiet_then : (a b c : Board) (first second : Rule) → Quiet a b first → Quiet b c second → Quiet a c (first ▷ second)
@@ -110,7 +111,7 @@ agree false false e = refl
 
 pub put_same : (board : Board) (state : State) (on : Bool) (h : Handle) → is_same (is_in_state state (scene_in board.canvas) h) on ≡ true → Quiet board board (put_state state on h)
 unfolding put_state
-put_same board state on h same log = rw same (played_nothing (stage board log))
+put_same board state on h same log = rw same (idle (stage board log))
 
 pub put_made : (old new : Stage) (state : State) (on : Bool) (h : Handle) → is_same (is_in_state state old.machine.scene h) on ≡ false →
     Played old new (make (change.State h state on) old.machine) → Played old new (put_state state on h old.machine)

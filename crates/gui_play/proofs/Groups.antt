@@ -8,7 +8,7 @@ use Rattle.play_defs.specs.Focus.{Groups, group_of, with_focused}
 use Rattle.play_defs.specs.Focus as focus
 use Rattle.run_defs.specs.Making.{heir, leave_from, leave_group, pass_on, put_state, with_groups}
 use Rattle.gui_play.specs.Stages.{Stage, Played}
-use Rattle.gui_play.proofs.Plays.{played_nothing, played_then}
+use Rattle.gui_play.proofs.Plays.{idle, played_then}
 
 -- a member of a group leaves it
 pub has_left : (s t : FocusGroups) (id : ℕ) (h : Handle) (r : Answer) → group_of s.all h ≡ Some id → r ≡ leave_answer s h → OnOk r (t ≡ left s h) → t ≡ record s { all = focus.left s.all id h }
@@ -33,4 +33,4 @@ left_group a b id h to is next played =
 
 pub left_none : (a : Stage) (h : Handle) → None ≡ group_of a.machine.groups h → Played a a (leave_group h a.machine)
 unfolding leave_group leave_from
-left_none a h is = subst (λ (o : Option ℕ). Played a a (leave_from o h a.machine)) is (played_nothing a)
+left_none a h is = subst (λ (o : Option ℕ). Played a a (leave_from o h a.machine)) is (idle a)

@@ -19,14 +19,14 @@ use Rattle.run_laws.proofs.Keeps.{act_keeps}
 use Rattle.scene_defs.specs.Scene.{is_there}
 use Rattle.gui_play.specs.Handling.{actions_on, Handles, run_by, Sends}
 use Rattle.gui_play.specs.Stages.{Stage, Played}
-use Rattle.gui_play.proofs.Plays.{played_nothing, played_more, each-append, both_nothing, played_each_none, played_step, played_whole}
+use Rattle.gui_play.proofs.Plays.{idle, played_more, each-append, both_nothing, played_each_none, played_step, played_whole}
 
 pub handles_start : (kind : EventKind) (target current : Handle) (a : Stage) → Handles kind target current a a 0
 unfolding each
-handles_start kind target current a = record { done = played_nothing a; same = λ _. refl; count = omega arith }
+handles_start kind target current a = record { done = idle a; same = λ _. refl; count = omega arith }
 
 -- the rules for the first n of a list, and then that for the next
-played_next : {A : Type 0} (a b c : Stage) (rule : A → Rule) (xs : List A) (n : ℕ) (x : A) → slice_get xs n ≡ Some x → Played a b (each rule (take n xs) a.machine) → Played b c (rule x b.machine) →
+pub played_next : {A : Type 0} (a b c : Stage) (rule : A → Rule) (xs : List A) (n : ℕ) (x : A) → slice_get xs n ≡ Some x → Played a b (each rule (take n xs) a.machine) → Played b c (rule x b.machine) →
     Played a c (each rule (take (n + 1) xs) a.machine)
 played_next {A} a b c rule xs n x e h k =
     let last : get_or xs n x ≡ x = get_or_from_slice_get xs n x x e in
@@ -45,7 +45,7 @@ handles_next kind target current a b c n action h there e k =
     }
 
 -- past the end of a list
-past : {A : Type 0} (xs : List A) (n : ℕ) → slice_get xs n ≡ None → length xs ≤ n
+pub past : {A : Type 0} (xs : List A) (n : ℕ) → slice_get xs n ≡ None → length xs ≤ n
 past [] n e = omega arith
 past (x ∷ xs) zero e = absurd (some_none e) where
   some_none : Some x ≡ None → ⊥

@@ -1,4 +1,5 @@
 pub mod Adding
+pub mod Animated
 pub mod Answering
 pub mod Areas
 pub mod Boards

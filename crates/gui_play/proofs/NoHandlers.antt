@@ -4,6 +4,7 @@ use Rattle.std.proofs.lemmas.List.{ext_get_or, length-replicate, get_or-replicat
 use Rattle.gui_base.specs.Limits.{Bounds}
 use Rattle.play_defs.specs.Focus.{Groups, no_groups}
 use Rattle.play_defs.specs.Handlers.{no_handlers, handlers_of}
+use Rattle.play_defs.specs.declared.Anim.{Anim}
 use Rattle.play_defs.specs.declared.Handler.{Handler}
 use Rattle.run_defs.specs.Machine.{first_machine}
 use Rattle.scene_defs.specs.Scene.{Scene, first_scene}
@@ -21,6 +22,6 @@ unfolding no_handlers
 no_handlers_is lists long none = empty_lists 65536 lists long none
 
 -- the first machine
-pub first_machine_is : (scene : Scene) (handlers : List (List Handler)) (groups : Groups) (inputs : Inputs) (limits : Bounds) → scene ≡ first_scene limits → handlers ≡ no_handlers → groups ≡ no_groups → inputs ≡ first_inputs →
-    machine_with scene handlers groups inputs ≡ first_machine limits
-first_machine_is scene handlers groups inputs limits a b c d = λ i. machine_with (a i) (b i) (c i) (d i)
+pub first_machine_is : (scene : Scene) (handlers : List (List Handler)) (groups : Groups) (anims : List Anim) (inputs : Inputs) (limits : Bounds) → scene ≡ first_scene limits → handlers ≡ no_handlers → groups ≡ no_groups → anims ≡ [] → inputs ≡ first_inputs →
+    machine_with scene handlers groups anims inputs ≡ first_machine limits
+first_machine_is scene handlers groups anims inputs limits a b c d e = λ i. machine_with (a i) (b i) (c i) (d i) (e i)

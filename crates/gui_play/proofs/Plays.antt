@@ -20,8 +20,8 @@ or_false : (b : Bool) → b ≡ (b || false)
 or_false true = refl
 or_false false = refl
 
-pub played_nothing : NothingIsPlayed
-played_nothing now = record {
+pub idle : NothingIsPlayed
+idle now = record {
   machine = refl;
   scene = refl;
   owed = adds_nothing now.pending;
@@ -89,7 +89,7 @@ each_more rule (y ∷ ys) x m =
 
 pub played_each_none : {A : Type 0} (a : Stage) (rule : A → Rule) → Played a a (each rule [] a.machine)
 unfolding each
-played_each_none a rule = played_nothing a
+played_each_none a rule = idle a
 
 -- the rules for the first n of a list, and then that for the next
 pub played_more : {A : Type 0} (a b c : Stage) (rule : A → Rule) (xs : List A) (n : ℕ) (x : A) → take (n + 1) xs ≡ take n xs ++ x ∷ [] → Played a b (each rule (take n xs) a.machine) → Played b c (rule x b.machine) →

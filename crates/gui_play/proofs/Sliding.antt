@@ -10,7 +10,7 @@ use Rattle.scene_defs.specs.Scene.{row_at}
 use Rattle.scene_defs.specs.declared.Row.{Row}
 use Rattle.gui_play.specs.Sliding.{slid_in, slid_value}
 use Rattle.gui_play.specs.Stages.{Stage, Played}
-use Rattle.gui_play.proofs.Plays.{played_nothing}
+use Rattle.gui_play.proofs.Plays.{idle}
 
 none_if : (b : Bool) (row : Row) (area : Option Rect) (x : ℤ) (h : Handle) → (if b then option_map (λ a. value_at row a x) area else None) ≡ None → (if b then slide_in row area x h else nothing) ≡ nothing
 none_if true row None x h e = refl
@@ -35,7 +35,7 @@ pub slid_none : (a : Stage) (x : ℤ) (h : Handle) → slid_value a.machine.scen
 unfolding slide
 slid_none a x h e =
     let scene = a.machine.scene in
-    subst (λ (rule : Rule). Played a a (rule a.machine)) (sym (slides_none (row_at scene h.0) (content scene h.0) x h e)) (played_nothing a)
+    subst (λ (rule : Rule). Played a a (rule a.machine)) (sym (slides_none (row_at scene h.0) (content scene h.0) x h e)) (idle a)
 
 pub slid : (a b : Stage) (x n : ℤ) (h : Handle) → slid_value a.machine.scene x h ≡ Some n → Played a b (put_value n h a.machine) → Played a b (slide x h a.machine)
 unfolding slide

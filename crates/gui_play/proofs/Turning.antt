@@ -4,7 +4,7 @@ use Rattle.run_defs.specs.Devices.{times}
 use Rattle.run_defs.specs.Machine.{Machine}
 use Rattle.run_defs.specs.Play.{Play, Rule, both, ◌⊳◌, ◌▷◌}
 use Rattle.gui_play.specs.Stages.{Stage, Played}
-use Rattle.gui_play.proofs.Plays.{played_nothing, played_on, both_nothing, both_assoc}
+use Rattle.gui_play.proofs.Plays.{idle, played_on, both_nothing, both_assoc}
 
 times-more : (n : ℕ) (rule : Rule) (m : Machine) → times (suc n) rule m ≡ (times n rule m ⊳ rule)
 unfolding times ◌▷◌ ◌⊳◌
@@ -15,7 +15,7 @@ times-more (suc n) rule m =
 
 pub played_times_none : (a : Stage) (rule : Rule) → Played a a (times 0 rule a.machine)
 unfolding times
-played_times_none a rule = played_nothing a
+played_times_none a rule = idle a
 
 pub played_times_more : (a b c : Stage) (rule : Rule) (n : ℕ) → Played a b (times n rule a.machine) → Played b c (rule b.machine) → Played a c (times (n + 1) rule a.machine)
 played_times_more a b c rule n h k =

@@ -17,7 +17,7 @@ use Rattle.gui_base.specs.Intervals.{is_counted, is_within}
 use Rattle.gui_base.specs.declared.intervals.TheConstants.{COORDINATE, GROW, VALUE}
 use Rattle.scene_defs.specs.Scene.{row_at}
 use Rattle.gui_play.specs.Stages.{Stage, Played}
-use Rattle.gui_play.proofs.Plays.{played_nothing}
+use Rattle.gui_play.proofs.Plays.{idle}
 
 apart_is : (a b : ℤ) → (a ≡ b → ⊥) → int_eq a b ≡ false
 apart_is a b apart = by (int_eq a b) refl where
@@ -28,12 +28,12 @@ apart_is a b apart = by (int_eq a b) refl where
 -- nothing where the object is not there
 pub valued_none : (a : Stage) (n : ℤ) (h : Handle) → row_at a.machine.scene h.0 ≡ None → Played a a (put_value n h a.machine)
 unfolding put_value
-valued_none a n h e = subst (λ (row : Option Row). Played a a (put_value_in row n h a.machine)) (sym e) (played_nothing a)
+valued_none a n h e = subst (λ (row : Option Row). Played a a (put_value_in row n h a.machine)) (sym e) (idle a)
 
 -- and nothing where it has the value already
 pub valued_same : (a : Stage) (n : ℤ) (h : Handle) (row : Row) → row_at a.machine.scene h.0 ≡ Some row → brought_in row.min row.max n ≡ row.value → Played a a (put_value n h a.machine)
 unfolding put_value
-valued_same a n h row e same = subst (λ (o : Option Row). Played a a (put_value_in o n h a.machine)) (sym e) (let is = (Decides-int_eq (brought_in row.min row.max n) row.value).1 same in rw is (played_nothing a))
+valued_same a n h row e same = subst (λ (o : Option Row). Played a a (put_value_in o n h a.machine)) (sym e) (let is = (Decides-int_eq (brought_in row.min row.max n) row.value).1 same in rw is (idle a))
 
 pub valued : (a b : Stage) (n : ℤ) (h : Handle) (row : Row) → row_at a.machine.scene h.0 ≡ Some row → (brought_in row.min row.max n ≡ row.value → ⊥) →
     Played a b (make (change.Value h (brought_in row.min row.max n)) a.machine) → Played a b (put_value n h a.machine)
@@ -43,11 +43,11 @@ valued a b n h row e apart played = subst (λ (o : Option Row). Played a b (put_
 -- a slider goes one up or down, and nothing else does
 pub nudged_none : (a : Stage) (key : Key) (h : Handle) → row_at a.machine.scene h.0 ≡ None → Played a a (nudge key h a.machine)
 unfolding nudge
-nudged_none a key h e = subst (λ (row : Option Row). Played a a (nudge_by row key h a.machine)) (sym e) (played_nothing a)
+nudged_none a key h e = subst (λ (row : Option Row). Played a a (nudge_by row key h a.machine)) (sym e) (idle a)
 
 pub nudged_other : (a : Stage) (key : Key) (h : Handle) (row : Row) → row_at a.machine.scene h.0 ≡ Some row → is_slider row.kind ≡ false → Played a a (nudge key h a.machine)
 unfolding nudge
-nudged_other a key h row e other = subst (λ (o : Option Row). Played a a (nudge_by o key h a.machine)) (sym e) (rw other (played_nothing a))
+nudged_other a key h row e other = subst (λ (o : Option Row). Played a a (nudge_by o key h a.machine)) (sym e) (rw other (idle a))
 
 pub nudged : (a b : Stage) (key : Key) (h : Handle) (row : Row) (n : ℤ) → row_at a.machine.scene h.0 ≡ Some row → is_slider row.kind ≡ true → n ≡ row.value +ℤ step_of key → Played a b (put_value n h a.machine) → Played a b (nudge key h a.machine)
 unfolding nudge

@@ -6,6 +6,7 @@ use Rattle.gui_damage.specs.Pending.{Pending}
 use Rattle.gui_edge.specs.Sink.{SinkState}
 use Rattle.gui_edge.specs.declared.Failed.{Failed}
 use Rattle.play_defs.specs.Focus.{Groups}
+use Rattle.play_defs.specs.declared.Anim.{Anim}
 use Rattle.play_defs.specs.declared.Handler.{Handler}
 use Rattle.run_defs.specs.Machine.{Machine}
 use Rattle.run_defs.specs.Play.{Rule}
@@ -18,9 +19,9 @@ use Rattle.gui_play.specs.declared.inputs.Inputs.{Inputs}
 use Rattle.gui_play.specs.Inputs.{pointer_of, keypad_of, encoder_of}
 use Rattle.gui_play.specs.Stages.{Stage, Played}
 
--- the machine with this scene, these handlers and groups, and this time and these devices
-abbrev pub machine_with : Scene → List (List Handler) → Groups → Inputs → Machine
-machine_with scene handlers groups inputs = record {
+-- the machine with this scene, these handlers, groups and animations, and this time and these devices
+abbrev pub machine_with : Scene → List (List Handler) → Groups → List Anim → Inputs → Machine
+machine_with scene handlers groups anims inputs = record {
   scene = scene;
   handlers = handlers;
   groups = groups;
@@ -30,10 +31,13 @@ machine_with scene handlers groups inputs = record {
   encoder = encoder_of inputs;
   keypad_group = inputs.keypad_group;
   encoder_group = inputs.encoder_group;
+  anims = anims;
 }
 
 abbrev pub machine_of : Board → Machine
-machine_of board = machine_with (scene_in board.canvas) board.handlers.lists board.groups.all board.inputs
+machine_of board =
+    machine_with (scene_in board.canvas) board.handlers.lists board.groups.all board.anims.running
+    board.inputs
 
 -- the areas of the panel that are pending
 abbrev pub pending_of : Board → Pending

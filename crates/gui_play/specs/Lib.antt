@@ -1,3 +1,4 @@
+pub mod Animated
 pub mod Boards
 pub mod Commands
 pub mod Handling

@@ -23,6 +23,7 @@ ghost use Rattle.gui_play.specs.Sizes.{AreSized};
 
 use crate::inputs::Inputs;
 use crate::scribe::Scribe;
+use gui_anim::Anims;
 use gui_base::{Area, Bits, Handle, Limits, NoMemory, Refusal, State, Steps};
 use gui_change::Canvas;
 use gui_damage::Damage;
@@ -38,25 +39,26 @@ use std::alloc::Global;
 use std::sync::ledger::Ledger;
 
 /// What the rules read and change: a scene with its places, the areas that are pending, the handlers, the
-/// focus groups, the time and the input devices, and how the log goes in this step.
+/// focus groups, the animations, the time and the input devices, and how the log goes in this step.
 #[derive(Drop)]
 pub struct Board {
     pub(crate) canvas: Canvas,
     damage: Damage,
     pub(crate) handlers: Handlers,
     pub(crate) groups: Groups,
+    pub(crate) anims: Anims,
     pub(crate) inputs: Inputs,
     pub(crate) scribe: Scribe,
     ghost panel: { damage.panel ≡ panel_of (scene_in canvas) },
-    ghost sized: { AreSized handlers groups (scene_in canvas).limits },
+    ghost sized: { AreSized handlers groups anims (scene_in canvas).limits },
 }
 
 impl Board {
     ghost use Rattle.gui_play.specs.Boards.{machine_of, pending_of, stage, Quiet, IsFresh, IsOutcome};
 
-    /// A machine whose scene has the roots 1, 2 and 3, with screen 3 active, and no handlers and no groups.
-    /// The whole panel is pending. It takes all the memory that the board will need; NoMemory where there is
-    /// too little.
+    /// A machine whose scene has the roots 1, 2 and 3, with screen 3 active, and no handlers, no groups and
+    /// no animations. Its devices have read nothing yet, and its time is 0. The whole panel is pending. It
+    /// takes all the memory that the board will need; NoMemory where there is too little.
     pub fn open(alloc: Global, limits: &Limits) -> Result<Board, NoMemory>
         ensures machine { IfOk result (λ board. machine_of board ≡ first_machine (bounds_of limits.now)) }
         ensures whole { IfOk result (λ board. (pending_of board).areas ≡ (pending_of board).panel ∷ []) }
@@ -65,11 +67,13 @@ impl Board {
         let damage = Damage::new(panel_area(limits));
         let handlers = Handlers::open(alloc, limits.handlers)?;
         let groups = Groups::open(alloc, limits.groups, limits.objects)?;
+        let anims = Anims::open(alloc, limits.anims)?;
         Ok(Board {
             canvas,
             damage,
             handlers,
             groups,
+            anims,
             inputs: Inputs::new(),
             scribe: Scribe::new(),
         })

@@ -7,7 +7,7 @@ ghost use Rattle.gui_edge.specs.Sink.{SinkState};
 ghost use Rattle.play_defs.specs.Focus.{group_of};
 ghost use Rattle.run_defs.specs.Making.{attempt as attempt_of, forget as forget_of, handles, heir as heir_of};
 ghost use Rattle.run_defs.specs.Making.{is_hidden, is_usable, leave_group, made, note as note_of, pass_on};
-ghost use Rattle.run_defs.specs.Making.{put_state, without_handlers, without_targets};
+ghost use Rattle.run_defs.specs.Making.{put_state, without_anims, without_handlers, without_targets};
 ghost use Rattle.run_defs.specs.Play.{each, nothing, with};
 ghost use Rattle.scene_defs.specs.Change.{answer_of};
 ghost use Rattle.scene_defs.specs.Scene.{path_at, row_at};
@@ -115,14 +115,23 @@ impl Board {
         self.inputs.forget(h);
     }
 
-    /// Drops what goes with an object that is removed: its handlers, what is held on it, and its place in its
-    /// group.
+    /// Its animations are over.
+    fn forget_anims(&mut self, h: Handle)
+        ensures done { Quiet self.old self.new (with (without_anims h)) }
+        ensures gone { removed_in self.new.canvas ≡ removed_in self.old.canvas }
+    {
+        self.anims.forget(h);
+    }
+
+    /// Drops what goes with an object that is removed: its handlers, what is held on it, its animations, and
+    /// its place in its group.
     fn forget(&mut self, h: Handle)
         ensures done { Quiet self.old self.new (forget_of h) }
         ensures gone { removed_in self.new.canvas ≡ removed_in self.old.canvas }
     {
         self.forget_handlers(h);
         self.forget_targets(h);
+        self.forget_anims(h);
         self.leave_group(h);
     }
 

@@ -16,6 +16,7 @@ ghost use Rattle.gui_play.specs.Boards.{machine_of};
 ghost use Rattle.gui_play.specs.Commands.{IsPlay};
 ghost use Rattle.gui_play.specs.Steps.{Steps};
 
+use crate::animating::is_anim_in_range;
 use crate::board::Board;
 use gui_base::intervals::{COORDINATE, DEVICE_GROUP, GROUP, HANDLE, TICK, TURN, VALUE};
 use gui_base::{Action, Aim, EventKind, Handle, Pool, Refusal};
@@ -47,7 +48,7 @@ fn is_action_in_range(action: Action) -> bool
     }
 }
 
-/// Whether each number of a command on events, groups and devices lies in its interval.
+/// Whether each number of a command on events, groups, devices and animations lies in its interval.
 fn is_in_range(command: &Command) -> bool
     requires { IsPlay command.now }
     ensures { result ≡ is_command_in_range command.now }
@@ -57,13 +58,13 @@ fn is_in_range(command: &Command) -> bool
         Command::On(h, _, action) => HANDLE.holds(h.0) && is_action_in_range(action),
         Command::Group(id) => GROUP.holds(u16::from(id)),
         Command::Join(id, h) => GROUP.holds(u16::from(id)) && HANDLE.holds(h.0),
-        Command::Off(h, _) | Command::Send(h, _) | Command::Leave(h) | Command::Focus(h) => {
-            HANDLE.holds(h.0)
-        }
+        Command::Off(h, _) | Command::Send(h, _) | Command::Stop(h, _) => HANDLE.holds(h.0),
+        Command::Leave(h) | Command::Focus(h) => HANDLE.holds(h.0),
         Command::Keypad(id) | Command::Encoder(id) => DEVICE_GROUP.holds(u16::from(id)),
         Command::Touch(x, y) => COORDINATE.holds(x) && COORDINATE.holds(y),
         Command::Turn(n) => TURN.holds(i32::from(n)),
         Command::Tick(ms) => TICK.holds(ms),
+        Command::Anim(spec) => is_anim_in_range(&spec),
         Command::Release | Command::Key(_, _) | Command::Push(_) => true,
     }
 }
@@ -218,7 +219,7 @@ impl Board {
         self.join(id, h, log);
     }
 
-    /// The first refusal of a command on events, groups and devices, or none where it is done.
+    /// The first refusal of a command on events, groups, devices and animations, or none where it is done.
     fn refusal_of(&self, command: &Command) -> Option<Refusal>
         requires { IsPlay command.now }
         ensures { result ≡ answer (machine_of self.now) command.now }
@@ -236,10 +237,12 @@ impl Board {
             Command::Keypad(id) | Command::Encoder(id) => self.device_refusal(id),
             Command::Touch(_, _) | Command::Release | Command::Key(_, _) => None,
             Command::Turn(_) | Command::Push(_) | Command::Tick(_) => None,
+            Command::Anim(spec) => self.anim_refusal(spec),
+            Command::Stop(h, var) => self.stop_refusal(h, var),
         }
     }
 
-    /// Carries out a command on events, groups and devices against which there is no refusal.
+    /// Carries out a command on events, groups, devices and animations against which there is no refusal.
     fn carry_out<S: Sink>(&mut self, command: &Command, log: &mut S)
         requires play { IsPlay command.now }
         requires answer { answer (machine_of self.old) command.now ≡ None }
@@ -263,6 +266,8 @@ impl Board {
             Command::Turn(n) => self.feed_encoder(Some(EncoderReading::Turn(n)), log),
             Command::Push(down) => self.feed_encoder(Some(EncoderReading::Push(down)), log),
             Command::Tick(ms) => self.tick(ms, log),
+            Command::Anim(spec) => self.start_anim(spec),
+            Command::Stop(h, var) => self.stop_anim(h, var),
         }
     }
 
@@ -279,7 +284,7 @@ impl Board {
         }
     }
 
-    /// Carries out a command on events, groups and devices, or answers its first refusal.
+    /// Carries out a command on events, groups, devices and animations, or answers its first refusal.
     fn apply_play<S: Sink>(&mut self, command: &Command, log: &mut S) -> Result<Reply, Failed>
         requires play { IsPlay command.now }
         requires members { AreJoined (machine_of self.old) }

@@ -31,7 +31,7 @@ impl Board {
     ghost use Rattle.gui_play.specs.Boards.{machine_of, Plays, Quiet};
 
     /// Presses an object, if there is one.
-    #[tactic(auto, unfolding(run_defs::specs::Play::aimed), using(crate::proofs::Plays::played_nothing))]
+    #[tactic(auto, unfolding(run_defs::specs::Play::aimed), using(crate::proofs::Plays::idle))]
     fn press_aimed<S: Sink>(
         &mut self,
         target: Option<Handle>,
@@ -46,7 +46,7 @@ impl Board {
     }
 
     /// Holds an object, if there is one.
-    #[tactic(auto, unfolding(run_defs::specs::Play::aimed), using(crate::proofs::Plays::played_nothing))]
+    #[tactic(auto, unfolding(run_defs::specs::Play::aimed), using(crate::proofs::Plays::idle))]
     fn hold_aimed<S: Sink>(
         &mut self,
         target: Option<Handle>,
@@ -61,7 +61,7 @@ impl Board {
     }
 
     /// Releases an object, if there is one.
-    #[tactic(auto, unfolding(run_defs::specs::Play::aimed), using(crate::proofs::Plays::played_nothing))]
+    #[tactic(auto, unfolding(run_defs::specs::Play::aimed), using(crate::proofs::Plays::idle))]
     fn release_aimed<S: Sink>(&mut self, target: Option<Handle>, long: bool, log: &mut S)
         ensures { Plays self.old self.new (S.state log.old) (S.state log.new) (aimed target (release long)) }
     {
@@ -71,7 +71,7 @@ impl Board {
     }
 
     /// Sends an event of input to an object, if there is one.
-    #[tactic(auto, unfolding(run_defs::specs::Play::aimed), using(crate::proofs::Plays::played_nothing))]
+    #[tactic(auto, unfolding(run_defs::specs::Play::aimed), using(crate::proofs::Plays::idle))]
     fn send_aimed<S: Sink>(&mut self, target: Option<Handle>, kind: EventKind, log: &mut S)
         ensures { Plays self.old self.new (S.state log.old) (S.state log.new)
             (aimed target (send_input kind)) }
@@ -82,7 +82,7 @@ impl Board {
     }
 
     /// An arrow for an object, if there is one.
-    #[tactic(auto, unfolding(run_defs::specs::Play::aimed), using(crate::proofs::Plays::played_nothing))]
+    #[tactic(auto, unfolding(run_defs::specs::Play::aimed), using(crate::proofs::Plays::idle))]
     fn arrow_aimed<S: Sink>(&mut self, target: Option<Handle>, key: Key, log: &mut S)
         ensures { Plays self.old self.new (S.state log.old) (S.state log.new) (aimed target (arrow key)) }
     {
@@ -120,7 +120,7 @@ impl Board {
     }
 
     /// What the machine does at one thing that the pointer tells.
-    #[tactic(auto, unfolding(run_defs::specs::Devices::pointer_tells), using(crate::proofs::Plays::played_nothing))]
+    #[tactic(auto, unfolding(run_defs::specs::Devices::pointer_tells), using(crate::proofs::Plays::idle))]
     fn pointer_tells<S: Sink>(&mut self, at: Option<PointerReading>, tell: InputEvent, log: &mut S)
         ensures { Plays self.old self.new (S.state log.old) (S.state log.new) (pointer_tells at tell) }
     {
@@ -187,7 +187,7 @@ impl Board {
     }
 
     /// What the machine does at one thing that the keypad tells.
-    #[tactic(auto, unfolding(run_defs::specs::Devices::keypad_tells), using(crate::proofs::Plays::played_nothing))]
+    #[tactic(auto, unfolding(run_defs::specs::Devices::keypad_tells), using(crate::proofs::Plays::idle))]
     fn keypad_tells<S: Sink>(&mut self, tell: InputEvent, log: &mut S)
         ensures { Plays self.old self.new (S.state log.old) (S.state log.new) (keypad_tells tell) }
     {
@@ -361,7 +361,7 @@ impl Board {
     }
 
     /// The end of a push of an object, if there is one.
-    #[tactic(auto, unfolding(run_defs::specs::Play::aimed), using(crate::proofs::Plays::played_nothing))]
+    #[tactic(auto, unfolding(run_defs::specs::Play::aimed), using(crate::proofs::Plays::idle))]
     fn release_push_aimed<S: Sink>(&mut self, target: Option<Handle>, long: bool, log: &mut S)
         ensures { Plays self.old self.new (S.state log.old) (S.state log.new)
             (aimed target (release_push long)) }
@@ -372,7 +372,7 @@ impl Board {
     }
 
     /// What the machine does at one thing that the encoder tells.
-    #[tactic(auto, unfolding(run_defs::specs::Devices::encoder_tells), using(crate::proofs::Plays::played_nothing))]
+    #[tactic(auto, unfolding(run_defs::specs::Devices::encoder_tells), using(crate::proofs::Plays::idle))]
     fn encoder_tells<S: Sink>(&mut self, tell: InputEvent, log: &mut S)
         ensures { Plays self.old self.new (S.state log.old) (S.state log.new) (encoder_tells tell) }
     {

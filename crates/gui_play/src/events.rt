@@ -93,7 +93,7 @@ impl Board {
     }
 
     /// Runs an action of an object, which is passed over where the object is gone.
-    #[tactic(auto, unfolding(run_defs::specs::Events::act), using(crate::proofs::Plays::played_nothing))]
+    #[tactic(auto, unfolding(run_defs::specs::Events::act), using(crate::proofs::Plays::idle))]
     fn act<S: Sink>(
         &mut self,
         kind: EventKind,
@@ -147,7 +147,7 @@ impl Board {
     }
 
     /// Sends an event to an object that is there.
-    #[tactic(auto, unfolding(run_defs::specs::Events::send_there), using(crate::proofs::Plays::played_nothing))]
+    #[tactic(auto, unfolding(run_defs::specs::Events::send_there), using(crate::proofs::Plays::idle))]
     pub(crate) fn send_there<S: Sink>(&mut self, kind: EventKind, target: Handle, log: &mut S)
         ensures { Plays self.old self.new (S.state log.old) (S.state log.new) (send_there kind target) }
     {
@@ -164,7 +164,7 @@ impl Board {
     }
 
     /// Sends an event of input to an object that takes it.
-    #[tactic(auto, unfolding(run_defs::specs::Events::send_input), using(crate::proofs::Plays::played_nothing))]
+    #[tactic(auto, unfolding(run_defs::specs::Events::send_input), using(crate::proofs::Plays::idle))]
     pub(crate) fn send_input<S: Sink>(&mut self, kind: EventKind, target: Handle, log: &mut S)
         ensures { Plays self.old self.new (S.state log.old) (S.state log.new) (send_input kind target) }
     {

@@ -45,7 +45,7 @@ impl Board {
     }
 
     /// Tells who had the focus that it lost it, if there is one.
-    #[tactic(auto, unfolding(run_defs::specs::Play::aimed), using(crate::proofs::Plays::played_nothing))]
+    #[tactic(auto, unfolding(run_defs::specs::Play::aimed), using(crate::proofs::Plays::idle))]
     fn tell_old<S: Sink>(&mut self, old: Option<Handle>, log: &mut S)
         ensures { Plays self.old self.new (S.state log.old) (S.state log.new)
             (aimed old (send_there Event.Defocused)) }
@@ -109,7 +109,7 @@ impl Board {
     }
 
     /// The focus of a group moves to an object, if there is one, by a device.
-    #[tactic(auto, unfolding(run_defs::specs::Play::aimed), using(crate::proofs::Plays::played_nothing))]
+    #[tactic(auto, unfolding(run_defs::specs::Play::aimed), using(crate::proofs::Plays::idle))]
     fn move_focus_aimed<S: Sink>(&mut self, next: Option<Handle>, id: u8, log: &mut S)
         ensures { Plays self.old self.new (S.state log.old) (S.state log.new)
             (aimed next (move_focus id true)) }
@@ -139,7 +139,7 @@ impl Board {
     }
 
     /// Gives an object the focus of the group that it is in; nothing where it has it.
-    #[tactic(auto, unfolding(run_defs::specs::Focusing::focus), using(crate::proofs::Plays::played_nothing))]
+    #[tactic(auto, unfolding(run_defs::specs::Focusing::focus), using(crate::proofs::Plays::idle))]
     pub(crate) fn focus<S: Sink>(&mut self, h: Handle, log: &mut S)
         ensures { Plays self.old self.new (S.state log.old) (S.state log.new) (focus h) }
     {

@@ -2,6 +2,7 @@
 //! what is written into the log.
 #![tactic(auto)]
 
+mod animating;
 mod board;
 mod changes;
 mod commands;

@@ -93,7 +93,7 @@ impl Board {
     }
 
     /// Tells of another setting, where there is one.
-    #[tactic(auto, unfolding(run_defs::specs::Reactions::tell_change), using(crate::proofs::Plays::played_nothing))]
+    #[tactic(auto, unfolding(run_defs::specs::Reactions::tell_change), using(crate::proofs::Plays::idle))]
     fn tell_change<S: Sink>(&mut self, changed: bool, h: Handle, log: &mut S)
         ensures { Plays self.old self.new (S.state log.old) (S.state log.new) (tell_change changed h) }
     {
@@ -124,7 +124,6 @@ impl Board {
 
     /// Presses an object that takes input. A pointer does so at a point; Enter and the encoder's button at
     /// none.
-    #[tactic(auto, unfolding(run_defs::specs::Reactions::press, run_defs::specs::Reactions::react_input), using(crate::proofs::Plays::played_nothing))]
     pub(crate) fn press<S: Sink>(&mut self, at: Option<PointerReading>, h: Handle, log: &mut S)
         ensures { Plays self.old self.new (S.state log.old) (S.state log.new) (press at h) }
     {
@@ -144,7 +143,6 @@ impl Board {
     }
 
     /// A press by a pointer that is read again.
-    #[tactic(auto, unfolding(run_defs::specs::Reactions::hold, run_defs::specs::Reactions::react_input), using(crate::proofs::Plays::played_nothing))]
     pub(crate) fn hold<S: Sink>(&mut self, at: Option<PointerReading>, h: Handle, log: &mut S)
         ensures { Plays self.old self.new (S.state log.old) (S.state log.new) (hold at h) }
     {
@@ -174,7 +172,6 @@ impl Board {
     }
 
     /// Clicks an object that takes input.
-    #[tactic(auto, unfolding(run_defs::specs::Reactions::click, run_defs::specs::Reactions::react_input), using(crate::proofs::Plays::played_nothing))]
     fn click<S: Sink>(&mut self, h: Handle, log: &mut S)
         ensures { Plays self.old self.new (S.state log.old) (S.state log.new) (click h) }
     {
@@ -192,7 +189,7 @@ impl Board {
     }
 
     /// Tells of a press that was not a long one.
-    #[tactic(auto, unfolding(run_defs::specs::Reactions::short_click), using(crate::proofs::Plays::played_nothing))]
+    #[tactic(auto, unfolding(run_defs::specs::Reactions::short_click), using(crate::proofs::Plays::idle))]
     fn short_click<S: Sink>(&mut self, long: bool, h: Handle, log: &mut S)
         ensures { Plays self.old self.new (S.state log.old) (S.state log.new) (short_click long h) }
     {
@@ -244,7 +241,6 @@ impl Board {
     }
 
     /// An arrow for an object that takes input.
-    #[tactic(auto, unfolding(run_defs::specs::Reactions::arrow, run_defs::specs::Reactions::react_input), using(crate::proofs::Plays::played_nothing))]
     pub(crate) fn arrow<S: Sink>(&mut self, key: Key, h: Handle, log: &mut S)
         ensures { Plays self.old self.new (S.state log.old) (S.state log.new) (arrow key h) }
     {

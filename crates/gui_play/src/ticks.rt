@@ -16,7 +16,7 @@ impl Board {
         self.inputs.time = self.inputs.time.saturating_add(u64::from(ms));
     }
 
-    /// Time passes for the pointer, the keypad and the encoder, in this order.
+    /// Time passes for the pointer, the keypad, the encoder and the animations, in this order.
     pub(crate) fn tick<S: Sink>(&mut self, ms: u16, log: &mut S)
         ensures { Plays self.old self.new (S.state log.old) (S.state log.new) (tick ms) }
     {
@@ -24,5 +24,6 @@ impl Board {
         self.feed_pointer(None, log);
         self.feed_keypad(None, log);
         self.feed_encoder(None, log);
+        self.animate_all();
     }
 }

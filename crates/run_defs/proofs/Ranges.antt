@@ -16,7 +16,7 @@ use Rattle.gui_base.specs.Intervals.{is_counted, is_within}
 use Rattle.gui_base.specs.Names.{table, named}
 use Rattle.gui_base.specs.declared.intervals.Count.{Count}
 use Rattle.gui_base.specs.declared.intervals.Interval.{Interval}
-use Rattle.gui_base.specs.declared.intervals.TheConstants.{HANDLE, NEW_HANDLE, INDEX, EXTENT, PERCENT, COORDINATE, GROW, VALUE, COLOR, STYLE, TEXT_ALIGN, FONT, FONT_HEIGHT, ADVANCE, CODE, GLYPH_WIDTH, GLYPH_HEIGHT, GLYPH_OFFSET, IMAGE, IMAGE_SIDE, IMAGE_ROW, GROUP, DEVICE_GROUP, TURN, TICK}
+use Rattle.gui_base.specs.declared.intervals.TheConstants.{HANDLE, NEW_HANDLE, INDEX, EXTENT, PERCENT, COORDINATE, GROW, VALUE, COLOR, STYLE, TEXT_ALIGN, FONT, FONT_HEIGHT, ADVANCE, CODE, GLYPH_WIDTH, GLYPH_HEIGHT, GLYPH_OFFSET, IMAGE, IMAGE_SIDE, IMAGE_ROW, GROUP, DEVICE_GROUP, TURN, TICK, ANIM_TIME, REPEAT}
 use Rattle.gui_base.specs.declared.words.TextAlign.{TextAlign}
 use Rattle.gui_base.specs.declared.props.Prop.{Prop}
 use Rattle.gui_base.specs.declared.props.Prop.TheVariants as prop
@@ -26,6 +26,8 @@ use Rattle.scene_defs.specs.Texts.{is_short, is_text}
 use Rattle.scene_defs.proofs.Unescaping.{text_in_quotes-utf8}
 use Rattle.scene_defs.specs.Row.{is_root, is_size, is_cross, is_range}
 use Rattle.run_defs.specs.declared.LineFault.TheVariants.{Range}
+use Rattle.run_defs.specs.declared.names.AnimName.{AnimName}
+use Rattle.run_defs.specs.declared.names.AnimName.TheVariants as anim
 use Rattle.run_defs.specs.declared.names.AssetName.{AssetName}
 use Rattle.run_defs.specs.declared.names.AssetName.TheVariants as asset
 use Rattle.run_defs.specs.declared.names.DeviceName.{DeviceName}
@@ -44,7 +46,7 @@ use Rattle.run_defs.specs.declared.names.TreeName.{TreeName}
 use Rattle.run_defs.specs.declared.names.TreeName.TheVariants as tree
 use Rattle.run_defs.specs.declared.names.TheConstants.{COMMANDS}
 use Rattle.run_defs.specs.Commands.{handle, new_handle, index, extent, coordinate, cross_placing, grow, kind, shown_value, range_low, range_high, text, style_number, color_value, align_number, value_for, code, glyph_offset}
-use Rattle.run_defs.specs.Commands.{aim_said, aim, action_fields, group_number, play_fields, device_group, steps, passing, device_fields}
+use Rattle.run_defs.specs.Commands.{aim_said, aim, action_fields, group_number, play_fields, device_group, steps, passing, device_fields, anim_time, repeat_said, repeat, anim_fields}
 use Rattle.run_defs.specs.Commands.{tree_fields, row_fields, style_fields, asset_fields, command_line, change_line, line_fields, named_says, command_says}
 use Rattle.run_defs.specs.Fields.{Progress, number_in, count_in, value, start}
 use Rattle.run_defs.specs.Language.{Word, Reading, mapped, words_of}
@@ -53,7 +55,7 @@ use Rattle.run_defs.specs.Laws.{IsInRange, SaysInRange}
 use Rattle.run_defs.specs.Texts.{between_quotes, text_from, text_said}
 use Rattle.run_defs.specs.Numbers.{within, number, number_of, natural, color_from, color, code_from, code_said}
 use Rattle.run_defs.specs.Script.{line_says, words_say}
-use Rattle.run_defs.specs.Step.{is_aim_in_range, is_action_in_range}
+use Rattle.run_defs.specs.Step.{is_aim_in_range, is_action_in_range, is_repeat}
 use Rattle.run_defs.proofs.Fields.{value-over, value-is}
 
 -- Numbers.
@@ -291,6 +293,22 @@ device-in device.Key at = (refl, tt)
 device-in device.Push at = (refl, tt)
 device-in name at = (simp device_inside, tt)
 
+anim_time-in : (at : Progress) → is_counted ANIM_TIME (value anim_time at) ≡ true
+anim_time-in at = count-in ANIM_TIME refl at
+
+repeat-ok : (word : Word) → IfOk (repeat_said word) (λ often. is_repeat often ≡ true)
+unfolding repeat_said
+repeat-ok word = grind (arith, natural-ok REPEAT.low REPEAT.high word)
+
+repeat-in : (at : Progress) → is_repeat (value repeat at) ≡ true
+repeat-in at = value-is repeat is_repeat refl repeat-ok at
+
+ruleset anim_inside = (handle-in, coordinate-in, anim_time-in, passing-in, repeat-in)
+
+anim-in : (name : AnimName) (at : Progress) → IsInRange (Ok (command_line (anim_fields name at)).made)
+anim-in anim.Anim at = (simp anim_inside, tt)
+anim-in anim.Stop at = (simp anim_inside, tt)
+
 line-in : (name : Name) (at : Progress) → IsInRange (Ok (line_fields name at).made)
 line-in name.Frame at = tt
 line-in (name.Tree n) at = tree-in n at
@@ -299,6 +317,7 @@ line-in (name.Style n) at = style-in n at
 line-in (name.Asset n) at = asset-in n at
 line-in (name.Play n) at = play-in n at
 line-in (name.Device n) at = device-in n at
+line-in (name.Anim n) at = anim-in n at
 
 words-in : (words : List Word) → IsInRange (words_say words)
 unfolding command_says

@@ -11,11 +11,16 @@ use Rattle.gui_base.specs.declared.events.EventKind.{EventKind}
 use Rattle.gui_base.specs.declared.events.EventKind.TheVariants.{Pressed}
 use Rattle.gui_base.specs.declared.events.Key.{Key}
 use Rattle.gui_base.specs.declared.events.Key.TheVariants.{Up}
-use Rattle.gui_base.specs.declared.events.TheConstants.{EVENTS, KEYS, DOWN_UP}
+use Rattle.gui_base.specs.declared.events.Path.{Path}
+use Rattle.gui_base.specs.declared.events.Path.TheVariants.{Linear}
+use Rattle.gui_base.specs.declared.events.Var.{Var}
+use Rattle.gui_base.specs.declared.events.Var.TheVariants.{X}
+use Rattle.gui_base.specs.declared.events.TheConstants.{EVENTS, KEYS, DOWN_UP, VARS, PATHS}
 use Rattle.gui_base.specs.declared.intervals.TheConstants.{HANDLE, NEW_HANDLE, INDEX, COORDINATE, GROW, VALUE}
 use Rattle.gui_base.specs.declared.intervals.TheConstants.{STYLE, FONT, FONT_HEIGHT, ADVANCE, GLYPH_WIDTH}
 use Rattle.gui_base.specs.declared.intervals.TheConstants.{GLYPH_HEIGHT, GLYPH_OFFSET, IMAGE, IMAGE_SIDE}
 use Rattle.gui_base.specs.declared.intervals.TheConstants.{IMAGE_ROW, GROUP, DEVICE_GROUP, TURN, TICK}
+use Rattle.gui_base.specs.declared.intervals.TheConstants.{ANIM_TIME, REPEAT}
 use Rattle.gui_base.specs.declared.words.TheConstants.{KINDS, FLAGS, ON_OFF, STATES, TEXT_ALIGNS, ALIGNS}
 use Rattle.gui_base.specs.declared.words.TheConstants.{FLOWS, PLACINGS, CROSS_PLACINGS, FORMATS}
 use Rattle.gui_base.specs.declared.words.Align.{Align}
@@ -53,6 +58,8 @@ use Rattle.run_defs.specs.declared.Line.TheVariants.{Frame, Make}
 use Rattle.run_defs.specs.declared.LineFault.TheVariants.{Syntax}
 use Rattle.run_defs.specs.declared.names.ActionName.{ActionName}
 use Rattle.run_defs.specs.declared.names.ActionName.TheVariants as does
+use Rattle.run_defs.specs.declared.names.AnimName.{AnimName}
+use Rattle.run_defs.specs.declared.names.AnimName.TheVariants as anim
 use Rattle.run_defs.specs.declared.names.AssetName.{AssetName}
 use Rattle.run_defs.specs.declared.names.AssetName.TheVariants as asset
 use Rattle.run_defs.specs.declared.names.DeviceName.{DeviceName}
@@ -317,6 +324,46 @@ device_fields device.Turn at = fields ask.Turn at ▹ steps
 device_fields device.Push at = fields ask.Push at ▹ down
 device_fields device.Tick at = fields ask.Tick at ▹ passing
 
+-- what an animation moves
+unfoldable pub var : Field Var
+var = name_in (table {A = Var} VARS) X
+
+-- how long it takes from its start to its end, in milliseconds
+abbrev pub anim_time : Field ℕ
+anim_time = count_in ANIM_TIME
+
+-- what a word says as how often it is played: a number of times, or `forever`
+unfoldable pub repeat_said : Word → Reading (Option ℕ)
+repeat_said word =
+    if bytes_eq word (codes "forever") then Ok None else mapped Some (natural REPEAT.low REPEAT.high word)
+
+abbrev pub repeat : Field (Option ℕ)
+repeat = record { says = repeat_said; stand_in = None }
+
+-- how it goes from its start to its end
+unfoldable pub path : Field Path
+path = name_in (table {A = Path} PATHS) Linear
+
+abbrev pub anim_of : Handle → Var → ℤ → ℤ → ℕ → ℕ → ℕ → Option ℕ → Path → Command
+anim_of h var start end time delay playback repeat path = ask.Anim (record {
+  h = h;
+  var = var;
+  start = start;
+  end = end;
+  time = time;
+  delay = delay;
+  playback = playback;
+  repeat = repeat;
+  path = path;
+})
+
+-- the commands on animations
+abbrev pub anim_fields : AnimName → Progress → Made Command
+anim_fields anim.Anim at =
+    fields anim_of at ▹ handle ▹ var ▹ coordinate ▹ coordinate ▹ anim_time ▹ passing ▹ passing ▹ repeat
+    ▹ path
+anim_fields anim.Stop at = fields ask.Stop at ▹ handle ▹ var
+
 -- the line of a command, and that of a change
 abbrev pub command_line : Made Command → Made Line
 command_line m = making Make m
@@ -332,6 +379,7 @@ line_fields (name.Style n) at = change_line (style_fields n at)
 line_fields (name.Asset n) at = change_line (asset_fields n at)
 line_fields (name.Play n) at = command_line (play_fields n at)
 line_fields (name.Device n) at = command_line (device_fields n at)
+line_fields (name.Anim n) at = command_line (anim_fields n at)
 
 abbrev pub named_says : Option Name → List Word → Reading Line
 named_says None words = Err Syntax

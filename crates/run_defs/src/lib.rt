@@ -3,19 +3,23 @@
 #![tactic(auto)]
 
 ghost use Rattle.std.specs.Prelude.{◌≡◌};
+ghost use Rattle.run_defs.specs.AnimationExamples.{AnimationsAreWorked};
 ghost use Rattle.run_defs.specs.DeviceExamples.{DevicesAreWorked};
 ghost use Rattle.run_defs.specs.Examples.{StepsAreWorked};
 ghost use Rattle.run_defs.specs.Laws.{ShowsOutcomes, SaysInRange, NoStandIn, FaultStays, ReturnSaysNothing};
 ghost use Rattle.run_defs.specs.Laws.{SameWordsSaySame, StepsChangeTheScene, StepsAsk, RefusedStepIsNone};
 
+mod made;
 mod names;
 mod refusals;
 
-use gui_base::{Action, EventKind, Handle, Key, Refusal};
+use gui_base::{Action, EventKind, Handle, Key, Refusal, Var};
+pub use made::{MadeCommand, MadeLine, worked_made_script};
 pub use names::{
-    ACTIONS, ActionName, AssetName, COMMANDS, DeviceName, Name, PlayName, RowName, StyleName,
-    TreeName,
+    ACTIONS, ActionName, AnimName, AssetName, COMMANDS, DeviceName, Name, PlayName, RowName,
+    StyleName, TreeName,
 };
+use play_defs::AnimSpec;
 pub use refusals::why;
 use scene_defs::Change;
 use thiserror::Error;
@@ -55,6 +59,10 @@ pub enum Command<'a> {
     Push(bool),
     /// So many milliseconds pass.
     Tick(u16),
+    /// Starts an animation, in place of the one for the same variable of the same object.
+    Anim(AnimSpec),
+    /// Stops the animation for this variable of an object where it stands.
+    Stop(Handle, Var),
 }
 
 /// What of an object an input may set, so that value_changed tells of it.
@@ -172,4 +180,9 @@ pub fn worked_steps()
 /// Commands on input devices that were worked out by hand.
 pub fn worked_devices()
     ensures { DevicesAreWorked }
+{}
+
+/// Commands on animations that were worked out by hand.
+pub fn worked_animations()
+    ensures { AnimationsAreWorked }
 {}

@@ -77,6 +77,13 @@ pub enum DeviceName {
     Tick,
 }
 
+/// A command on animations.
+#[derive(Clone, Copy)]
+pub enum AnimName {
+    Anim,
+    Stop,
+}
+
 /// What a handler does.
 #[derive(Clone, Copy)]
 pub enum ActionName {
@@ -112,10 +119,11 @@ pub enum Name {
     Asset(AssetName),
     Play(PlayName),
     Device(DeviceName),
+    Anim(AnimName),
 }
 
 /// The names of all commands.
-pub const COMMANDS: [(&'static str, Name); 48] = [
+pub const COMMANDS: [(&'static str, Name); 50] = [
     ("frame", Name::Frame),
     ("screen", Name::Tree(TreeName::Screen)),
     ("new", Name::Tree(TreeName::New)),
@@ -164,4 +172,6 @@ pub const COMMANDS: [(&'static str, Name); 48] = [
     ("turn", Name::Device(DeviceName::Turn)),
     ("push", Name::Device(DeviceName::Push)),
     ("tick", Name::Device(DeviceName::Tick)),
+    ("anim", Name::Anim(AnimName::Anim)),
+    ("stop", Name::Anim(AnimName::Stop)),
 ];

@@ -18,7 +18,7 @@ use Rattle.scene_defs.specs.Change.{answer_of, changed, scene_by, below}
 use Rattle.scene_defs.specs.Scene.{Scene, handle_of, handles_of, is_at, is_there}
 use Rattle.run_defs.specs.Events.{asked, say, say_or_change, act}
 use Rattle.run_defs.specs.Machine.{Machine}
-use Rattle.run_defs.specs.Making.{make, make_by, put_state, is_same, is_in_state, heir, pass_on, leave_from, leave_group, without_handlers, without_targets, forget, not_there, handles, removed_by, deleted, made, note, attempt, attempt_by}
+use Rattle.run_defs.specs.Making.{make, make_by, put_state, is_same, is_in_state, heir, pass_on, leave_from, leave_group, without_handlers, without_targets, without_anims, forget, not_there, handles, removed_by, deleted, made, note, attempt, attempt_by}
 use Rattle.run_defs.specs.Play.{nothing, with, ◌⊳◌, ◌▷◌, each}
 use Rattle.run_laws.specs.Keeping.{ActKeepsHandlers}
 
@@ -67,7 +67,7 @@ record Forgets (h : Handle) (before after : Machine) : Type 0 where
 
 forget-forgets : (h : Handle) (m : Machine) → Forgets h m (forget h m).machine
 unfolding forget with ◌▷◌ ◌⊳◌
-forget-forgets h m = let k = leave_group-keeps h (without_targets h (without_handlers h m)) in record { there = k.there; handlers = k.handlers }
+forget-forgets h m = let k = leave_group-keeps h (without_anims h (without_targets h (without_handlers h m))) in record { there = k.there; handlers = k.handlers }
 
 -- the objects of a list are forgotten: who is there stays there, and who is none of them has its handlers
 each-there : (c : ℕ) (hs : List ℕ) (m : Machine) → is_there (each forget (handles hs) m).machine.scene c ≡ is_there m.scene c

@@ -1,4 +1,6 @@
+pub mod Animated
 pub mod Counting
 pub mod Keeps
 pub mod Members
+pub mod Moving
 pub mod Scenes

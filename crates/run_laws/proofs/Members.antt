@@ -31,7 +31,7 @@ use Rattle.run_defs.specs.declared.Command.TheVariants as ask
 use Rattle.run_defs.specs.Events.{path, actions_at, asked, say, say_or_change, act, run_at, send, send_there}
 use Rattle.run_defs.specs.Focusing.{unfocus, refocus, focus_taken, hand_over, move_from, move_focus, has_focus, focus_by, focus, first_focus, join, leave}
 use Rattle.run_defs.specs.Machine.{Machine}
-use Rattle.run_defs.specs.Making.{make, make_by, put_state, is_same, is_in_state, with_groups, heir, pass_on, leave_from, leave_group, without_handlers, without_targets, forget, handles, not_there, made, note, attempt, attempt_by}
+use Rattle.run_defs.specs.Making.{make, make_by, put_state, is_same, is_in_state, with_groups, heir, pass_on, leave_from, leave_group, without_handlers, without_targets, without_anims, forget, handles, not_there, made, note, attempt, attempt_by}
 use Rattle.run_defs.specs.Play.{Rule, nothing, with, ◌⊳◌, ◌▷◌, each, aimed}
 use Rattle.run_defs.specs.Step.{down_at, lifted, answer, tests_of, is_command_in_range, rule_of, unless, step, IsCommand}
 use Rattle.run_defs.proofs.Inputs.{put-members, IsAside, IsClosed, good_feed_pointer, good_feed_keypad, good_feed_encoder, good_tick}
@@ -162,7 +162,7 @@ module _ (hs : List ℕ) (h : Handle) where
 
   lets_forget : Lets (forget h)
   unfolding forget with ◌▷◌ ◌⊳◌
-  lets_forget m s = lets_group (without_targets h (without_handlers h m)) (record { valid = s.valid; there = s.there; once = s.once })
+  lets_forget m s = lets_group (without_anims h (without_targets h (without_handlers h m))) (record { valid = s.valid; there = s.there; once = s.once })
 
 keeps_leave_group : (hs : List ℕ) (h : Handle) → Keeps hs (leave_group h)
 keeps_leave_group hs h m s = lets_group hs h m (record { valid = s.valid; there = λ k is. grind (arith, s.there k is); once = s.once })
@@ -299,6 +299,8 @@ keeps_closed = record {
   look = λ f h m. h m m;
   aside = keeps_aside;
   value = λ h n. keeps_make [] (change.Value h n) tt (λ scene k. refl);
+  place = λ h x y. keeps_make [] (change.Pos h x y) tt (λ scene k. refl);
+  size = λ h width height. keeps_make [] (change.Size h width height) tt (λ scene k. refl);
   put = keeps_put [];
   sent = keeps_send;
   moved = keeps_move;
@@ -331,6 +333,8 @@ rule_stands (ask.Key key down) m c none s = good_feed_keypad (Keeps []) keeps_cl
 rule_stands (ask.Turn n) m c none s = good_feed_encoder (Keeps []) keeps_closed _ m s
 rule_stands (ask.Push down) m c none s = good_feed_encoder (Keeps []) keeps_closed _ m s
 rule_stands (ask.Tick ms) m c none s = good_tick (Keeps []) keeps_closed ms m s
+rule_stands (ask.Anim spec) m c none s = record { valid = s.valid; there = s.there; once = s.once }
+rule_stands (ask.Stop h var) m c none s = record { valid = s.valid; there = s.there; once = s.once }
 
 pub steps_keep_members : StepsKeepMembers
 unfolding step

@@ -1,13 +1,16 @@
 -- What goes on holding as rules are played.
-use Rattle.std.specs.Prelude.{◌≡◌, true, None}
+use Rattle.std.specs.Prelude.{◌≡◌, true, None, List}
 use Rattle.gui_base.specs.Forest.{preorder}
 use Rattle.gui_base.specs.declared.Handle.{Handle}
 use Rattle.gui_base.specs.declared.events.Action.{Action}
 use Rattle.gui_base.specs.declared.events.EventKind.{EventKind}
 use Rattle.play_defs.specs.Handlers.{handlers_of}
+use Rattle.play_defs.specs.declared.Anim.{Anim}
+use Rattle.run_defs.specs.Animating.{animate}
 use Rattle.run_defs.specs.Events.{act}
 use Rattle.run_defs.specs.Machine.{Machine}
 use Rattle.run_defs.specs.Making.{handles, removed}
+use Rattle.run_defs.specs.Play.{each}
 use Rattle.run_defs.specs.Step.{IsCommand, step}
 use Rattle.run_defs.specs.declared.Command.{Command}
 use Rattle.scene_defs.specs.Change.{answer_of, tree_below}
@@ -34,3 +37,13 @@ abbrev pub StepsKeepScenesValid : Type 0
 StepsKeepScenesValid =
     (machine : Machine) (command : Command) → IsValid machine.scene → IsCommand command →
     IsValid (step machine command).machine.scene
+
+-- the animations and the time are those from before
+pub record RunsOn (before after : Machine) : Type 0 where
+  pub anims : after.anims ≡ before.anims
+  pub time : after.time ≡ before.time
+
+-- what animations give their objects leaves both as they are
+abbrev pub AnimatingRunsOn : Type 0
+AnimatingRunsOn =
+    (anims : List Anim) (machine : Machine) → RunsOn machine (each animate anims machine).machine

@@ -1,2 +1,3 @@
+pub mod Animated
 pub mod Keeping
 pub mod Members

@@ -1,7 +1,9 @@
 //! Laws of a machine: what goes on holding as its rules are played. There is no code here.
 #![tactic(auto)]
 
+ghost use Rattle.run_laws.specs.Animated.{FirstAnimatedAreThere, StepsKeepAnimated};
 ghost use Rattle.run_laws.specs.Keeping.{ActKeepsHandlers, DeleteRemovesAllBelow, StepsKeepScenesValid};
+ghost use Rattle.run_laws.specs.Keeping.{AnimatingRunsOn};
 ghost use Rattle.run_laws.specs.Members.{FirstAreJoined, StepsKeepMembers, OneMoreFits};
 
 /// An object that is still there after an action of its own has its handlers, so that the next of them runs.
@@ -26,4 +28,16 @@ pub fn members_are_there()
     ensures first { FirstAreJoined }
     ensures step { StepsKeepMembers }
     ensures room { OneMoreFits }
+{}
+
+/// What animations give their objects leaves the animations and the time as they are.
+#[tactic(auto, using(crate::proofs::Animated::animating_runs_on))]
+pub fn animating_runs_on()
+    ensures { AnimatingRunsOn }
+{}
+
+/// An animation runs only for an object that is there: a deletion ends those of all that it removes.
+pub fn animated_are_there()
+    ensures first { FirstAnimatedAreThere }
+    ensures step { StepsKeepAnimated }
 {}

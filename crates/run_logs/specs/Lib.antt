@@ -1,3 +1,5 @@
+pub mod AnimationCorners
+pub mod AnimationSamples
 pub mod CornerSamples
 pub mod DeviceSamples
 pub mod Reference

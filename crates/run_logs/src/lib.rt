@@ -1,9 +1,10 @@
-//! Scripts of events, groups, focus and input devices with the logs that a reference implementation gives.
-//! There is no code here.
+//! Scripts of events, groups, focus, input devices and animations with the logs that a reference
+//! implementation gives. There is no code here.
 #![tactic(auto)]
 
 ghost use Rattle.run_logs.specs.Reference.{ReferenceLogs, FirstReferenceLog};
 ghost use Rattle.run_logs.specs.Reference.{DeviceLogs, CornerLogs};
+ghost use Rattle.run_logs.specs.Reference.{AnimationLogs, AnimationCornerLogs, SettingsLog};
 
 /// Twelve scripts of a hundred lines, twelve more of input devices, and twelve at the corners of their rules
 /// have the logs that a reference implementation gives, by the definitions of the language, of a step and of
@@ -14,4 +15,12 @@ pub fn reference_logs()
     ensures devices { DeviceLogs }
     ensures corners { CornerLogs }
     ensures first { FirstReferenceLog }
+{}
+
+/// The same of twelve scripts of a hundred lines with animations, of ten at the corners of their rules, and
+/// of a whole settings screen with its frames.
+pub fn animation_logs()
+    ensures animations { AnimationLogs }
+    ensures corners { AnimationCornerLogs }
+    ensures settings { SettingsLog }
 {}

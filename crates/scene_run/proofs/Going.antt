@@ -21,7 +21,7 @@ use Rattle.scene_run.proofs.Effects.{Effects-more}
 use Rattle.scene_run.proofs.Owing.{accounted_line, sends_as_owed, halted_as_owed, owed_more}
 
 -- a panel with the sizes of this moment has those of the first one, since no line changes the limits
-first_sizes : (first : Machine) (start new : Output) (now : Running) (lines : List Said) → Answered first start now lines → HasSizes new.panel now.moment.machine.scene.limits → HasSizes new.panel first.scene.limits
+pub first_sizes : (first : Machine) (start new : Output) (now : Running) (lines : List Said) → Answered first start now lines → HasSizes new.panel now.moment.machine.scene.limits → HasSizes new.panel first.scene.limits
 first_sizes first start new now lines h sizes = subst (HasSizes new.panel) (ap (λ (m : Moment). m.machine.scene.limits) h.moment ∙ after_all-limits (first_moment first) lines) sizes
 
 pub ready_less : (now : Running) (room less : ℕ) → less ≤ room → IsReady now room → IsReady now less
@@ -33,10 +33,10 @@ goes_on_none now = record {
   ready = λ room h. ready_less now (room + 1) room (omega arith) h;
 }
 
-same_moment : {m n : Machine} {a b c d : ℕ} → m ≡ n → a ≡ b → c ≡ d → moment m a c ≡ moment n b d
+pub same_moment : {m n : Machine} {a b c d : ℕ} → m ≡ n → a ≡ b → c ≡ d → moment m a c ≡ moment n b d
 same_moment e f h = rw (e, f, h) refl
 
-pub goes_on_one : (old new : Running) (said : Said) (outcome : Option Outcome) (n : Bool) →
+unfoldable pub goes_on_one : (old new : Running) (said : Said) (outcome : Option Outcome) (n : Bool) →
     ((seen : Option Scene) → IfSome seen (ShowsScene old.output.panel) → Effects old.output new.output seen (told (entry old.moment said ∷ []) (option_to_list outcome))) →
     length (option_to_list outcome) ≡ frames_asked said → n ≡ noted (told (entry old.moment said ∷ []) (option_to_list outcome)) → new.moment.machine ≡ machine_after old.moment.machine said →
     new.moment.number ≡ old.moment.number + 1 → new.moment.frame ≡ old.moment.frame + length (option_to_list outcome) → new.noted ≡ (old.noted || n) → HasSizes new.output.panel old.moment.machine.scene.limits →

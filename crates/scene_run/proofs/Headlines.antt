@@ -7,10 +7,10 @@ use Rattle.gui_base.specs.Limits.{Bounds}
 use Rattle.run_defs.specs.Machine.{Machine, first_machine}
 use Rattle.gui_edge.specs.Panel.{PanelState, Opens}
 use Rattle.gui_edge.proofs.Telling.{keeps_telling-some}
-use Rattle.scene_run.specs.Effects.{PanelEffects, SinceOpening}
-use Rattle.scene_run.specs.Headline.{Outside, Runs, Headline}
+use Rattle.scene_run.specs.Effects.{Output, PanelEffects, SinceOpening}
+use Rattle.scene_run.specs.Headline.{Outside, Runs, RunsAs, Headline, MadeEnded}
 use Rattle.scene_run.specs.declared.status.Status.{Status}
-use Rattle.scene_run.specs.declared.status.Status.TheVariants.{PanelFault, NoMemory}
+use Rattle.scene_run.specs.declared.status.Status.TheVariants.{PanelFault, NoMemory, ReadFault}
 
 -- opening a panel answers no line
 opened_effects : (old new : PanelState) (width height limit : ℕ) → Opens old new width height limit → PanelEffects old new None []
@@ -29,11 +29,25 @@ since_opening old new width height limit opens = record {
   flush_faults = ap (λ (p : PanelState). p.flush_faults) opens.is;
 }
 
-headline_by : (limits : Bounds) (old new : Outside) (status : Status) → Runs (first_machine limits) old new status → Headline (Some limits) old new status
+headline_by : (limits : Bounds) (old new : Outside) (status : Status) → RunsAs limits.make (first_machine limits) old new status → Headline (Some limits) old new status
 headline_by limits old new PanelFault h = tt
 headline_by limits old new NoMemory h = tt
 headline_by limits old new status h = h
 
-pub headline_given : (words : Option Bounds) (limits : Bounds) (first : Machine) (old new : Outside) (status : Status) → Some limits ≡ words → first ≡ first_machine limits → Runs first old new status → Headline words old new status
+headline_given : (words : Option Bounds) (limits : Bounds) (first : Machine) (old new : Outside) (status : Status) → Some limits ≡ words → first ≡ first_machine limits → RunsAs limits.make first old new status → Headline words old new status
 headline_given words limits first old new status e f runs =
-    subst (λ (ws : Option Bounds). Headline ws old new status) e (headline_by limits old new status (subst (λ (m : Machine). Runs m old new status) f runs))
+    subst (λ (ws : Option Bounds). Headline ws old new status) e (headline_by limits old new status (subst (λ (m : Machine). RunsAs limits.make m old new status) f runs))
+
+-- where no made script is asked for
+pub headline_read : (words : Option Bounds) (limits : Bounds) (first : Machine) (old new : Outside) (status : Status) → Some limits ≡ words → first ≡ first_machine limits → limits.make ≡ None → Runs first old new status → Headline words old new status
+headline_read words limits first old new status e f none runs =
+    headline_given words limits first old new status e f (subst (λ (k : Option ℕ). RunsAs k first old new status) (sym none) runs)
+
+-- where the made script of a number is asked for
+pub headline_made : (words : Option Bounds) (limits : Bounds) (first : Machine) (k : ℕ) (old new : Outside) (status : Status) → Some limits ≡ words → first ≡ first_machine limits → limits.make ≡ Some k → new.source ≡ old.source → MadeEnded k first old.output new.output status → Headline words old new status
+headline_made words limits first k old new status e f some unread ended =
+    headline_given words limits first old new status e f (subst (λ (m : Option ℕ). RunsAs m first old new status) (sym some) (record { unread = unread; ended = ended }))
+
+-- a made script reads nothing, so that no read of it fails
+pub made_reads_nothing : {P : Type 0} (k : ℕ) (first : Machine) (old new : Output) (status : Status) → MadeEnded k first old new status → status ≡ ReadFault → P
+made_reads_nothing k first old new status ended e = absurd (subst (λ (s : Status). MadeEnded k first old new s) e ended)

@@ -11,6 +11,7 @@ use Rattle.gui_edge.specs.Source.{SourceState}
 use Rattle.gui_edge.specs.Sink.{SinkState}
 use Rattle.gui_edge.specs.Panel.{PanelState}
 use Rattle.scene_run.specs.Effects.{Output, output, Answers, Halted}
+use Rattle.scene_run.specs.Making.{AnswersMade, MadeBroke}
 use Rattle.scene_run.specs.declared.status.Status.{Status}
 use Rattle.scene_run.specs.declared.status.Status.TheVariants.{Done, Noted, Usage, ReadFault, WriteFault}
 use Rattle.scene_run.specs.declared.status.Status.TheVariants.{PanelFault, NoMemory, TooLong}
@@ -60,13 +61,30 @@ pub record Runs (first : Machine) (old new : Outside) (status : Status) : Type 0
   pub source : Consumes old.source.left new.source.left taken
   pub ended : Ended first old new taken status
 
+-- what the lines of the made script came to, by how the run ended
+abbrev pub MadeEnded : ℕ → Machine → Output → Output → Status → Type 0
+MadeEnded k first old new Done = AnswersMade k first old new false
+MadeEnded k first old new Noted = AnswersMade k first old new true
+MadeEnded k first old new WriteFault = MadeBroke k first old new
+MadeEnded k first old new status = ⊥
+
+-- The made script of a number was answered, from this machine on, and nothing was read.
+pub record RunsMade (k : ℕ) (first : Machine) (old new : Outside) (status : Status) : Type 0 where
+  pub unread : new.source ≡ old.source
+  pub ended : MadeEnded k first old.output new.output status
+
+-- the script that is read, or the made one where the words ask for it
+abbrev pub RunsAs : Option ℕ → Machine → Outside → Outside → Status → Type 0
+RunsAs None first old new status = Runs first old new status
+RunsAs (Some k) first old new status = RunsMade k first old new status
+
 -- The headline: where the words have limits, and the machine and the panel could be opened, the script is
 -- read and answered so.
 abbrev pub Headline : Option Bounds → Outside → Outside → Status → Type 0
 Headline None old new status = ⊤
 Headline (Some limits) old new PanelFault = ⊤
 Headline (Some limits) old new NoMemory = ⊤
-Headline (Some limits) old new status = Runs (first_machine limits) old new status
+Headline (Some limits) old new status = RunsAs limits.make (first_machine limits) old new status
 
 -- P where the run ended before a byte was read
 abbrev pub IfUnstarted : Status → Type 0 → Type 0

@@ -1,3 +1,5 @@
+pub mod Counting
 pub mod Effects
 pub mod Headline
+pub mod Making
 pub mod Running

@@ -1,5 +1,6 @@
 //! Answers one line of the script.
-ghost use Rattle.std.specs.Prelude.{◌≡◌, ◌<◌, ◌∷◌, [], ℕ, length, IfOk, IfSome, OnOk, OnErr};
+ghost use Rattle.std.specs.Prelude.{◌≡◌, ◌<◌, ◌∷◌, [], ℕ, length, if◌then◌else◌};
+ghost use Rattle.std.specs.Prelude.{IfOk, IfSome, OnOk, OnErr};
 ghost use Rattle.std.specs.declared.option.Option.{Option};
 ghost use Rattle.std.specs.Io.KnownBytes.{Appends};
 ghost use Rattle.std.specs.Option.{option_to_list};
@@ -18,6 +19,7 @@ ghost use Rattle.gui_play.specs.Panels.{ShowsScene, AgreesWith, GoesOnAgreeing, 
 ghost use Rattle.run_debts.specs.Accounts.{FrameCounts, LineCounts};
 ghost use Rattle.run_debts.specs.Owing.{command_owes};
 ghost use Rattle.scene_run.specs.Effects.{output, PanelEffects, Effects, LineBreaks, FrameBroke};
+ghost use Rattle.scene_run.specs.Making.{is_refusal, refused_count};
 
 use arrayvec::ArrayVec;
 use gui_base::{Refusal, Steps};
@@ -74,12 +76,23 @@ fn is_noted(reply: Reply) -> bool
     }
 }
 
-/// Carries out a command, which writes what its events say, and writes the reply. It tells whether there is
-/// something to note.
-fn make<L: Sink>(gui: &mut Gui, command: &Command, number: u32, log: &mut L) -> Result<bool, Failed>
+/// Whether a reply is that of a refusal.
+fn is_refusal(reply: Reply) -> bool
+    ensures { result ≡ is_refusal reply }
+{
+    matches!(reply, Reply::Refused(_))
+}
+
+/// Carries out a command, which writes what its events say, and writes the reply.
+fn make<L: Sink>(
+    gui: &mut Gui,
+    command: &Command,
+    number: u32,
+    log: &mut L,
+) -> Result<Reply, Failed>
     requires { IsCommand command.now }
     ensures machine { machine_of gui.new ≡ (step (machine_of gui.old) command.now).machine }
-    ensures noted { IfOk result (λ noted. noted ≡ is_noted (step (machine_of gui.old) command.now).reply) }
+    ensures reply { IfOk result (λ reply. reply ≡ (step (machine_of gui.old) command.now).reply) }
     ensures ok { OnOk result (Appends (L.state log.old).held (L.state log.new).held
         (log_lines (Replied number (step (machine_of gui.old) command.now).lines
         (step (machine_of gui.old) command.now).reply))) }
@@ -94,7 +107,7 @@ fn make<L: Sink>(gui: &mut Gui, command: &Command, number: u32, log: &mut L) -> 
 {
     let reply = gui.apply(command, log)?;
     log.put(reply_text(number, reply).as_slice())?;
-    Ok(is_noted(reply))
+    Ok(reply)
 }
 
 /// Sends what is pending to the panel with an empty count of steps, which no clause of a run speaks of.
@@ -141,10 +154,12 @@ fn show<P: Panel>(gui: &mut Gui, panel: &mut P) -> Result<Outcome, Failed>
     }
 }
 
-/// What became of a line: the outcome of a frame, and whether the line was refused or the frame faulted.
+/// What became of a line: the outcome of a frame, whether the line was refused, and whether it or an action
+/// was refused or the frame faulted.
 #[derive(Clone, Copy)]
 pub struct LineEnd {
     pub outcome: Option<Outcome>,
+    pub refused: bool,
     pub noted: bool,
 }
 
@@ -170,6 +185,9 @@ pub fn answer<L: Sink, P: Panel>(
     ensures noted { IfOk result (λ end. end.noted ≡ noted
         (told (entry (moment (machine_of gui.old) number frame) said.now ∷ [])
         (option_to_list end.outcome))) }
+    ensures refused { IfOk result (λ end. refused_count
+        (told (entry (moment (machine_of gui.old) number frame) said.now ∷ [])
+        (option_to_list end.outcome)) ≡ (if end.refused then 1 else 0)) }
     ensures counts { IfOk result (λ end. LineCounts (machine_of gui.old).scene.limits (machine_of gui.old)
         said.now (option_to_list end.outcome) (standing_of (P.state panel.old) (pending_in gui.old))
         (standing_of (P.state panel.new) (pending_in gui.new))) }
@@ -181,13 +199,16 @@ pub fn answer<L: Sink, P: Panel>(
 {
     let mut end = LineEnd {
         outcome: None,
+        refused: false,
         noted: false,
     };
     match said {
         Ok(line) => match line {
             Line::Blank => Ok(end),
             Line::Make(command) => {
-                end.noted = make(gui, command, number, log)?;
+                let reply = make(gui, command, number, log)?;
+                end.refused = is_refusal(reply);
+                end.noted = is_noted(reply);
                 Ok(end)
             }
             Line::Frame => {
@@ -201,6 +222,7 @@ pub fn answer<L: Sink, P: Panel>(
         Err(fault) => {
             let reply = Reply::Refused(Refusal::from(*fault));
             log.put(reply_text(number, reply).as_slice())?;
+            end.refused = true;
             end.noted = true;
             Ok(end)
         }

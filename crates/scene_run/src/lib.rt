@@ -2,11 +2,11 @@
 #![tactic(auto)]
 
 mod answer;
+mod made;
 mod reading;
 mod runner;
 mod status;
 mod top;
-mod words;
 
 pub use status::Status;
 pub use top::run_scene;

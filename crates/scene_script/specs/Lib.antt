@@ -1,2 +1,4 @@
+pub mod CommandLine
 pub mod Cutting
+pub mod MadeLines
 pub mod Numbers

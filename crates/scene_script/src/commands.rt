@@ -5,6 +5,7 @@ ghost use Rattle.run_defs.specs.Commands.{line_fields, command_says};
 ghost use Rattle.run_defs.specs.Language.{words_of};
 
 use crate::actions::play_command;
+use crate::anims::anim_command;
 use crate::devices::device_command;
 use crate::fields::Fields;
 use gui_base::intervals::{
@@ -44,6 +45,7 @@ fn line<'a>(name: Name, fields: &mut Fields<'a>) -> Line<'a>
         Name::Asset(name) => Line::Make(Command::Change(asset_change(name, fields))),
         Name::Play(name) => Line::Make(play_command(name, fields)),
         Name::Device(name) => Line::Make(device_command(name, fields)),
+        Name::Anim(name) => Line::Make(anim_command(name, fields)),
     }
 }
 

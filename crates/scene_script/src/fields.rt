@@ -4,6 +4,7 @@ ghost use Rattle.gui_base.specs.Names.{slice};
 ghost use Rattle.run_defs.specs.Commands.{handle, new_handle, extent, align, flow, state};
 ghost use Rattle.run_defs.specs.Commands.{selector, property, code, glyph_offset, bytes, text};
 ghost use Rattle.run_defs.specs.Commands.{range_low, range_high, event, aim, action_name, key, steps};
+ghost use Rattle.run_defs.specs.Commands.{var, repeat, path};
 ghost use Rattle.run_defs.specs.Commands.{color_value, align_value, value_for};
 ghost use Rattle.run_defs.specs.Fields.{number_in, count_in, name_in, value, past, value_or, with_fault};
 ghost use Rattle.run_defs.specs.Fields.{next_of, after_next, fields, start, ended};
@@ -12,15 +13,17 @@ ghost use Rattle.run_defs.specs.Language.{first_fault, words_of};
 use crate::aims::aim;
 use crate::lengths::length;
 use crate::numbers::{bytes, code, color, count, number, number_above, offset, small};
+use crate::repeats::repeat;
 use crate::selectors::selector;
 use crate::texts::text;
 use crate::words::next_word;
-use gui_base::events::{EVENTS, KEYS};
+use gui_base::events::{EVENTS, KEYS, PATHS, VARS};
 use gui_base::intervals::{Count, GLYPH_OFFSET, HANDLE, Interval, NEW_HANDLE, TURN, VALUE};
 use gui_base::props::PROPS;
 use gui_base::words::{ALIGNS, FLOWS, STATES, TEXT_ALIGNS};
 use gui_base::{
-    Aim, Align, EventKind, Flow, Handle, Key, Length, Part, Prop, Selector, State, TextAlign, named,
+    Aim, Align, EventKind, Flow, Handle, Key, Length, Part, Path, Prop, Selector, State, TextAlign,
+    Var, named,
 };
 use run_defs::{ACTIONS, ActionName, Line, LineFault};
 use scene_defs::{Rows, Text};
@@ -249,6 +252,34 @@ impl<'a> Fields<'a> {
     {
         let word = self.word();
         self.note(offset(word, TURN), -100)
+    }
+
+    /// What an animation moves.
+    #[tactic(auto, unfolding(run_defs::specs::Commands::var))]
+    pub(crate) fn var(&mut self) -> Var
+        ensures value { result ≡ value var self.old }
+        ensures state { self.new ≡ past var self.old }
+    {
+        self.name(&VARS, Var::X)
+    }
+
+    /// How often an animation is played.
+    #[tactic(auto, unfolding(run_defs::specs::Fields::value, run_defs::specs::Fields::past))]
+    pub(crate) fn repeat(&mut self) -> Option<u16>
+        ensures value { result ≡ value repeat self.old }
+        ensures state { self.new ≡ past repeat self.old }
+    {
+        let word = self.word();
+        self.note(repeat(word), None)
+    }
+
+    /// How an animation goes from its start to its end.
+    #[tactic(auto, unfolding(run_defs::specs::Commands::path))]
+    pub(crate) fn path(&mut self) -> Path
+        ensures value { result ≡ value path self.old }
+        ensures state { self.new ≡ past path self.old }
+    {
+        self.name(&PATHS, Path::Linear)
     }
 
     /// What an action does.

@@ -3,18 +3,24 @@
 
 mod actions;
 mod aims;
+mod anims;
 mod commands;
 mod cutter;
 mod devices;
 mod fields;
 mod lengths;
+mod limits;
+mod maker;
 mod numbers;
 mod parse;
+mod repeats;
 mod selectors;
 mod texts;
 mod words;
 
 pub use cutter::{Cut, Cutter};
+pub use limits::limits_of;
+pub use maker::Maker;
 pub use numbers::natural;
 pub use parse::parse_line;
 pub use run_defs::{Command, Line, LineFault, why};

@@ -11,6 +11,7 @@ use Rattle.text_defs.specs.Lines.{lines, run_width, greatest}
 use Rattle.scene_defs.specs.Place.{place}
 use Rattle.run_defs.specs.Commands.{command_says, state, property, align, flow, event, aim_said, action_name, key}
 use Rattle.run_defs.specs.Lengths.{length_said}
+use Rattle.run_defs.specs.Animating.{animate_all}
 use Rattle.run_defs.specs.Devices.{press_pointer, pointer_tells, feed_pointer, press_keypad, keypad_tells, feed_keypad, times, arrow_in, turn_once, turn, edit, edit_by, change_editing, long_push, release_push, press_encoder, encoder_tells, feed_encoder}
 use Rattle.run_defs.specs.Pointing.{hit}
 use Rattle.run_defs.specs.Reactions.{put_value, slide, slide_to, tell_change, tell_after, react, react_input, press, hold, toggle, click, let_up, short_click, release, nudge, check_by, arrow}
@@ -24,11 +25,11 @@ use Rattle.run_defs.specs.Play.{with, ◌⊳◌, ◌▷◌, each, aimed}
 use Rattle.run_defs.specs.Script.{line_says}
 use Rattle.run_defs.specs.Selectors.{selector_named, state_named}
 use Rattle.run_defs.specs.Step.{step}
-use Rattle.run_defs.specs.Words.{with_width, setting_of, sets_a_pool, with_pool, with_pools}
+use Rattle.run_defs.specs.Words.{with_width, setting_of, sets_a_pool, with_pool, with_further}
 use Rattle.run_logs.proofs.reference_logs.Goals as goal
 
 pub returns-clause-logs : goal.returns-clause-logs
-unfolding digits decode_pairs has_bit with_bit named command_says state property align flow event aim_said action_name say act run_at send send_there over value past unfocus refocus hand_over move_from move_focus focus join leave make put_state leave_from leave_group forget made note attempt number natural color with ◌⊳◌ ◌▷◌ each aimed line_says selector_named state_named step with_width setting_of sets_a_pool with_pool with_pools
+unfolding digits decode_pairs has_bit with_bit named command_says state property align flow event aim_said action_name say act run_at send send_there over value past unfocus refocus hand_over move_from move_focus focus join leave make put_state leave_from leave_group forget made note attempt number natural color with ◌⊳◌ ◌▷◌ each aimed line_says selector_named state_named step with_width setting_of sets_a_pool with_pool with_further
 returns-clause-logs c = record {
   log_1 = refl;
   log_2 = refl;
@@ -45,7 +46,7 @@ returns-clause-logs c = record {
 }
 
 pub returns-clause-devices : goal.returns-clause-devices
-unfolding digits chars face lines run_width greatest place key length_said send_input step_focus press_pointer pointer_tells feed_pointer press_keypad keypad_tells feed_keypad times arrow_in turn_once turn edit edit_by change_editing long_push release_push press_encoder encoder_tells feed_encoder hit put_value slide slide_to tell_change tell_after react react_input press hold toggle click let_up short_click release nudge check_by arrow tick decode_pairs has_bit with_bit named command_says state property align flow event aim_said action_name say act run_at send send_there over value past unfocus refocus hand_over move_from move_focus focus join leave make put_state leave_from leave_group forget made note attempt number natural color with ◌⊳◌ ◌▷◌ each aimed line_says selector_named state_named step with_width setting_of sets_a_pool with_pool with_pools
+unfolding digits chars face lines run_width greatest place key length_said send_input step_focus press_pointer pointer_tells feed_pointer press_keypad keypad_tells feed_keypad times arrow_in turn_once turn edit edit_by change_editing long_push release_push press_encoder encoder_tells feed_encoder hit put_value slide slide_to tell_change tell_after react react_input press hold toggle click let_up short_click release nudge check_by arrow tick animate_all decode_pairs has_bit with_bit named command_says state property align flow event aim_said action_name say act run_at send send_there over value past unfocus refocus hand_over move_from move_focus focus join leave make put_state leave_from leave_group forget made note attempt number natural color with ◌⊳◌ ◌▷◌ each aimed line_says selector_named state_named step with_width setting_of sets_a_pool with_pool with_further
 returns-clause-devices c = record {
   devices_1 = refl;
   devices_2 = refl;
@@ -62,7 +63,7 @@ returns-clause-devices c = record {
 }
 
 pub returns-clause-corners : goal.returns-clause-corners
-unfolding digits chars face lines run_width greatest place key length_said send_input step_focus press_pointer pointer_tells feed_pointer press_keypad keypad_tells feed_keypad times arrow_in turn_once turn edit edit_by change_editing long_push release_push press_encoder encoder_tells feed_encoder hit put_value slide slide_to tell_change tell_after react react_input press hold toggle click let_up short_click release nudge check_by arrow tick decode_pairs has_bit with_bit named command_says state property align flow event aim_said action_name say act run_at send send_there over value past unfocus refocus hand_over move_from move_focus focus join leave make put_state leave_from leave_group forget made note attempt number natural color with ◌⊳◌ ◌▷◌ each aimed line_says selector_named state_named step with_width setting_of sets_a_pool with_pool with_pools
+unfolding digits chars face lines run_width greatest place key length_said send_input step_focus press_pointer pointer_tells feed_pointer press_keypad keypad_tells feed_keypad times arrow_in turn_once turn edit edit_by change_editing long_push release_push press_encoder encoder_tells feed_encoder hit put_value slide slide_to tell_change tell_after react react_input press hold toggle click let_up short_click release nudge check_by arrow tick animate_all decode_pairs has_bit with_bit named command_says state property align flow event aim_said action_name say act run_at send send_there over value past unfocus refocus hand_over move_from move_focus focus join leave make put_state leave_from leave_group forget made note attempt number natural color with ◌⊳◌ ◌▷◌ each aimed line_says selector_named state_named step with_width setting_of sets_a_pool with_pool with_further
 returns-clause-corners c = record {
   corners_1 = refl;
   corners_2 = refl;
@@ -79,5 +80,5 @@ returns-clause-corners c = record {
 }
 
 pub returns-clause-first : goal.returns-clause-first
-unfolding digits decode_pairs has_bit with_bit named command_says state property align flow event aim_said action_name say act run_at send send_there over value past unfocus refocus hand_over move_from move_focus focus join leave make put_state leave_from leave_group forget made note attempt number natural color with ◌⊳◌ ◌▷◌ each aimed line_says selector_named state_named step with_width setting_of sets_a_pool with_pool with_pools no_lists no_handlers
+unfolding digits decode_pairs has_bit with_bit named command_says state property align flow event aim_said action_name say act run_at send send_there over value past unfocus refocus hand_over move_from move_focus focus join leave make put_state leave_from leave_group forget made note attempt number natural color with ◌⊳◌ ◌▷◌ each aimed line_says selector_named state_named step with_width setting_of sets_a_pool with_pool with_further no_lists no_handlers
 returns-clause-first c = refl

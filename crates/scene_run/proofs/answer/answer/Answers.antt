@@ -5,10 +5,10 @@ use Rattle.std.proofs.Common.{refl}
 use Rattle.std.specs.Prelude.{None}
 use Rattle.scene_run.proofs.answer.answer.Goals as goal
 
-pub returns-in_err-end-in-Make-clause-err : goal.returns-in_err-end-in-Make-clause-err
-returns-in_err-end-in-Make-clause-err g c =
+pub returns-in_err-reply-in-Make-clause-err : goal.returns-in_err-reply-in-Make-clause-err
+returns-in_err-reply-in-Make-clause-err g c =
     on_err c.from_residual.result (rw (c.in-Ok.is, c.in-Make.is)
-    (broke_reply _ _ _ _ _ _ _ _ _ c.in_err-end-in-Make.ensures.err c.in_err-end-in-Make.ensures.cause.failed refl c.in_err-end-in-Make.ensures.damage))
+    (broke_reply _ _ _ _ _ _ _ _ _ c.in_err-reply-in-Make.ensures.err c.in_err-reply-in-Make.ensures.cause.failed refl c.in_err-reply-in-Make.ensures.damage))
 
 pub returns-in_err-outcome-in-Frame-clause-err : goal.returns-in_err-outcome-in-Frame-clause-err
 returns-in_err-outcome-in-Frame-clause-err g c =

@@ -17,3 +17,9 @@ returns-in-Keypad g c = rw c.in-Keypad.is (c.set_keypad_group.ensures (g.S.Sink.
 
 pub returns-in-Encoder : goal.returns-in-Encoder
 returns-in-Encoder g c = rw c.in-Encoder.is (c.set_encoder_group.ensures (g.S.Sink.state c.args.log.now))
+
+pub returns-in-Anim : goal.returns-in-Anim
+returns-in-Anim g c = rw c.in-Anim.is (c.start_anim.ensures (g.S.Sink.state c.args.log.now))
+
+pub returns-in-Stop : goal.returns-in-Stop
+returns-in-Stop g c = rw c.in-Stop.is (c.stop_anim.ensures (g.S.Sink.state c.args.log.now))

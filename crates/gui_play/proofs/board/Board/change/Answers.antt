@@ -17,7 +17,7 @@ pub invariant_of-self : goal.invariant_of-self
 invariant_of-self c =
     let limits = same_limits (goal.at.invariant_of-self c).After-change in record {
       panel = c.change.ensures.debt.panel ∙ (c.args.self.now.panel ∙ sym (same_panel (scene_in c.args.self.now.canvas) (scene_in c.change.new.self) limits));
-      sized = sized_for c.args.self.now.handlers c.args.self.now.groups (sym limits) c.args.self.now.sized;
+      sized = sized_for c.args.self.now.handlers c.args.self.now.groups c.args.self.now.anims (sym limits) c.args.self.now.sized;
     }
 
 pub returns-clause-done : goal.returns-clause-done

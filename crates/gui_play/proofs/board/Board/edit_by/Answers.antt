@@ -1,6 +1,6 @@
 use Rattle.std.proofs.Common.{◌∙◌, sym}
 use Rattle.run_defs.specs.Devices.{edit_by}
-use Rattle.gui_play.proofs.Plays.{played_nothing}
+use Rattle.gui_play.proofs.Plays.{idle}
 use Rattle.gui_play.proofs.board.Board.edit_by.Goals as goal
 
 pub returns-then-editing : goal.returns-then-editing
@@ -15,4 +15,4 @@ returns-then-takes_input c = λ log.
 pub returns-else-takes_input : goal.returns-else-takes_input
 unfolding edit_by
 returns-else-takes_input c = λ log.
-    rw (c.if-editing.false, sym c.takes_input.ensures ∙ c.if-takes_input.false) (played_nothing _)
+    rw (c.if-editing.false, sym c.takes_input.ensures ∙ c.if-takes_input.false) (idle _)

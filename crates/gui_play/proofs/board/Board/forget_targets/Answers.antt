@@ -10,4 +10,4 @@ use Rattle.gui_play.proofs.board.Board.forget_targets.Goals as goal
 pub returns-clause-done : goal.returns-clause-done
 returns-clause-done c = λ log.
     let now = c.args.self.now in
-    played_with (stage now log) _ (without_targets c.args.h) (ap (λ (inputs : Inputs). machine_with (scene_in now.canvas) now.handlers.lists now.groups.all inputs) c.forget.ensures) refl refl (writes_nothing now.scribe.cut log) refl
+    played_with (stage now log) _ (without_targets c.args.h) (ap (λ (inputs : Inputs). machine_with (scene_in now.canvas) now.handlers.lists now.groups.all now.anims.running inputs) c.forget.ensures) refl refl (writes_nothing now.scribe.cut log) refl

@@ -1,10 +1,10 @@
 use Rattle.run_defs.specs.Devices.{long_push}
-use Rattle.gui_play.proofs.Plays.{played_nothing}
+use Rattle.gui_play.proofs.Plays.{idle}
 use Rattle.gui_play.proofs.board.Board.long_push.Goals as goal
 
 pub returns-in-None : goal.returns-in-None
 unfolding long_push
-returns-in-None c = λ log. rw c.in-None.is (played_nothing _)
+returns-in-None c = λ log. rw c.in-None.is (idle _)
 
 pub returns-in-Some : goal.returns-in-Some
 unfolding long_push

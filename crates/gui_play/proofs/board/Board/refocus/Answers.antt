@@ -1,5 +1,5 @@
 use Rattle.run_defs.specs.Focusing.{refocus}
-use Rattle.gui_play.proofs.Plays.{played_then, played_nothing}
+use Rattle.gui_play.proofs.Plays.{played_then, idle}
 use Rattle.gui_play.proofs.board.Board.refocus.Goals as goal
 
 pub returns-then-by_key : goal.returns-then-by_key
@@ -9,4 +9,4 @@ returns-then-by_key c = λ log.
 
 pub returns-else-by_key : goal.returns-else-by_key
 unfolding refocus
-returns-else-by_key c = λ log. rw c.if-by_key.false (played_then _ _ _ _ _ (c.put_state.ensures.done log) (played_nothing _))
+returns-else-by_key c = λ log. rw c.if-by_key.false (played_then _ _ _ _ _ (c.put_state.ensures.done log) (idle _))

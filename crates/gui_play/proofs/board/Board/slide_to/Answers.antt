@@ -1,7 +1,7 @@
 use Rattle.std.proofs.Common.{FitsSigned, w32, rules}
 use Rattle.std.proofs.lemmas.Int.{to_z-of_z}
 use Rattle.run_defs.specs.Reactions.{slide_to}
-use Rattle.gui_play.proofs.Plays.{played_nothing}
+use Rattle.gui_play.proofs.Plays.{idle}
 use Rattle.gui_play.proofs.board.Board.slide_to.Goals as goal
 
 pub returns-in-Some : goal.returns-in-Some
@@ -13,4 +13,4 @@ returns-in-Some c = λ log.
 
 pub returns-in_default : goal.returns-in_default
 unfolding slide_to
-returns-in_default c = λ log. rw c.in_default.is (played_nothing _)
+returns-in_default c = λ log. rw c.in_default.is (idle _)

@@ -1,6 +1,6 @@
 use Rattle.std.proofs.Common.{◌∙◌, sym}
 use Rattle.run_defs.specs.Reactions.{toggle}
-use Rattle.gui_play.proofs.Plays.{played_nothing}
+use Rattle.gui_play.proofs.Plays.{idle}
 use Rattle.gui_play.proofs.board.Board.toggle.Goals as goal
 
 pub returns-then-is_flagged : goal.returns-then-is_flagged
@@ -10,4 +10,4 @@ returns-then-is_flagged c = λ log.
 
 pub returns-else-is_flagged : goal.returns-else-is_flagged
 unfolding toggle
-returns-else-is_flagged c = λ log. rw (sym c.is_flagged.ensures ∙ c.if-is_flagged.false) (played_nothing _)
+returns-else-is_flagged c = λ log. rw (sym c.is_flagged.ensures ∙ c.if-is_flagged.false) (idle _)

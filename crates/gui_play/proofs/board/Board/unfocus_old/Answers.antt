@@ -1,5 +1,5 @@
 use Rattle.run_defs.specs.Play.{aimed}
-use Rattle.gui_play.proofs.Plays.{played_nothing}
+use Rattle.gui_play.proofs.Plays.{idle}
 use Rattle.gui_play.proofs.board.Board.unfocus_old.Goals as goal
 
 pub returns-in-Some : goal.returns-in-Some
@@ -8,4 +8,4 @@ returns-in-Some c = λ log. rw c.in-Some.is (c.unfocus.ensures log)
 
 pub returns-in_default : goal.returns-in_default
 unfolding aimed
-returns-in_default c = λ log. rw c.in_default.is (played_nothing _)
+returns-in_default c = λ log. rw c.in_default.is (idle _)

@@ -1,0 +1,67 @@
+use Rattle.std.proofs.Common.{refl}
+use Rattle.std.specs.Fmt.{digits}
+use Rattle.std.specs.Str.{chars, is_utf8}
+use lib.Utf8.{encode}
+use Rattle.hex.specs.Hex.{decode_pairs}
+use Rattle.gui_base.specs.Bits.{has_bit, with_bit}
+use Rattle.gui_base.specs.Names.{named}
+use Rattle.play_defs.specs.Animation.{in_round}
+use Rattle.text_defs.specs.Fonts.{face}
+use Rattle.text_defs.specs.Lines.{lines, run_width, greatest}
+use Rattle.scene_defs.specs.Place.{place}
+use Rattle.scene_defs.specs.Quoted.{text_in_quotes}
+use Rattle.run_defs.specs.Animating.{put_var, animate, animate_all}
+use Rattle.run_defs.specs.Commands.{command_says, state, property, align, flow, event, aim_said, action_name, key, var, path, repeat_said}
+use Rattle.run_defs.specs.Lengths.{length_said}
+use Rattle.run_defs.specs.Devices.{press_pointer, pointer_tells, feed_pointer, press_keypad, keypad_tells, feed_keypad, times, arrow_in, turn_once, turn, edit, edit_by, change_editing, long_push, release_push, press_encoder, encoder_tells, feed_encoder}
+use Rattle.run_defs.specs.Pointing.{hit}
+use Rattle.run_defs.specs.Reactions.{put_value, slide, slide_to, tell_change, tell_after, react, react_input, press, hold, toggle, click, let_up, short_click, release, nudge, check_by, arrow}
+use Rattle.run_defs.specs.Ticks.{tick}
+use Rattle.run_defs.specs.Events.{say, act, run_at, send, send_there, send_input}
+use Rattle.run_defs.specs.Fields.{over, value, past}
+use Rattle.run_defs.specs.Focusing.{unfocus, refocus, hand_over, move_from, move_focus, step_focus, focus, join, leave}
+use Rattle.run_defs.specs.Making.{make, put_state, leave_from, leave_group, forget, made, note, attempt}
+use Rattle.run_defs.specs.Numbers.{number, natural, color}
+use Rattle.run_defs.specs.Play.{with, ◌⊳◌, ◌▷◌, each, aimed}
+use Rattle.run_defs.specs.Script.{line_says}
+use Rattle.run_defs.specs.Selectors.{selector_named, state_named}
+use Rattle.run_defs.specs.Step.{step}
+use Rattle.run_defs.specs.Texts.{text_said}
+use Rattle.run_defs.specs.Words.{with_width, setting_of, sets_a_pool, with_pool, with_further}
+use Rattle.run_logs.proofs.animation_logs.Goals as goal
+
+pub returns-clause-animations : goal.returns-clause-animations
+unfolding digits chars face lines run_width greatest place key length_said send_input step_focus press_pointer pointer_tells feed_pointer press_keypad keypad_tells feed_keypad times arrow_in turn_once turn edit edit_by change_editing long_push release_push press_encoder encoder_tells feed_encoder hit put_value slide slide_to tell_change tell_after react react_input press hold toggle click let_up short_click release nudge check_by arrow tick decode_pairs has_bit with_bit named command_says state property align flow event aim_said action_name say act run_at send send_there over value past unfocus refocus hand_over move_from move_focus focus join leave make put_state leave_from leave_group forget made note attempt number natural color with ◌⊳◌ ◌▷◌ each aimed line_says selector_named state_named step with_width setting_of sets_a_pool with_pool with_further put_var animate animate_all in_round var path repeat_said
+returns-clause-animations c = record {
+  animations_1 = refl;
+  animations_2 = refl;
+  animations_3 = refl;
+  animations_4 = refl;
+  animations_5 = refl;
+  animations_6 = refl;
+  animations_7 = refl;
+  animations_8 = refl;
+  animations_9 = refl;
+  animations_10 = refl;
+  animations_11 = refl;
+  animations_12 = refl;
+}
+
+pub returns-clause-corners : goal.returns-clause-corners
+unfolding digits chars face lines run_width greatest place key length_said send_input step_focus press_pointer pointer_tells feed_pointer press_keypad keypad_tells feed_keypad times arrow_in turn_once turn edit edit_by change_editing long_push release_push press_encoder encoder_tells feed_encoder hit put_value slide slide_to tell_change tell_after react react_input press hold toggle click let_up short_click release nudge check_by arrow tick decode_pairs has_bit with_bit named command_says state property align flow event aim_said action_name say act run_at send send_there over value past unfocus refocus hand_over move_from move_focus focus join leave make put_state leave_from leave_group forget made note attempt number natural color with ◌⊳◌ ◌▷◌ each aimed line_says selector_named state_named step with_width setting_of sets_a_pool with_pool with_further put_var animate animate_all in_round var path repeat_said
+returns-clause-corners c = record {
+  corners_1 = refl;
+  corners_2 = refl;
+  corners_3 = refl;
+  corners_4 = refl;
+  corners_5 = refl;
+  corners_6 = refl;
+  corners_7 = refl;
+  corners_8 = refl;
+  corners_9 = refl;
+  corners_10 = refl;
+}
+
+pub returns-clause-settings : goal.returns-clause-settings
+unfolding digits chars face lines run_width greatest place key length_said send_input step_focus press_pointer pointer_tells feed_pointer press_keypad keypad_tells feed_keypad times arrow_in turn_once turn edit edit_by change_editing long_push release_push press_encoder encoder_tells feed_encoder hit put_value slide slide_to tell_change tell_after react react_input press hold toggle click let_up short_click release nudge check_by arrow tick decode_pairs has_bit with_bit named command_says state property align flow event aim_said action_name say act run_at send send_there over value past unfocus refocus hand_over move_from move_focus focus join leave make put_state leave_from leave_group forget made note attempt number natural color with ◌⊳◌ ◌▷◌ each aimed line_says selector_named state_named step with_width setting_of sets_a_pool with_pool with_further put_var animate animate_all in_round var path repeat_said is_utf8 encode text_said text_in_quotes
+returns-clause-settings c = refl

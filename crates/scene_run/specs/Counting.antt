@@ -1,0 +1,66 @@
+-- A run of the made script under way.
+use Rattle.std.specs.Prelude.{◌≡◌, ℕ, ◌+◌, ◌^◌, ◌<◌, List, [], ◌∷◌, ◌++◌, length, map, Some, None}
+use Rattle.std.specs.declared.option.Option.{Option}
+use Rattle.gui_edge.specs.Panel.{PanelState}
+use Rattle.gui_core.specs.Machines.{machine_of, pending_in}
+use Rattle.run_defs.specs.declared.Outcome.{Outcome}
+use Rattle.run_defs.specs.declared.Outcome.TheVariants.{Done, Fault}
+use Rattle.run_defs.specs.Machine.{Machine}
+use Rattle.run_defs.specs.Run.{Told, moment, first_moment, entries, told, done_scenes, fault_count}
+use Rattle.run_defs.specs.Script.{Said, parse}
+use Rattle.scene_run.specs.Making.{panel_alone, refused_count}
+use Rattle.scene_run.specs.Running.{Running, IsReady, Answered}
+use Rattle.scene_run.specs.declared.made.Making.{Making}
+
+abbrev pub making : Making → PanelState → Running
+making made panel = record {
+  moment = moment (machine_of made.gui) (made.lines + 1) (made.frames + made.faults + 1);
+  noted = made.noted;
+  output = panel_alone panel;
+  pending = pending_in made.gui;
+}
+
+-- how many of these frames were done, and how many faulted
+abbrev pub done_in : Option Outcome → ℕ
+done_in None = 0
+done_in (Some Done) = 1
+done_in (Some Fault) = 0
+
+abbrev pub faults_in : Option Outcome → ℕ
+faults_in None = 0
+faults_in (Some Done) = 0
+faults_in (Some Fault) = 1
+
+-- what was counted of lines of which this is told
+pub record Counts (made : Making) (lines : List Said) (ts : List Told) : Type 0 where
+  pub all : made.lines ≡ length lines
+  pub refused : made.refused ≡ refused_count ts
+  pub frames : made.frames ≡ length (done_scenes ts)
+  pub faults : made.faults ≡ fault_count ts
+
+-- These lines were answered from a machine on, and counted.
+pub record HasMade (first : Machine) (start : PanelState) (made : Making) (panel : PanelState)
+    (lines : List Said) : Type 0 where
+  pub answered : Answered first (panel_alone start) (making made panel) lines
+  pub counts : Counts made lines (told (entries (first_moment first) lines) answered.answers.outcomes)
+
+-- A line more was answered, whatever was answered before.
+pub record MakesOn (old new : Making) (before after : PanelState) (said : Said) : Type 0 where
+  pub from : (first : Machine) (start : PanelState) (lines : List Said) →
+      HasMade first start old before lines → HasMade first start new after (lines ++ said ∷ [])
+  pub ready : (room : ℕ) → IsReady (making old before) (room + 1) → IsReady (making new after) room
+
+-- what lines say
+abbrev pub all_say : List (List ℕ) → List Said
+all_say lines = map (λ line. parse line) lines
+
+-- Of these lines the first were answered and counted from an earlier state on, whatever was answered before,
+-- and the others are left.
+pub record HasMadeSome (old : Making) (before : PanelState) (all : List (List ℕ)) (now : Making)
+    (after : PanelState) (left : List (List ℕ)) : Type 0 where
+  pub taken : List (List ℕ)
+  pub split : taken ++ left ≡ all
+  pub made : (first : Machine) (start : PanelState) (lines : List Said) →
+      HasMade first start old before lines → HasMade first start now after (lines ++ all_say taken)
+  pub ready : IsReady (making now after) (length left)
+  pub few : now.refused + length left < 2 ^ 32

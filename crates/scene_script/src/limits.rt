@@ -1,0 +1,242 @@
+//! The limits that the words of the command line ask for.
+ghost use Rattle.std.specs.Prelude.{◌≡◌, ◌≤◌, ◌∷◌, [], Some, IfOk, IfErr, IfSome, MatchOption, is_some};
+ghost use Rattle.std.specs.Prelude.{false, filter_map, fold, map, length, unwrap_or};
+ghost use Rattle.std.specs.Option.{option_map};
+ghost use Rattle.std.specs.List.{list_all, list_any};
+ghost use Rattle.clap.specs.Words.{found_of, kind_of};
+ghost use Rattle.clap.specs.declared.error.kind.ErrorKind.TheVariants.{OutOfMemory};
+ghost use Rattle.gui_base.specs.Bounded.{bounds_of};
+ghost use Rattle.run_defs.specs.Words.{number_within, setting_of, sets_a_limit, with_pool, with_make};
+ghost use Rattle.run_defs.specs.Words.{with_further, with_width, limits_of};
+ghost use Rattle.scene_script.specs.CommandLine.{begins_with_dash, limits_by, setting_by, Splits};
+
+use crate::numbers::natural;
+use clap::error::ErrorKind;
+use clap::{Arg, ArgAction, ArgMatches, Command, Error};
+use gui_base::{Limits, NoMemory, POOLS, Pool};
+use std::alloc::Global;
+
+/// The words of the command line, none of which begins with a dash, as `clap` splits them: three values, and
+/// a list of what follows them.
+fn split<'a>(alloc: Global, words: &'a [&str]) -> Result<ArgMatches<'a>, Error>
+    requires { list_any begins_with_dash (map (λ w. w.now) words.now) ≡ false }
+    ensures split { IfOk result (λ m. Splits (map (λ w. w.now) words.entry.now) (found_of m)) }
+    ensures memory { IfErr result (λ e. 3 ≤ length words.entry.now → kind_of e ≡ OutOfMemory) }
+{
+    let width = Arg::new(alloc, "width").required(true);
+    let height = Arg::new(alloc, "height").required(true);
+    let lines = Arg::new(alloc, "lines").required(true);
+    let further = Arg::new(alloc, "further").action(ArgAction::Append);
+    let command = Command::new(alloc, "scene")
+        .no_binary_name(true)
+        .disable_help_flag(true)
+        .arg(width)?
+        .arg(height)?
+        .arg(lines)?
+        .arg(further)?;
+    command.try_get_matches_from(words)
+}
+
+/// A number within these ends.
+fn number(word: &[u8], low: u32, high: u32) -> Option<u32>
+    ensures value { result ≡ number_within low high word.now }
+    ensures inside { IfSome result (λ n. (low ≤ n) × (n ≤ high)) }
+{
+    natural(word, low, high).ok()
+}
+
+/// What a further word of the command line may set.
+#[derive(Clone, Copy)]
+enum Key {
+    /// The slots of a pool.
+    Slots(Pool),
+    /// The made script.
+    Make,
+}
+
+/// What a word sets of this, if it does.
+#[tactic(auto, unfolding(run_defs::specs::Words::setting_of))]
+fn setting(word: &[u8], key: Key) -> Option<&[u8]>
+    ensures { option_map (λ s. s.now) result ≡ setting_by key word.now }
+{
+    let rest = match key {
+        Key::Slots(pool) => word.strip_prefix(pool.name().as_bytes())?,
+        Key::Make => word.strip_prefix(b"make".as_slice())?,
+    };
+    rest.strip_prefix(b"=".as_slice())
+}
+
+/// Whether a word sets one of these pools.
+fn sets_one(word: &[u8], pools: &[Pool]) -> bool
+    ensures { result ≡ list_any (λ pool. is_some (setting_of pool word.now)) pools.now }
+{
+    pools
+        .iter()
+        .any(|pool| setting(word, Key::Slots(*pool)).is_some())
+}
+
+/// Whether a word sets a pool, or the made script.
+#[tactic(auto, unfolding(run_defs::specs::Words::sets_a_pool))]
+fn sets_a_limit(word: &[u8]) -> bool
+    ensures { result ≡ sets_a_limit word.now }
+{
+    sets_one(word, &POOLS) || setting(word, Key::Make).is_some()
+}
+
+/// What the first word that sets this sets of it, and the words after that one.
+fn first_setting<'a>(words: &'a [&'a str], key: Key) -> Option<(&'a [u8], &'a [&'a str])>
+    ensures { MatchOption result
+        (filter_map (setting_by key) (map (λ w. w.now) words.now) ≡ [])
+        (λ t. filter_map (setting_by key) (map (λ w. w.now) words.now)
+        ≡ t.0.now ∷ filter_map (setting_by key) (map (λ w. w.now) t.1.now)) }
+{
+    let mut words = words;
+    while let [word, later @ ..] = words {
+        words = later;
+        if let Some(number) = setting(word.as_bytes(), key) {
+            return Some((number, words));
+        }
+    }
+    None
+}
+
+/// The limits with what the words set of a pool: nothing, or once a number in its range.
+#[tactic(auto, unfolding(run_defs::specs::Words::with_pool))]
+fn with_pool(limits: Option<Limits>, pool: Pool, words: &[&str]) -> Option<Limits>
+    ensures { option_map bounds_of result
+        ≡ with_pool (map (λ w. w.now) words.now) (option_map bounds_of limits) pool }
+{
+    let mut limits = limits?;
+    let Some((number_word, later)) = first_setting(words, Key::Slots(pool)) else {
+        return Some(limits);
+    };
+    if first_setting(later, Key::Slots(pool)).is_some() {
+        return None;
+    }
+    let (least, most) = pool.range();
+    let count = number(number_word, least, most)?;
+    limits.set_slots(pool, count);
+    Some(limits)
+}
+
+/// The limits with what the words set of each of these pools.
+fn with_each(limits: Option<Limits>, pools: &[Pool], words: &[&str]) -> Option<Limits>
+    ensures { option_map bounds_of result
+        ≡ fold (with_pool (map (λ w. w.now) words.now)) (option_map bounds_of limits) pools.now }
+{
+    let mut limits = limits;
+    for pool in pools {
+        limits = with_pool(limits, *pool, words);
+    }
+    limits
+}
+
+/// The limits with these sizes, if they are in range.
+#[tactic(auto, unfolding(run_defs::specs::Words::with_width))]
+fn sizes(width: &[u8], height: &[u8], lines: &[u8]) -> Option<Limits>
+    ensures { option_map bounds_of result ≡ with_width (number_within 1 1024 width.now) height.now lines.now }
+{
+    let width = number(width, 1, 1024)?;
+    let height = number(height, 1, 1024)?;
+    let lines = number(lines, 1, height)?;
+    Some(Limits::with_sizes(width, height, lines))
+}
+
+/// Whether each word sets a pool, or the made script.
+fn set_limits(words: &[&str]) -> bool
+    ensures { result ≡ list_all sets_a_limit (map (λ w. w.now) words.now) }
+{
+    for word in words {
+        if !sets_a_limit(word.as_bytes()) {
+            return false;
+        }
+    }
+    true
+}
+
+/// The limits with what the words set of the made script: nothing, or once a number in its range.
+fn with_make(limits: Limits, words: &[&str]) -> Option<Limits>
+    ensures { option_map bounds_of result
+        ≡ with_make (map (λ w. w.now) words.now) (Some (bounds_of limits)) }
+{
+    let mut limits = limits;
+    let Some((number_word, later)) = first_setting(words, Key::Make) else {
+        return Some(limits);
+    };
+    if first_setting(later, Key::Make).is_some() {
+        return None;
+    }
+    let k = number(number_word, 1, 1000)?;
+    limits.make = Some(k as u16);
+    Some(limits)
+}
+
+/// The limits with what the words set of them.
+#[tactic(auto, unfolding(run_defs::specs::Words::with_further))]
+fn with_further(limits: Limits, words: &[&str]) -> Option<Limits>
+    ensures { option_map bounds_of result
+        ≡ with_further (Some (bounds_of limits)) (map (λ w. w.now) words.now) }
+{
+    if !set_limits(words) {
+        return None;
+    }
+    with_make(with_each(Some(limits), &POOLS, words)?, words)
+}
+
+/// The limits of three words and of what follows them, if they have limits.
+#[tactic(auto, using(crate::proofs::LimitLemmas::nothing_further, crate::proofs::LimitLemmas::nothing_set))]
+fn limits_by(
+    width: Option<&str>,
+    height: Option<&str>,
+    lines: Option<&str>,
+    further: Option<&[&str]>,
+) -> Option<Limits>
+    ensures { option_map bounds_of result
+        ≡ limits_by (option_map (λ w. w.now) width.entry) (option_map (λ w. w.now) height.entry)
+        (option_map (λ w. w.now) lines.entry)
+        (unwrap_or (option_map (λ s. map (λ w. w.now) s.now) further.entry) []) }
+{
+    let width = width?;
+    let height = height?;
+    let limits = sizes(width.as_bytes(), height.as_bytes(), lines?.as_bytes())?;
+    match further {
+        Some(words) => with_further(limits, words),
+        None => Some(limits),
+    }
+}
+
+/// Whether a word begins with a dash.
+fn has_dash(words: &[&str]) -> bool
+    ensures { result ≡ list_any begins_with_dash (map (λ w. w.now) words.now) }
+{
+    for word in words {
+        if matches!(word.as_bytes(), [b'-', ..]) {
+            return true;
+        }
+    }
+    false
+}
+
+/// The limits that the words of the command line ask for, if they have limits: the width, the height and
+/// the lines, and then what they set of the pools, and which made script. A word that begins with a dash
+/// has none.
+#[tactic(auto, using(crate::proofs::LimitLemmas::dash_has_none, crate::proofs::LimitLemmas::few_have_none))]
+pub fn limits_of(alloc: Global, words: &[&str]) -> Result<Option<Limits>, NoMemory>
+    ensures { IfOk result (λ limits. option_map bounds_of limits ≡ limits_of (map (λ w. w.now) words.now)) }
+{
+    if has_dash(words) {
+        return Ok(None);
+    }
+    match split(alloc, words) {
+        Ok(matches) => Ok(limits_by(
+            matches.get_str("width"),
+            matches.get_str("height"),
+            matches.get_str("lines"),
+            matches.get_strs("further"),
+        )),
+        Err(error) => match error.kind() {
+            ErrorKind::OutOfMemory => Err(NoMemory),
+            _ => Ok(None),
+        },
+    }
+}

@@ -1,0 +1,261 @@
+//! The made script, line by line.
+ghost use Rattle.std.specs.Prelude.{◌≡◌, ◌≤◌, ◌<◌, ◌+◌, ◌++◌, ◌∷◌, [], length, slice_index, codes, decimal};
+ghost use Rattle.std.specs.Prelude.{IfNone, IfSome};
+ghost use Rattle.arrayvec.specs.ArrayString.{array_string_len};
+ghost use Rattle.hex.specs.Hex.{encode_upper, upper_digits};
+ghost use Rattle.gui_base.specs.Bounded.{bounds_of};
+ghost use Rattle.run_defs.specs.Made.{draw, drawn, number_text, pair_text, command_drawn, command_at};
+ghost use Rattle.run_defs.specs.Made.{line_drawn, made_script};
+ghost use Rattle.scene_script.specs.MadeLines.{making_at, made_line_at};
+
+use arrayvec::ArrayString;
+use gui_base::Limits;
+use itoa::Buffer;
+use run_defs::{MadeCommand, MadeLine};
+use std::marker::Model;
+
+/// A line of the made script.
+type MadeText = ArrayString<64>;
+
+/// How many lines the made script has.
+const LINES: u32 = 1261;
+
+/// A stream of draws.
+#[derive(Clone, Copy)]
+struct Draws {
+    x: u32,
+}
+
+impl Draws {
+    /// A number below n.
+    #[tactic(auto, unfolding(run_defs::specs::Made::draw, run_defs::specs::Made::drawn))]
+    fn draw(&mut self, n: u32) -> u32
+        requires { 1 ≤ n }
+        ensures value { result ≡ draw n self.old.x }
+        ensures state { self.new.x ≡ drawn self.old.x }
+        ensures below { result < n }
+    {
+        self.x = ((1_103_515_245 * u64::from(self.x) + 12_345) % 2_147_483_648) as u32;
+        self.x / 65_536 % n
+    }
+}
+
+/// Adds the digits of a number, at most ten.
+fn push_number(text: &mut MadeText, number: u32)
+    requires { array_string_len text.old + 10 ≤ 64 }
+    ensures bytes { text.new.bytes ≡ text.old.bytes ++ decimal number }
+    ensures len { array_string_len text.new ≤ array_string_len text.old + 10 }
+{
+    let mut buffer = Buffer::new();
+    text.push_str(buffer.format(number));
+}
+
+/// The digit of a number below 16.
+#[tactic(auto, using(crate::proofs::MadeLemmas::digit_is_ascii))]
+fn hex_digit(n: u32) -> char
+    requires { n < 16 }
+    ensures value { result ≡ slice_index upper_digits n }
+    ensures ascii { result < 128 }
+{
+    char::from(b"0123456789ABCDEF"[n as usize])
+}
+
+/// Adds a number below 256 as two hexadecimal digits.
+#[tactic(auto, using(std::proofs::lemmas::Str::encode_ascii))]
+fn push_hex(text: &mut MadeText, byte: u32)
+    requires byte { byte < 256 }
+    requires room { array_string_len text.old + 2 ≤ 64 }
+    ensures bytes { text.new.bytes ≡ text.old.bytes ++ encode_upper (byte ∷ []) }
+    ensures len { array_string_len text.new ≡ array_string_len text.old + 2 }
+{
+    text.push(hex_digit(byte / 16));
+    text.push(hex_digit(byte % 16));
+}
+
+/// Two numbers of an object, after this name and a space.
+fn pair_text(name: &str, h: u32, a: u32, b: u32) -> MadeText
+    requires { length name.now ≤ 8 }
+    ensures { result.bytes ≡ pair_text name.now h a b }
+{
+    let mut text = ArrayString::new();
+    text.push_str(name);
+    push_number(&mut text, h);
+    text.push_str(" ");
+    push_number(&mut text, a);
+    text.push_str(" ");
+    push_number(&mut text, b);
+    text
+}
+
+/// A number, between these texts.
+fn number_text(before: &str, number: u32, behind: &str) -> MadeText
+    requires before { length before.now ≤ 8 }
+    requires behind { length behind.now ≤ 16 }
+    ensures bytes { result.bytes ≡ number_text before.now number behind.now }
+    ensures len { array_string_len result ≤ 34 }
+{
+    let mut text = ArrayString::new();
+    text.push_str(before);
+    push_number(&mut text, number);
+    text.push_str(behind);
+    text
+}
+
+/// A command on this object of a panel of this width and height.
+#[tactic(auto, using(crate::proofs::MadeLemmas::three_bytes))]
+fn command_text(
+    command: MadeCommand,
+    h: u32,
+    width: u32,
+    height: u32,
+    draws: &mut Draws,
+) -> MadeText
+    requires width { 1 ≤ width }
+    requires height { 1 ≤ height }
+    ensures text { result.bytes ≡ (command_drawn width height command h draws.old.x).text }
+    ensures draws { draws.new.x ≡ (command_drawn width height command h draws.old.x).x }
+{
+    match command {
+        MadeCommand::New => number_text("new ", h, " 3 obj"),
+        MadeCommand::Size => {
+            let w = 1 + draws.draw(width);
+            pair_text("size ", h, w, 1 + draws.draw(height))
+        }
+        MadeCommand::Pos => {
+            let x = draws.draw(width);
+            pair_text("pos ", h, x, draws.draw(height))
+        }
+        MadeCommand::Color => {
+            let mut text = number_text("local ", h, " main bg_color #");
+            push_hex(&mut text, draws.draw(256));
+            push_hex(&mut text, draws.draw(256));
+            push_hex(&mut text, draws.draw(256));
+            text
+        }
+        MadeCommand::Opacity => {
+            let mut text = number_text("local ", h, " main bg_opa ");
+            push_number(&mut text, draws.draw(256));
+            text
+        }
+        MadeCommand::Front => number_text("front ", h, ""),
+    }
+}
+
+/// The command of a draw below 4.
+fn command_at(t: u32) -> MadeCommand
+    ensures { result ≡ command_at t }
+{
+    match t {
+        0 => MadeCommand::Pos,
+        1 => MadeCommand::Size,
+        2 => MadeCommand::Opacity,
+        _ => MadeCommand::Front,
+    }
+}
+
+/// The text of a line on a panel of this width and height.
+fn line_text(line: MadeLine, width: u32, height: u32, draws: &mut Draws) -> MadeText
+    requires width { 1 ≤ width }
+    requires height { 1 ≤ height }
+    ensures text { result.bytes ≡ (line_drawn width height line draws.old.x).text }
+    ensures draws { draws.new.x ≡ (line_drawn width height line draws.old.x).x }
+{
+    match line {
+        MadeLine::Object(command, h) => command_text(command, h, width, height, draws),
+        MadeLine::Drawn => {
+            let h = 10 + draws.draw(50);
+            let command = command_at(draws.draw(4));
+            command_text(command, h, width, height, draws)
+        }
+        MadeLine::Frame => frame_text(),
+    }
+}
+
+/// The line of a frame.
+fn frame_text() -> MadeText
+    ensures { result.bytes ≡ codes "frame" }
+{
+    let mut text = ArrayString::new();
+    text.push_str("frame");
+    text
+}
+
+/// The nth of the commands that make an object.
+fn making_at(n: u32) -> MadeCommand
+    ensures { result ≡ making_at n }
+{
+    match n {
+        0 => MadeCommand::New,
+        1 => MadeCommand::Size,
+        2 => MadeCommand::Pos,
+        3 => MadeCommand::Color,
+        _ => MadeCommand::Opacity,
+    }
+}
+
+/// The line at this place of the made script. Five lines make an object each, and from there on every hundred
+/// and first line is a frame.
+#[tactic(auto, unfolding(crate::specs::MadeLines::made_line_at))]
+fn line_at(place: u32) -> MadeLine
+    ensures { result ≡ made_line_at place }
+{
+    if place < 250 {
+        MadeLine::Object(making_at(place % 5), 10 + place / 5)
+    } else if (place - 250) % 101 == 0 {
+        MadeLine::Frame
+    } else {
+        MadeLine::Drawn
+    }
+}
+
+/// Gives the lines of a made script, in order. Its value is the list of the lines that are left. It takes no
+/// memory.
+#[derive(Drop)]
+pub struct Maker {
+    width: u32,
+    height: u32,
+    draws: Draws,
+    place: u32,
+}
+
+impl Model for Maker {
+    ghost use Rattle.std.specs.Prelude.{ℕ, List, drop};
+    ghost use Rattle.run_defs.specs.Made.{made_lines, texts_drawn};
+    ghost use Rattle.scene_script.specs.MadeLines.{IsMaking};
+
+    ghost Value = { List (List ℕ) };
+
+    ghost view = { λ m. texts_drawn m.width m.height (drop m.place made_lines) m.draws.x };
+
+    ghost invariant = { λ m. IsMaking m.width m.height m.place };
+}
+
+impl Maker {
+    /// A maker of the made script of a number, for a panel with these limits.
+    pub fn new(k: u16, limits: &Limits) -> Maker
+        requires least { 1 ≤ k }
+        requires most { k ≤ 1000 }
+        ensures { result ≡ made_script k (bounds_of limits.now) }
+    {
+        Maker {
+            width: limits.width,
+            height: limits.height,
+            draws: Draws { x: u32::from(k) },
+            place: 0,
+        }
+    }
+
+    /// The next line, if one is left.
+    #[tactic(auto, using(crate::proofs::MadeLemmas::next_left, crate::proofs::MadeLemmas::all_made))]
+    pub fn next_line(&mut self) -> Option<ArrayString<64>>
+        ensures line { IfSome result (λ line. self.old ≡ line.bytes ∷ self.new) }
+        ensures end { IfNone result ((self.old ≡ []) × (self.new ≡ [])) }
+    {
+        if self.place == LINES {
+            return None;
+        }
+        let line = line_at(self.place);
+        self.place += 1;
+        Some(line_text(line, self.width, self.height, &mut self.draws))
+    }
+}

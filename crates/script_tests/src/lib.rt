@@ -1,13 +1,7 @@
-//! Tests of whole runs that no script from a file can make: plans of failures, and what a panel is sent.
+//! Tests of whole runs over a panel that lists its flushes, and of the laws of the language.
 #![tactic(auto)]
 
-#[cfg(test)]
-mod faults;
 #[cfg(test)]
 mod laws;
 #[cfg(test)]
 mod panels;
-#[cfg(test)]
-mod runs;
-#[cfg(test)]
-mod scenes;

@@ -1,14 +1,14 @@
 //! The areas in which a frame comes to a panel, and what a panel shows that was never sent anything.
 ghost use Rattle.std.specs.Prelude.{◌≡◌, ◌≤◌};
 
-use crate::runs::{Outside, WHITE_FRAME, WORDS};
 use arrayvec::ArrayVec;
 use gui_base::{Area, Rgb565};
 use gui_edge::{Failed, MemSink, OpenFault, Panel, SimPanel};
-use scene_run::{Status, run_scene};
+use scene_run::Status;
 use std::alloc::Global;
 use std::process::Abort;
 use std::test::Fail;
+use test_runs::{Outside, WHITE_FRAME, WORDS, run_over};
 
 /// A panel in memory that lists the corners of the areas of its flushes, and knows the sizes that it was
 /// opened with.
@@ -74,7 +74,7 @@ fn two_slices_of_a_white_frame(rt: HostRuntime) -> Result<(), Fail> {
     let script = Vec::from_slice(alloc, b"frame")?;
     let mut outside = Outside::new(alloc, script, 4096, &[])?;
     let mut panel = ListingPanel::new(outside.panel);
-    let status = run_scene(
+    let status = run_over(
         alloc,
         &WORDS,
         &mut outside.source,
@@ -96,7 +96,7 @@ fn the_empty_script_leaves_the_panel_as_it_was_opened(rt: HostRuntime) -> Result
     let alloc = rt.alloc();
     let mut outside = Outside::new(alloc, Vec::new(alloc), 4096, &[])?;
     let mut panel = ListingPanel::new(outside.panel);
-    let status = run_scene(
+    let status = run_over(
         alloc,
         &WORDS,
         &mut outside.source,

@@ -1,11 +1,11 @@
 //! Runs in which calls on the outside fail. The bytes, statuses and counts that are expected come from a
 //! second implementation.
 
-use crate::runs::Fault::{self, Flush, Frames, Log, Open, Read};
-use crate::runs::{Outside, WHITE_FRAME, WORDS};
 use std::alloc::Global;
 use std::process::Abort;
 use std::test::Fail;
+use test_runs::Fault::{self, Flush, Frames, Log, Open, Read};
+use test_runs::{Outside, WHITE_FRAME, WORDS};
 
 /// Whether the bytes are `whole` white frames and, where `part` is set, the first bytes of a further one.
 fn are_white_frames(bytes: &[u8], whole: usize, part: bool) -> bool {
@@ -53,7 +53,7 @@ type Row = (
 
 /// The first frame is sent whole, in two flushes, and a later one sends what flushes that failed have left.
 /// Each is written in two puts.
-const ROWS: &[Row] = &[
+const READS: &[Row] = &[
     (TWO, 64, &[], 0, BOTH, 2, false, 8),
     (MIXED, 1, &[], 1, MIXED_LOG, 3, false, 8),
     (MIXED, 3, &[], 1, MIXED_LOG, 3, false, 8),
@@ -65,6 +65,9 @@ const ROWS: &[Row] = &[
     (TWO, 1, &[Read(13)], 3, BOTH, 2, false, 8),
     (TWO, 3, &[Read(4)], 3, FIRST, 1, false, 8),
     (MIXED, 3, &[Read(13)], 3, MIXED_UP_TO_5, 2, false, 8),
+];
+
+const WRITES: &[Row] = &[
     (TWO, 64, &[Log(1)], 4, "1 frame", 1, false, 8),
     (
         TWO,
@@ -101,6 +104,19 @@ const ROWS: &[Row] = &[
     (TWO, 64, &[Frames(3)], 4, FIRST, 1, true, 8),
     (TWO, 64, &[Frames(4)], 4, FIRST, 1, true, 8),
     (MIXED, 3, &[Frames(6)], 4, MIXED_UP_TO_5, 2, true, 8),
+    (
+        TWO,
+        64,
+        &[Read(2), Log(2)],
+        4,
+        "1 frame 1 done\n2 frame",
+        2,
+        false,
+        8,
+    ),
+];
+
+const PANELS: &[Row] = &[
     (TWO, 64, &[Open], 5, "", 0, false, 0),
     (
         TWO,
@@ -147,16 +163,6 @@ const ROWS: &[Row] = &[
         true,
         12,
     ),
-    (
-        TWO,
-        64,
-        &[Read(2), Log(2)],
-        4,
-        "1 frame 1 done\n2 frame",
-        2,
-        false,
-        8,
-    ),
 ];
 
 /// Runs a row and compares.
@@ -172,10 +178,25 @@ fn try_row(rt: &impl Abort, alloc: Global, row: &Row) -> Result<(), Fail> {
     Ok(())
 }
 
-#[test]
-fn faults_end_a_run_or_show_in_its_log(rt: HostRuntime) -> Result<(), Fail> {
-    for row in ROWS {
-        try_row(&rt, rt.alloc(), row)?;
+/// Runs each of these rows.
+fn try_rows(rt: &impl Abort, alloc: Global, rows: &[Row]) -> Result<(), Fail> {
+    for row in rows {
+        try_row(rt, alloc, row)?;
     }
     Ok(())
+}
+
+#[test]
+fn faults_of_reads_end_a_run(rt: HostRuntime) -> Result<(), Fail> {
+    try_rows(&rt, rt.alloc(), READS)
+}
+
+#[test]
+fn faults_of_writes_end_a_run(rt: HostRuntime) -> Result<(), Fail> {
+    try_rows(&rt, rt.alloc(), WRITES)
+}
+
+#[test]
+fn faults_of_panels_end_a_run_or_show_in_its_log(rt: HostRuntime) -> Result<(), Fail> {
+    try_rows(&rt, rt.alloc(), PANELS)
 }

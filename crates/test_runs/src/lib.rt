@@ -1,24 +1,26 @@
-//! What a run reads and writes, in memory, and the calls on it that fail.
+//! What a run reads and writes, in memory, and the calls on it that fail: for the crates of tests.
+#![tactic(auto)]
+
 ghost use Rattle.std.specs.Prelude.{◌≡◌, IfOk};
 
 use self::Fault::{Flush, Frames, Log, Open, Read};
-use gui_edge::{MemSink, MemSource, SimPanel, SimPlan};
+use gui_base::NoMemory;
+use gui_edge::{MemSink, MemSource, Panel, SimPanel, SimPlan, Sink, Source};
 use scene_run::{Status, run_scene};
 use std::alloc::{AllocError, Global};
-use std::test::Fail;
 
 /// The words of most runs: 4 by 2 pixels, in slices of one line.
-pub(crate) const WORDS: [&str; 3] = ["4", "2", "1"];
+pub const WORDS: [&str; 3] = ["4", "2", "1"];
 
 /// The file of the white frame of these words.
-pub(crate) const WHITE_FRAME: &[u8] =
+pub const WHITE_FRAME: &[u8] =
     b"P6\n4 2\n255\n\xFF\xFF\xFF\xFF\xFF\xFF\xFF\xFF\xFF\xFF\xFF\xFF\xFF\xFF\xFF\xFF\xFF\xFF\xFF\xFF\
     \xFF\xFF\xFF\xFF";
 
 /// A call that fails: the opening of the panel, or the read, the put on the log, the put on the sink of the
 /// frames or the flush of this number, from 1.
 #[derive(Clone, Copy, Debug)]
-pub(crate) enum Fault {
+pub enum Fault {
     Open,
     Read(u64),
     Log(u64),
@@ -58,25 +60,40 @@ impl Plan {
     }
 }
 
+/// Runs over these. It promises nothing: a test looks at what the run came to.
+pub fn run_over<S: Source, L: Sink, P: Panel>(
+    alloc: Global,
+    words: &[&str],
+    source: &mut S,
+    log: &mut L,
+    panel: &mut P,
+) -> Status
+    requires { (P.state panel.old).limit ≡ 0 }
+{
+    run_scene(alloc, words, source, log, panel)
+}
+
 /// What a run reads and writes, in memory.
 #[derive(Drop)]
-pub(crate) struct Outside {
-    pub(crate) source: MemSource,
-    pub(crate) log: MemSink,
-    pub(crate) panel: SimPanel<MemSink>,
+pub struct Outside {
+    pub source: MemSource,
+    pub log: MemSink,
+    pub panel: SimPanel<MemSink>,
 }
 
 impl Outside {
     /// A script of which a read gives at most `piece` bytes, an empty log and a panel that is not opened.
-    pub(crate) fn new(
+    pub fn new(
         alloc: Global,
         script: Vec<u8>,
         piece: usize,
         faults: &[Fault],
-    ) -> Result<Outside, Fail>
+    ) -> Result<Outside, NoMemory>
         ensures { IfOk result (λ outside. outside.panel.limit ≡ 0) }
     {
-        let plan = Plan::new(alloc, faults)?;
+        let Ok(plan) = Plan::new(alloc, faults) else {
+            return Err(NoMemory);
+        };
         let frames = MemSink::with_capacity(alloc, 4096, plan.frames)?;
         let panel = SimPlan {
             fail_open: plan.open,
@@ -90,10 +107,10 @@ impl Outside {
     }
 
     /// Runs with these words.
-    pub(crate) fn run(&mut self, alloc: Global, words: &[&str]) -> Status
+    pub fn run(&mut self, alloc: Global, words: &[&str]) -> Status
         requires { self.old.panel.limit ≡ 0 }
     {
-        run_scene(
+        run_over(
             alloc,
             words,
             &mut self.source,

@@ -1,0 +1,58 @@
+//! Made scripts over calls on the outside that fail. The statuses, logs and sums that are expected come from
+//! a second implementation.
+
+use std::alloc::Global;
+use std::process::Abort;
+use std::test::Fail;
+use test_runs::Fault::{self, Flush, Frames, Log, Read};
+use test_runs::Outside;
+
+/// A made script on 4 by 2 pixels, in slices of one line.
+const WORDS: [&str; 4] = ["4", "2", "1", "make=1"];
+
+const WHOLE: &str = "made 1 lines 1261 refused 0 frames 11 faults 0 sum 59587\n";
+
+/// The calls that fail. Then what the run comes to: the number of its status, its log, and how many bytes of
+/// frames are written, of which each whole frame takes 35, the first 11 of them in a put of their own.
+type Row = (&'static [Fault], u8, &'static str, usize);
+
+const ROWS: &[Row] = &[
+    (&[], 0, WHOLE, 385),
+    (&[Read(1)], 0, WHOLE, 385),
+    (
+        &[Flush(1), Flush(5)],
+        1,
+        "made 1 lines 1261 refused 0 frames 9 faults 2 sum 59587\n",
+        315,
+    ),
+    (&[Frames(9)], 4, "", 145),
+    (&[Log(1)], 4, "made 1 lines 1261 refused 0 ", 385),
+];
+
+/// Runs a row and compares.
+fn try_row(rt: &impl Abort, alloc: Global, row: &Row) -> Result<(), Fail> {
+    let (faults, status, log, frames) = *row;
+    let script = Vec::from_slice(alloc, b"a script that nobody reads")?;
+    let mut outside = Outside::new(alloc, script, 64, faults)?;
+    assert_eq!(rt; outside.run(alloc, &WORDS) as u8, status, "{faults:?}");
+    assert_eq!(rt; outside.log.bytes(), log.as_bytes(), "{faults:?}");
+    assert_eq!(rt;
+        outside.panel.into_frames().bytes().len(),
+        frames,
+        "{faults:?}"
+    );
+    Ok(())
+}
+
+/// Runs each of these rows.
+fn try_rows(rt: &impl Abort, alloc: Global, rows: &[Row]) -> Result<(), Fail> {
+    for row in rows {
+        try_row(rt, alloc, row)?;
+    }
+    Ok(())
+}
+
+#[test]
+fn faults_of_a_made_script_show_in_its_summary(rt: HostRuntime) -> Result<(), Fail> {
+    try_rows(&rt, rt.alloc(), ROWS)
+}

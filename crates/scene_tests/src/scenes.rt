@@ -1,0 +1,120 @@
+//! Frames of objects after a flush that failed.
+
+use scene_run::Status;
+use std::alloc::{AllocError, Global};
+use std::process::Abort;
+use std::test::Fail;
+use test_runs::Fault::{self, Flush};
+use test_runs::{Outside, WORDS};
+
+/// A run of 4 by 2 pixels over objects in memory.
+struct Case {
+    name: &'static str,
+    faults: &'static [Fault],
+    script: &'static str,
+    log: &'static str,
+    /// The presented frames, row by row, with a letter for a pixel: W is white, R red, G green.
+    frames: &'static [&'static str],
+}
+
+/// The red, green and blue of a pixel.
+fn color_of(letter: u8) -> [u8; 3] {
+    match letter {
+        b'R' => [0xFF, 0x00, 0x00],
+        b'G' => [0x00, 0xFF, 0x00],
+        _ => [0xFF, 0xFF, 0xFF],
+    }
+}
+
+/// The files of frames.
+fn frame_bytes(alloc: Global, frames: &[&str]) -> Result<Vec<u8>, AllocError> {
+    let mut bytes = Vec::new(alloc);
+    for frame in frames {
+        bytes.extend_from_slice(b"P6\n4 2\n255\n")?;
+        for letter in frame.bytes() {
+            bytes.extend_from_slice(&color_of(letter))?;
+        }
+    }
+    Ok(bytes)
+}
+
+/// Runs a case and compares.
+fn try_case(rt: &impl Abort, alloc: Global, case: &Case) -> Result<(), Fail> {
+    let name = case.name;
+    let script = Vec::from_slice(alloc, case.script.as_bytes())?;
+    let frames = frame_bytes(alloc, case.frames)?;
+    let mut outside = Outside::new(alloc, script, 64, case.faults)?;
+    let status = outside.run(alloc, &WORDS);
+    assert_eq!(rt; outside.log.bytes(), case.log.as_bytes(), "{name}");
+    assert!(rt;
+        outside.panel.into_frames().bytes() == frames.as_slice(),
+        "{name}"
+    );
+    assert!(rt; status == Status::Noted, "{name}");
+    Ok(())
+}
+
+const FIRST_FRAME: Case = Case {
+    name: "a flush of the first frame fails",
+    faults: &[Flush(2)],
+    script: "new 10 3 obj\npos 10 1 0\nsize 10 2 2\nlocal 10 main bg_color #FF0000\n\
+        local 10 main bg_opa 255\nframe\nframe\n",
+    log: "1 ok\n2 ok\n3 ok\n4 ok\n5 ok\n6 frame 1 fault\n7 frame 2 done\n",
+    frames: &["WRRWWRRW"],
+};
+
+const AFTER_CHANGE: Case = Case {
+    name: "a flush after a change fails",
+    faults: &[Flush(3)],
+    script: "new 10 3 obj\npos 10 1 0\nsize 10 2 1\nlocal 10 main bg_color #FF0000\n\
+        local 10 main bg_opa 255\nframe\npos 10 2 1\nframe\nframe\ndelete 10\nframe\n",
+    log: "1 ok\n2 ok\n3 ok\n4 ok\n5 ok\n6 frame 1 done\n7 ok\n8 frame 2 fault\n9 frame 3 done\n\
+        10 ok\n11 frame 4 done\n",
+    frames: &["WRRWWWWW", "WWWWWWRR", "WWWWWWWW"],
+};
+
+const TWO_FRAMES: Case = Case {
+    name: "flushes of two frames fail",
+    faults: &[Flush(3), Flush(4)],
+    script: "new 10 3 obj\npos 10 1 0\nsize 10 2 2\nlocal 10 main bg_color #FF0000\n\
+        local 10 main bg_opa 255\nframe\nlocal 10 main bg_color #00FF00\nframe\n\
+        pos 10 2 0\nframe\nframe\n",
+    log: "1 ok\n2 ok\n3 ok\n4 ok\n5 ok\n6 frame 1 done\n7 ok\n8 frame 2 fault\n9 ok\n\
+        10 frame 3 fault\n11 frame 4 done\n",
+    frames: &["WRRWWRRW", "WWGGWWGG"],
+};
+
+const NEW_VALUE: Case = Case {
+    name: "a flush after a new value fails",
+    faults: &[Flush(3)],
+    script: "new 10 3 bar\nsize 10 4 1\nlocal 10 main bg_opa 0\n\
+        local 10 indicator bg_color #FF0000\nvalue 10 25\nframe\nvalue 10 75\nframe\nframe\n",
+    log: "1 ok\n2 ok\n3 ok\n4 ok\n5 ok\n6 frame 1 done\n7 ok\n8 frame 2 fault\n9 frame 3 done\n",
+    frames: &["RWWWWWWW", "RRRWWWWW"],
+};
+
+const NEW_PICTURE: Case = Case {
+    name: "a flush after a new picture fails",
+    faults: &[Flush(3)],
+    script: "image 1 565 2 1\nrow 1 0 F80007E0\nnew 10 3 image\nframe\nsource 10 1\npos 10 1 1\n\
+        frame\nframe\n",
+    log: "1 ok\n2 ok\n3 ok\n4 frame 1 done\n5 ok\n6 ok\n7 frame 2 fault\n8 frame 3 done\n",
+    frames: &["WWWWWWWW", "WWWWWRGW"],
+};
+
+#[test]
+fn the_frame_after_a_first_one_that_failed_is_whole(rt: HostRuntime) -> Result<(), Fail> {
+    try_case(&rt, rt.alloc(), &FIRST_FRAME)
+}
+
+#[test]
+fn frames_after_changes_that_failed_are_whole(rt: HostRuntime) -> Result<(), Fail> {
+    try_case(&rt, rt.alloc(), &AFTER_CHANGE)?;
+    try_case(&rt, rt.alloc(), &TWO_FRAMES)
+}
+
+#[test]
+fn frames_after_values_and_pictures_that_failed_are_whole(rt: HostRuntime) -> Result<(), Fail> {
+    try_case(&rt, rt.alloc(), &NEW_VALUE)?;
+    try_case(&rt, rt.alloc(), &NEW_PICTURE)
+}

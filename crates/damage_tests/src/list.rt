@@ -4,7 +4,7 @@ use gui_damage::Damage;
 use std::process::Abort;
 
 /// The corners of an area.
-pub fn corners(area: &Area) -> [i32; 4] {
+pub(crate) fn corners(area: &Area) -> [i32; 4] {
     [area.x1, area.y1, area.x2, area.y2]
 }
 

@@ -103,7 +103,7 @@ after-handles scene (change.Text h text) None None None leaves = set-handles h.0
 after-handles scene (change.Screen n) None None None leaves = absurd (false≢true leaves)
 after-handles scene change None None None leaves = absurd (false≢true leaves)
 
-handles-stay : (scene : Scene) (change : Change) → leaves_trees scene change ≡ true → handles_of (changed scene change).trees ≡ handles_of scene.trees
+pub handles-stay : (scene : Scene) (change : Change) → leaves_trees scene change ≡ true → handles_of (changed scene change).trees ≡ handles_of scene.trees
 handles-stay scene change leaves = by (answer_of scene change) where
   by : (answer : Option Refusal) → handles_of (scene_by answer scene change).trees ≡ handles_of scene.trees
   by None = after-handles scene change (setter_of change) (styling_in scene change) (asset_change_in scene change) leaves

@@ -1,3 +1,4 @@
+pub mod Alike
 pub mod Below
 pub mod Changes
 pub mod Covering
@@ -7,4 +8,10 @@ pub mod Owing
 pub mod Parents
 pub mod Sighted
 pub mod Sparing
+pub mod Staying
 pub mod Trees
+pub mod Subtrees
+pub mod Unchanged
+pub mod Setting
+pub mod ShownTrees
+pub mod Settlement

@@ -14,9 +14,9 @@ use Rattle.scene_defs.specs.Valid.{IsValid, is_root_at}
 use Rattle.scene_defs.specs.Visible.{root_tree, shown_trees}
 use Rattle.scene_defs.proofs.Distinct.{there, IsDistinct, distinct_once, there-and_then, there_from_root}
 use Rattle.scene_defs.proofs.Handles.{has-handles}
-use Rattle.gui_layout.specs.Listing.{AreProper}
+use Rattle.gui_layout.specs.Listing.{AreProper, times}
 use Rattle.gui_layout.proofs.Entering.{low}
-use Rattle.gui_layout.proofs.These.{proper_of, length_is}
+use Rattle.gui_layout.proofs.These.{proper_of, length_is, has-times}
 
 -- a root's tree is the tree of its handle
 root-tree : (f : Forest Object) (h : ℕ) → IsDistinct f → is_root_at f h ≡ true → (there f h ≡ true) × (root_tree f h ≡ tree_by (is_at h) f)
@@ -136,6 +136,9 @@ module _ (scene : Scene) (valid : IsValid scene) where
         let k = (get_or hs i nobody).0 in
         let among : is_among (order scene) k ≡ true = subst (λ (ks : List ℕ). is_among ks k ≡ true) listed (among-item hs i within) in
         shown_there k (has-handles shown k ∙ (sym (among-handles shown k) ∙ among))
+
+    pub shown_listed : (k : ℕ) → 0 < times hs k → is_there scene k ≡ true
+    shown_listed k some = shown_there k (has-times hs (handles_of shown) listed k some)
 
     pub few_shown : length hs ≤ scene.limits.objects
     few_shown = let l = length_is hs (handles_of shown) listed in let f = shown_fit in omega arith

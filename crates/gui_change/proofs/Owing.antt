@@ -1,8 +1,9 @@
 -- What objects owe by what is known of them is the debt.
-use Rattle.std.proofs.Common.{◌≡◌, ◌∙◌, sym, ap, refl, ℕ, Bool, true, false, not, List, [], ◌∷◌, ◌++◌, Option, Some, None, is_some, inl, inr}
+use Rattle.std.proofs.Common.{◌≡◌, ◌∙◌, sym, ap, refl, eq-eqb, ℕ, Bool, true, false, not, List, [], ◌∷◌, ◌++◌, Option, Some, None, is_some, inl, inr}
 use Rattle.std.specs.Prelude.{if◌then◌else◌, IsSome}
 use Rattle.std.specs.List.{filter, flat_map}
-use Rattle.std.proofs.lemmas.Bool.{cases_Bool, false≢true}
+use Rattle.std.proofs.lemmas.Bool.{cases_Bool, false≢true, or_left, or_right}
+use Rattle.std.proofs.lemmas.List.{append-nil}
 use Rattle.std.proofs.lemmas.Grind.{flat_map-append}
 use Rattle.gui_base.specs.Area.{Rect}
 use Rattle.gui_pool.specs.Table.{value_at}
@@ -21,6 +22,7 @@ use Rattle.debt_defs.proofs.Inside.{scene_is_look, among-handles}
 use Rattle.gui_layout.proofs.These.{has_value}
 use Rattle.gui_change.specs.declared.look.Look.{Look}
 use Rattle.gui_change.specs.declared.seen.Seen.{Seen}
+use Rattle.gui_change.specs.Again.{sight_in, owed_again}
 use Rattle.gui_change.specs.Looks.{Shows}
 use Rattle.gui_change.specs.Owed.{Sight, sight_of, owed, owed_now, owed_before, owed_all}
 
@@ -36,7 +38,7 @@ each_same : {A B : Type 0} (f g : A → List B) → ((a : A) → f a ≡ g a) �
 each_same f g same [] = refl
 each_same f g same (a ∷ as') = rw (same a, each_same f g same as') refl
 
-either_way : (c : Bool) (rs : List Rect) → (if c then rs else rs) ≡ rs
+pub either_way : (c : Bool) (rs : List Rect) → (if c then rs else rs) ≡ rs
 either_way true rs = refl
 either_way false rs = refl
 
@@ -113,3 +115,36 @@ module _ (m n : ℕ) (named : Option ℕ) (old new : Look) (before after : Scene
       ∙ (ap (λ (ds : List Rect). flat_map due a.order ++ ds) (each_same (owed_before named old.seen new.seen) (λ h. if gone h then due h else []) before_is b.order ∙ sym (chosen due gone b.order))
       ∙ (sym (flat_map-append due a.order (filter gone b.order))
       ∙ sym (chosen (owed_by b a) (is_touched_in same_item named b a) (shown_in_either b a))))))
+
+-- Where all that was shown is shown still, none is gone.
+none_gone : (hs ks : List ℕ) → ((h : ℕ) → is_among hs h ≡ true → is_among ks h ≡ true) → filter (λ h. not (is_among ks h)) hs ≡ []
+none_gone [] ks all = refl
+none_gone (h ∷ hs) ks all =
+    let here : is_among ks h ≡ true = all h (or_left _ _ (eq-eqb h h refl)) in
+    rw here (none_gone hs ks (λ k i. all k (or_right _ _ i)))
+
+module _ (m : ℕ) (named : Option ℕ) (old : Look) (before after : Scene) (was : Shows m old before) (still : (h : ℕ) → is_among (order before) h ≡ true → is_among (order after) h ≡ true) where
+  abbrev first : Looked Item
+  first = look_of before
+
+  abbrev last : Looked Item
+  last = look_of after
+
+  abbrev due_again : ℕ → List Rect
+  due_again h = if is_touched_in same_item named first last h then owed_by first last h else []
+
+  again_is : (h : ℕ) → owed_again named old.seen after h ≡ due_again h
+  again_is h =
+      let r = right m old before was h in
+      owed_same (is_named named h) (sight_of (value_at old.seen h)) (sight_in after h) (record { visible = visible before h; items = items before h }) (sight_in after h) r.0 refl r.1 (λ some. refl)
+
+  all_still : shown_in_either first last ≡ order after
+  all_still =
+      let none : filter (λ h. not (is_among (order after) h)) (order before) ≡ [] = none_gone (order before) (order after) still in
+      ap (λ (hs : List ℕ). order after ++ hs) none ∙ append-nil (order after)
+
+  pub again_is_debt : flat_map (owed_again named old.seen after) (order after) ≡ debt same_item named first last
+  again_is_debt =
+      each_same (owed_again named old.seen after) due_again again_is (order after)
+      ∙ (ap (flat_map due_again) (sym all_still)
+      ∙ sym (chosen (owed_by first last) (is_touched_in same_item named first last) (shown_in_either first last)))

@@ -1,7 +1,11 @@
+pub mod Again
 pub mod Canvas
 pub mod Concerned
 pub mod Handles
 pub mod Looks
 pub mod Owed
 pub mod Seen
+pub mod Sightings
 pub mod Sights
+pub mod Settled
+pub mod SettledProps

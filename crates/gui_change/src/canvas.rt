@@ -10,19 +10,21 @@ ghost use Rattle.debt_defs.specs.Scenes.{debt_of};
 ghost use Rattle.gui_damage.specs.Adding.{AddsAll};
 ghost use Rattle.gui_store.specs.Removed.{removed_by};
 ghost use Rattle.gui_store.specs.Views.{scene_of, removed_of};
-ghost use Rattle.gui_layout.specs.Solved.{AreSolved, limits_of};
+ghost use Rattle.gui_layout.specs.Solved.{AreSettled, AreSolved, limits_of};
 ghost use Rattle.gui_change.specs.Looks.{IsBlank, Shows};
+ghost use Rattle.gui_change.specs.SettledProps.{props};
 
 use crate::concerned::{Concerned, concerned_by};
-use crate::debts::owe_all;
 use crate::look::Look;
 use crate::named::named_by;
+use crate::renew::renew;
+use crate::sets::set_by;
+use crate::settle::settle;
 use gui_base::{Limits, NoMemory, Refusal};
 use gui_damage::Damage;
 use gui_layout::Places;
 use gui_store::{Change, Store};
 use std::alloc::Global;
-use std::mem;
 
 /// A scene with its places, which lists what its changes touch.
 #[derive(Drop)]
@@ -34,7 +36,7 @@ pub struct Canvas {
     // Room for what is seen after a change.
     spare: Look,
     ghost limits: { limits_of places ≡ (scene_of store).limits },
-    ghost solved: { AreSolved places (scene_of store) },
+    ghost settled: { AreSettled places (scene_of store) } by { Prim.hlevel props },
     ghost shows: { Shows (scene_of store).limits.objects look (scene_of store) },
     ghost blank: { IsBlank (scene_of store).limits.objects spare },
 }
@@ -52,6 +54,7 @@ impl Canvas {
         let mut look = Look::open(alloc, limits.objects)?;
         let spare = Look::open(alloc, limits.objects)?;
         places.solve_all(&store);
+        look.list(&store);
         look.take(&store, &places, &spare, Concerned::Anybody);
         Ok(Canvas {
             store,
@@ -82,15 +85,33 @@ impl Canvas {
         let _tree = self.store.tree();
         let concerned = concerned_by(&self.store, change);
         match self.store.apply(change) {
-            Ok(()) => {
-                self.places.solve_all(&self.store);
-                self.spare
-                    .take(&self.store, &self.places, &self.look, concerned);
-                owe_all(damage, named_by(change), &self.look, &self.spare);
-                self.look.forget();
-                mem::swap(&mut self.look, &mut self.spare);
-                Ok(())
-            }
+            Ok(()) => match set_by(change) {
+                Some(h) if self.store.tree().has(h) => {
+                    settle(
+                        &mut self.places,
+                        &mut self.look,
+                        &mut self.spare,
+                        damage,
+                        &self.store,
+                        concerned,
+                        h,
+                    );
+                    Ok(())
+                }
+                _ => {
+                    self.places.solve_all(&self.store);
+                    renew(
+                        &mut self.look,
+                        &mut self.spare,
+                        damage,
+                        named_by(change),
+                        &self.store,
+                        &self.places,
+                        concerned,
+                    );
+                    Ok(())
+                }
+            },
             Err(refusal) => Err(refusal),
         }
     }

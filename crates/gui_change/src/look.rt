@@ -1,6 +1,6 @@
 //! What is seen of a scene.
-ghost use Rattle.std.specs.Prelude.{◌≡◌, ◌≤◌, ◌<◌, ℕ, [], true, false, None, IfOk, IfSome, length};
-ghost use Rattle.std.specs.Option.{option_map};
+ghost use Rattle.std.specs.Prelude.{◌≡◌, ◌≤◌, ◌<◌, ℕ, [], true, false, None, Some, IfOk, IfSome, length};
+ghost use Rattle.std.specs.Option.{option_map, option_copied, ForSome};
 ghost use Rattle.scene_defs.specs.Scene.{Scene, is_there};
 ghost use Rattle.scene_defs.specs.Valid.{IsValid};
 ghost use Rattle.gui_change.specs.Concerned.{may_be};
@@ -16,6 +16,7 @@ ghost use Rattle.gui_store.specs.Views.{scene_of};
 use crate::concerned::Concerned;
 use crate::seen::{Seen, see};
 use crate::shown::list_shown;
+use crate::sighting::Nearby;
 use gui_base::intervals::HANDLE;
 use gui_base::{Handle, Limits, NoMemory};
 use gui_layout::Places;
@@ -48,7 +49,7 @@ fn put(table: &mut Table<Seen>, h: Handle, value: Seen)
 }
 
 /// What is known of an object that is there, where a change does not concern it.
-fn known_of<'a>(
+pub(crate) fn known_of<'a>(
     known: &'a Table<Seen>,
     store: &Store,
     concerned: Concerned,
@@ -59,6 +60,9 @@ fn known_of<'a>(
     ensures items { IfSome result (λ s. KeepsItems (scene_of store.now) h.0 s.now) }
     ensures kept { may_be (scene_of store.now) concerned h.0 ≡ false →
         option_map (λ s. s.now) result ≡ value_at known.now h.0 }
+    ensures others { ForSome (option_copied result)
+        (λ s. may_be (scene_of store.now) concerned h.0 ≡ false) }
+    ensures known { ForSome (option_copied result) (λ s. value_at known.now h.0 ≡ Some s) }
 {
     if concerned.may_be(store, h) {
         None
@@ -86,9 +90,11 @@ fn see_all(
     ensures these { HasThese table.old.spare table.new listed.now }
     ensures seen { AreSeen table.new (scene_of store.now) }
 {
+    let mut nearby = Nearby::new(store, places);
     for h in listed {
         let kept = known_of(known, store, concerned, *h);
-        let seen = see(store, places, *h, kept);
+        let sighting = nearby.see(store, places, *h);
+        let seen = see(store, places, &sighting, kept);
         put(table, *h, seen);
     }
 }
@@ -103,7 +109,7 @@ fn forget_all(table: &mut Table<Seen>, listed: &[Handle])
 }
 
 impl Look {
-    ghost use Rattle.gui_change.specs.Looks.{IsBlank, Shows};
+    ghost use Rattle.gui_change.specs.Looks.{IsBlank, Lists, Shows};
 
     /// A look of nothing. It takes all the memory that seeing so many objects will need, or answers NoMemory
     /// where there is too little.
@@ -119,8 +125,16 @@ impl Look {
         Ok(Look { order, seen })
     }
 
-    /// Sees what is shown of a store. Before, nothing is seen. What is known of objects that a change does
-    /// not concern is kept, where they stay in their places.
+    /// Lists what is shown of a store. Before, nothing is listed.
+    pub(crate) fn list(&mut self, store: &Store)
+        requires { IsBlank (scene_of store.now).limits.objects self.old }
+        ensures { Lists (scene_of store.now).limits.objects self.new (scene_of store.now) }
+    {
+        list_shown(store, &mut self.order);
+    }
+
+    /// Sees what is shown of a store, which is listed. What is known of objects that a change does not
+    /// concern is kept, where they stay in their places.
     pub(crate) fn take(
         &mut self,
         store: &Store,
@@ -129,12 +143,11 @@ impl Look {
         concerned: Concerned,
     )
         requires solved { AreSolved places.now (scene_of store.now) }
-        requires blank { IsBlank (scene_of store.now).limits.objects self.old }
+        requires listed { Lists (scene_of store.now).limits.objects self.old (scene_of store.now) }
         requires known { KeepOthers known.now.seen concerned (scene_of store.now) }
         ensures { Shows (scene_of store.now).limits.objects self.new (scene_of store.now) }
     {
         let _tree = store.tree();
-        list_shown(store, &mut self.order);
         see_all(
             &mut self.seen,
             self.order.as_slice(),

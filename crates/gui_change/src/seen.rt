@@ -6,12 +6,13 @@ ghost use Rattle.gui_widgets.specs.Looks.{items_of};
 ghost use Rattle.scene_defs.specs.Scene.{is_there};
 ghost use Rattle.scene_defs.specs.Place.{place};
 ghost use Rattle.scene_defs.specs.Items.{items};
-ghost use Rattle.scene_defs.specs.Visible.{some_area, visible};
 ghost use Rattle.gui_layout.specs.Solved.{AreSolved};
 ghost use Rattle.gui_store.specs.Views.{scene_of};
 ghost use Rattle.gui_change.specs.Seen.{IsSeen, KeepsItems, place_in};
+ghost use Rattle.gui_change.specs.Sightings.{IsSighted};
 
 use crate::same::same_visible;
+use crate::sighting::Sighting;
 use arrayvec::ArrayVec;
 use gui_base::{Area, Handle};
 use gui_layout::Places;
@@ -29,7 +30,7 @@ pub(crate) struct Seen {
 
 impl Seen {
     /// Where the object stands, if it stands somewhere.
-    fn place(&self) -> Option<Area>
+    pub(crate) fn place(&self) -> Option<Area>
         ensures { option_map rect_of result ≡ place_in (items_of self.now.items.items) }
     {
         match self.items.as_slice().first() {
@@ -37,21 +38,6 @@ impl Seen {
             None => None,
         }
     }
-}
-
-/// The area, where it has a pixel.
-fn some_area(area: Area) -> Option<Area>
-    ensures { option_map rect_of result ≡ some_area (rect_of area) }
-{
-    if area.is_empty() { None } else { Some(area) }
-}
-
-/// Where an object is seen.
-fn visible(store: &Store, places: &Places, h: Handle) -> Option<Area>
-    requires { AreSolved places.now (scene_of store.now) }
-    ensures { option_map rect_of result ≡ visible (scene_of store.now) h.0 }
-{
-    some_area(places.visible(store, h))
 }
 
 /// All that an object paints which is there and stands here.
@@ -95,14 +81,15 @@ fn items_again(store: &Store, places: &Places, h: Handle, known: Option<&Seen>) 
 }
 
 /// What is seen of an object that is there. No value of it is looked up where what is known may be kept.
-pub(crate) fn see(store: &Store, places: &Places, h: Handle, known: Option<&Seen>) -> Seen
+pub(crate) fn see(store: &Store, places: &Places, sighting: &Sighting, known: Option<&Seen>) -> Seen
     requires solved { AreSolved places.now (scene_of store.now) }
-    requires there { is_there (scene_of store.now) h.0 ≡ true }
-    requires known { IfSome known (λ s. KeepsItems (scene_of store.now) h.0 s.now) }
-    ensures { IsSeen (scene_of store.now) h.0 result }
+    requires sighted { IsSighted (scene_of store.now) sighting.now }
+    requires there { is_there (scene_of store.now) sighting.now.h.0 ≡ true }
+    requires known { IfSome known (λ s. KeepsItems (scene_of store.now) sighting.now.h.0 s.now) }
+    ensures { IsSeen (scene_of store.now) sighting.now.h.0 result }
 {
     Seen {
-        visible: visible(store, places, h),
-        items: items_again(store, places, h, known),
+        visible: sighting.visible,
+        items: items_again(store, places, sighting.h, known),
     }
 }

@@ -36,7 +36,7 @@ fn list_trees(tree: &Tree, listed: &mut Vec<Handle>, first: Option<Handle>)
 }
 
 /// Lists an object and all below it, each before those below it.
-fn list_tree(tree: &Tree, listed: &mut Vec<Handle>, h: Handle)
+pub(crate) fn list_tree(tree: &Tree, listed: &mut Vec<Handle>, h: Handle)
     requires once { StandsOnce tree.now.forest }
     requires there { has tree.now.forest h.0 ≡ true }
     requires room { vec_len listed.old + size (tree_at tree.now.forest h.0) ≤ vec_capacity listed.old }

@@ -43,11 +43,11 @@ bits_at dots n = slice_range dots.bytes.now ((dots.row + n) * dots.stride) ((dot
 dot_is : (dots : Dots) (part : Rect) (line k : ℕ) → dots_in dots part (part.x1 +ℤ pos k) (part.y1 +ℤ pos line) ≡ mask_bit (bits_at dots line) (dots.column + k)
 dot_is dots part line k = rw (below_top part.x1 k, below_top part.y1 line) refl
 
-laid_if : (t : Bool) (fg under : Rgb565) (opa : ℕ) → masked t fg opa under ≡ laid (if t then Some (record { color = fg; opa = opa }) else None) under
+pub laid_if : (t : Bool) (fg under : Rgb565) (opa : ℕ) → masked t fg opa under ≡ laid (if t then Some (record { color = fg; opa = opa }) else None) under
 laid_if true fg under opa = refl
 laid_if false fg under opa = refl
 
-count_if : (t : Bool) (d : Dab) → one_if t ≡ one_if_laid (if t then Some d else None)
+pub count_if : (t : Bool) (d : Dab) → one_if t ≡ one_if_laid (if t then Some d else None)
 count_if true d = refl
 count_if false d = refl
 

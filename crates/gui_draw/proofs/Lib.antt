@@ -8,5 +8,6 @@ pub mod Spanning
 pub mod Seeing
 pub mod Running
 pub mod Lettering
+pub mod Stamping
 pub mod Lining
 pub mod Picturing

@@ -110,7 +110,7 @@ glyph_some part height shape bytes pen top x y d columns lines h k =
 pub some_seen : (columns lines : Span) → columns.from ≤ℤ columns.to → lines.from ≤ℤ lines.to → is_empty (span_rect columns lines) ≡ false
 some_seen columns lines h k = grind (arith, ints, nat_tests)
 
-inside_of : (area part : Rect) (x1 y1 x2 y2 : ℤ) → has area part.x1 part.y1 ≡ true → has area part.x2 part.y2 ≡ true → part.x1 ≤ℤ x1 → x1 ≤ℤ x2 → x2 ≤ℤ part.x2 → part.y1 ≤ℤ y1 → y1 ≤ℤ y2 → y2 ≤ℤ part.y2 → (has area x1 y1 ≡ true) × (has area x2 y2 ≡ true)
+pub inside_of : (area part : Rect) (x1 y1 x2 y2 : ℤ) → has area part.x1 part.y1 ≡ true → has area part.x2 part.y2 ≡ true → part.x1 ≤ℤ x1 → x1 ≤ℤ x2 → x2 ≤ℤ part.x2 → part.y1 ≤ℤ y1 → y1 ≤ℤ y2 → y2 ≤ℤ part.y2 → (has area x1 y1 ≡ true) × (has area x2 y2 ≡ true)
 inside_of area part x1 y1 x2 y2 first last a b c d e f =
     let p = between_has area part.x1 part.y1 first in
     let q = between_has area part.x2 part.y2 last in

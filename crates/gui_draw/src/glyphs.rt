@@ -70,7 +70,7 @@ fn columns_of(part: Area, cell: Corner, shape: GlyphBox) -> Option<Span>
 }
 
 /// Its lines, in a cell of this height.
-fn lines_of(part: Area, cell: Corner, height: u8, shape: GlyphBox) -> Option<Span>
+pub(crate) fn lines_of(part: Area, cell: Corner, height: u8, shape: GlyphBox) -> Option<Span>
     requires { IsFar cell.y }
     ensures { MatchOption result
         ((v : ℤ) → is_seen part.y1 part.y2 cell.y height shape.oy shape.h v ≡ false)
@@ -81,7 +81,7 @@ fn lines_of(part: Area, cell: Corner, height: u8, shape: GlyphBox) -> Option<Spa
 }
 
 /// What is seen of a part along both axes.
-fn area_of(part: Area, columns: Span, lines: Span) -> Area
+pub(crate) fn area_of(part: Area, columns: Span, lines: Span) -> Area
     requires left { part.x1 ≤ℤ columns.from }
     requires right { columns.to ≤ℤ part.x2 }
     requires order_x { columns.from ≤ℤ columns.to }
@@ -133,7 +133,7 @@ fn start_of(cell: i64, offset: i8) -> i64
 }
 
 /// The last of so many numbers from one on.
-fn end_of(from: i64, count: u8) -> i64
+pub(crate) fn end_of(from: i64, count: u8) -> i64
     requires { (negsuc 2000000000000 ≤ℤ from) × (from ≤ℤ pos 2000000000000) }
     ensures { result ≡ (from +ℤ pos count) -ℤ pos 1 }
 {

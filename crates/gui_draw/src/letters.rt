@@ -1,5 +1,6 @@
 //! The glyphs of the built-in font, as rows of bits.
 ghost use Rattle.std.specs.Prelude.{◌≡◌, ◌/◌, ◌%◌, ◌^◌, ◌<◌, ◌≤◌, true};
+ghost use Rattle.text_defs.specs.Bits.{bit};
 ghost use Rattle.text_defs.specs.BuiltIn.{has_built_in, column_of};
 ghost use Rattle.gui_draw.specs.Letters.{row_of, letter_rows};
 
@@ -49,6 +50,16 @@ fn row_of(c: char, y: u8) -> u8
         + dot_of(c, 2, y) * 32
         + dot_of(c, 3, y) * 16
         + dot_of(c, 4, y) * 8
+}
+
+/// Whether the bit in column `x` and row `y` of a character's glyph is set.
+pub(crate) fn has_dot(c: char, x: u8, y: u8) -> bool
+    requires code { has_built_in c ≡ true }
+    requires column { x < 5 }
+    requires row { y < 7 }
+    ensures { result ≡ bit (column_of c x) y }
+{
+    dot_of(c, x, y) == 1
 }
 
 /// One bit of it.

@@ -9,6 +9,7 @@ mod pictures;
 mod rings;
 mod rows;
 mod runs;
+mod stamps;
 mod texel_rows;
 mod texels;
 mod texts;

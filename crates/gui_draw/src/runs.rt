@@ -13,6 +13,7 @@ ghost use Rattle.gui_draw.specs.Spans.{IsFar};
 
 use crate::glyphs::{Corner, ink_glyph};
 use crate::letters::{LETTER_BOX, has_built_in, rows_of};
+use crate::stamps::{has_columns, stamp_letter};
 use gui_base::{Area, Rgb565, Steps};
 use gui_color::DrawBuf;
 use gui_font::{Fonts, TextLook, first_char};
@@ -118,6 +119,10 @@ fn ink_letter<L: Ledger>(
         (only (cell_at built_in c cell.x cell.y) (plain fg opa))) }
 {
     if !has_built_in(c) {
+        return;
+    }
+    if has_columns(part, cell.x) {
+        stamp_letter(buf, part, cell, c, fg, opa, steps);
         return;
     }
     let rows = rows_of(c);

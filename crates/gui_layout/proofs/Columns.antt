@@ -5,8 +5,9 @@ use Rattle.std.proofs.lemmas.List.{length-map}
 use Rattle.gui_base.specs.Forest.{Forest, roots}
 use Rattle.layout_defs.specs.declared.Course.{Course}
 use Rattle.layout_defs.specs.declared.Course.TheVariants.{Free, Across, Down}
-use Rattle.layout_defs.specs.Boxes.{Box, course_of}
-use Rattle.layout_defs.specs.Solving.{Tall, tall_box, taking_part, reach, flowing, natural_size, kids_height, natural_height}
+use Rattle.layout_defs.specs.Boxes.{Box, course_of, wraps, is_reversed}
+use Rattle.layout_defs.specs.Flex.{spanned, thickness, tracks}
+use Rattle.layout_defs.specs.Solving.{Tall, tall_box, taking_part, in_order, reach, flowing, natural_size, kids_height, natural_height}
 use Rattle.gui_pool.specs.Table.{Table}
 use Rattle.gui_layout.specs.declared.layout_box.LayoutBox.{LayoutBox}
 use Rattle.gui_layout.specs.Views.{box_of, box_at}
@@ -61,11 +62,29 @@ spans Down box room kids other =
 pub column_is : (course : Course) (box : Box) (room : ℕ) (kids : List Tall) (row : Sum) → (course ≡ Across → ⊥) → row ≡ kids_column course kids → with_gaps_down course box.down.gap row ≡ kids_height course box room (taking_part tall_box kids)
 column_is course box room kids row other is = ap (with_gaps_down course box.down.gap) (is ∙ row_is course kids) ∙ spans course box room (taking_part tall_box kids) other
 
+-- no child is as high as nothing
+none_high : (course : Course) (box : Box) (room : ℕ) → kids_height course box room [] ≡ 0
+none_high Free box room = refl
+none_high Across box room = turned (is_reversed box.flow)
+  where
+    turned : (back : Bool) → spanned box.down.gap (map thickness (tracks (wraps box.flow) room box.across.gap (in_order back []))) ≡ 0
+    turned true = omega arith
+    turned false = omega arith
+none_high Down box room = omega arith
+
+no_items : {A : Type 0} (xs : List A) → length xs ≡ 0 → xs ≡ []
+no_items [] is = refl
+no_items (x ∷ xs) is = cc
+
+-- where none takes part
+pub none_is : (course : Course) (box : Box) (room : ℕ) (kids : List Tall) (row : Sum) → row ≡ kids_column course kids → row.count ≡ 0 → kids_height course box room (taking_part tall_box kids) ≡ 0
+none_is course box room kids row is none =
+    let count : length (taking_part tall_box kids) ≡ 0 = sym (ap (λ (s : Sum). s.count) (is ∙ row_is course kids)) ∙ none in
+    ap (kids_height course box room) (no_items (taking_part tall_box kids) count) ∙ none_high course box room
+
 -- what is found of an object's natural height
-pub height_found : (boxes : Table LayoutBox) (h width : ℕ) (own : LayoutBox) (kids : List Tall) (room inside n : ℕ) →
-    box_of h own ≡ box_at boxes h → room ≡ width - (own.left + own.right) → inside ≡ kids_height (course_of own.flow) (box_of h own) room (taking_part tall_box kids) →
+pub height_found : (boxes : Table LayoutBox) (h width : ℕ) (own : LayoutBox) (kids : List Tall) (inside n : ℕ) →
+    box_of h own ≡ box_at boxes h → inside ≡ kids_height (course_of own.flow) (box_of h own) (width - (own.left + own.right)) (taking_part tall_box kids) →
     n ≡ natural_size own.height (own.top + own.bottom) (max own.own_height inside) → n ≡ natural_height (box_at boxes h) width kids
-height_found boxes h width own kids room inside n is_box is_room is_inside is =
-    let all : inside ≡ kids_height (course_of own.flow) (box_of h own) (width - (own.left + own.right)) (taking_part tall_box kids) =
-    is_inside ∙ ap (λ r. kids_height (course_of own.flow) (box_of h own) r (taking_part tall_box kids)) is_room in
-    subst (λ (b : Box). n ≡ natural_height b width kids) is_box (is ∙ ap (λ m. natural_size own.height (own.top + own.bottom) (max own.own_height m)) all)
+height_found boxes h width own kids inside n is_box is_inside is =
+    subst (λ (b : Box). n ≡ natural_height b width kids) is_box (is ∙ ap (λ m. natural_size own.height (own.top + own.bottom) (max own.own_height m)) is_inside)

@@ -22,7 +22,7 @@ use Rattle.layout_defs.proofs.Solved.{found_by_handle}
 use Rattle.gui_layout.specs.declared.position.Position.{Position}
 use Rattle.gui_layout.specs.Found.{boxed}
 use Rattle.gui_layout.specs.Kept.{Entries}
-use Rattle.gui_layout.specs.Listing.{HasThese, AreProper}
+use Rattle.gui_layout.specs.Listing.{AreProper}
 use Rattle.gui_layout.specs.Scenes.{scene_box}
 use Rattle.gui_layout.specs.Slots.{HoldsPlaced, slot_of, slot_or, slots_of}
 use Rattle.gui_layout.specs.Solved.{place_in}
@@ -32,7 +32,7 @@ use Rattle.gui_layout.proofs.Listed.{slot_in_table}
 use Rattle.gui_layout.proofs.Parts.{distinct_once, first_of, trees_from-first_of, whole}
 use Rattle.gui_layout.proofs.SceneBoxes.{boxes_are, scene_named}
 use Rattle.gui_layout.proofs.Solves.{handles_solved, placed_handle}
-use Rattle.gui_layout.proofs.These.{proper_of, has_value}
+use Rattle.gui_layout.proofs.These.{proper_of}
 
 -- the handles of objects lie in their interval
 counted : (images : List Image) (f : Forest Object) (h : ℕ) → all_by (in_order images) f ≡ true → has (handles_of f) h ≡ true → is_counted HANDLE h ≡ true
@@ -94,11 +94,11 @@ row_none test (Tree p cs rest) out =
     rw (here.0, below.0) (row_none test rest below.1)
 
 -- every place is that of the scene
-module _ (scene : Scene) (valid : IsValid scene) (objects : ℕ) (e : Entries) (hs : List Handle) (listed : numbers hs ≡ preorder (handles_of scene.trees)) where
+module _ (scene : Scene) (valid : IsValid scene) (e : Entries) (some : (h : ℕ) → is_some (value_at e.positions h) ≡ has (handles_of scene.trees) h) where
   abbrev trees : Forest Placed
   trees = solved scene.limits.width scene.limits.height (boxed (scene_box scene) (handles_of scene.trees))
 
-  module _ (positions : HasThese objects e.positions hs) (placed : HoldsPlaced (sizes_of e.widths) (slots_of e.positions) trees) where
+  module _ (placed : HoldsPlaced (sizes_of e.widths) (slots_of e.positions) trees) where
     there : (h : ℕ) → has_by (is_placed_at h) trees ≡ has (handles_of scene.trees) h
     there h =
         sym (map-has_by placed_handle (λ k. eqb k h) trees)
@@ -109,7 +109,7 @@ module _ (scene : Scene) (valid : IsValid scene) (objects : ℕ) (e : Entries) (
         joined (row_by (is_placed_at h) trees) (value_at e.positions h) _
         (found_by_handle Placed ℕ placed_handle (λ (p : Placed). p.tall.width) 0 (sizes_of e.widths) trees h placed.0 here)
         (found_by_handle Placed Slot placed_handle (λ (p : Placed). p.slot) nowhere (slots_of e.positions) trees h placed.1 here ∙ ap Some (slot_in_table e.positions h))
-        (has_value hs (handles_of scene.trees) listed objects e.positions positions h ∙ (sym (there h) ∙ here))
+        (some h ∙ (sym (there h) ∙ here))
 
     none : (v : Option Position) (w : ℕ) → is_some v ≡ false → option_map (λ (q : Position). area_at q.x q.y w q.height) v ≡ None
     none None w out = refl
@@ -117,7 +117,7 @@ module _ (scene : Scene) (valid : IsValid scene) (objects : ℕ) (e : Entries) (
 
     absent : (h : ℕ) → has_by (is_placed_at h) trees ≡ false → place_in e h ≡ option_map place_of (row_by (is_placed_at h) trees)
     absent h out =
-        none (value_at e.positions h) _ (has_value hs (handles_of scene.trees) listed objects e.positions positions h ∙ (sym (there h) ∙ out))
+        none (value_at e.positions h) _ (some h ∙ (sym (there h) ∙ out))
         ∙ ap (option_map place_of) (sym (row_none (is_placed_at h) trees out))
 
     pub all_placed : (h : ℕ) → place_in e h ≡ place scene h

@@ -1,5 +1,5 @@
 -- Children with what was found for them.
-use Rattle.std.proofs.Common.{◌≡◌, ◌∙◌, refl, sym, ap, subst, ℕ, ◌+◌, ◌-◌, ◌*◌, max, List, [], ◌∷◌, ◌++◌, length, map, sum, Option, Some, None, Bool, true, false, if◌then◌else◌, arith}
+use Rattle.std.proofs.Common.{◌≡◌, ◌∙◌, refl, sym, ap, ℕ, ◌+◌, ◌-◌, ◌*◌, max, List, [], ◌∷◌, ◌++◌, length, map, sum, Option, Some, None, Bool, true, false, if◌then◌else◌, arith}
 use Rattle.std.specs.List.{fold}
 use Rattle.gui_base.specs.Forest.{Forest, Tree, roots}
 use Rattle.layout_defs.specs.declared.Course.{Course}
@@ -82,10 +82,10 @@ spans Across box kids =
 spans Down box kids = fold-map max (λ (k : Wide). k.natural) 0 kids
 
 -- what is found of an object's natural width
-pub width_found : (boxes : Table LayoutBox) (h : ℕ) (own : LayoutBox) (kids : List Wide) (row : Sum) (course : Course) (inside n : ℕ) →
-    box_of h own ≡ box_at boxes h → course ≡ course_of own.flow → row ≡ kids_row course kids → inside ≡ with_gaps course own.gap_across row →
-    n ≡ natural_size own.width (own.left + own.right) (max own.own_width inside) → n ≡ natural_width (box_at boxes h) kids
-width_found boxes h own kids row course inside n is_box is_course is_row is_inside is =
+pub width_found : (h : ℕ) (own : LayoutBox) (kids : List Wide) (row : Sum) (course : Course) (inside n : ℕ) →
+    course ≡ course_of own.flow → row ≡ kids_row (course_of own.flow) kids → inside ≡ with_gaps course own.gap_across row →
+    n ≡ natural_size own.width (own.left + own.right) (max own.own_width inside) → n ≡ natural_width (box_of h own) kids
+width_found h own kids row course inside n is_course is_row is_inside is =
     let all : inside ≡ kids_width (course_of own.flow) (box_of h own) (taking_part wide_box kids) =
-    is_inside ∙ (rw (is_row, row_is course kids, is_course) (spans (course_of own.flow) (box_of h own) (taking_part wide_box kids))) in
-    subst (λ (b : Box). n ≡ natural_width b kids) is_box (is ∙ ap (λ m. natural_size own.width (own.left + own.right) (max own.own_width m)) all)
+    is_inside ∙ (rw (is_row, row_is (course_of own.flow) kids, is_course) (spans (course_of own.flow) (box_of h own) (taking_part wide_box kids))) in
+    is ∙ ap (λ m. natural_size own.width (own.left + own.right) (max own.own_width m)) all

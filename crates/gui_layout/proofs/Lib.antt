@@ -18,3 +18,8 @@ pub mod Columns
 pub mod Bridges
 pub mod OwnHeights
 pub mod Solves
+pub mod Fitting
+pub mod Settling
+pub mod Alone
+pub mod Climbing
+pub mod Renewals

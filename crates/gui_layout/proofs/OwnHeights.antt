@@ -6,14 +6,14 @@ use Rattle.gui_base.specs.Forest.{Forest, Empty, Tree, has, map_forest}
 use Rattle.gui_base.proofs.Forests.{map-agree}
 use Rattle.gui_pool.specs.Table.{Table, value_at, value_replaced}
 use Rattle.layout_defs.specs.Boxes.{Box, inner}
-use Rattle.layout_defs.specs.Solving.{Widened, Tall, Slot, Placed, with_natural_widths, with_widths, with_natural_heights, with_slots, nowhere}
+use Rattle.layout_defs.specs.Solving.{Wide, Widened, Tall, Slot, Placed, with_natural_widths, with_widths, with_natural_heights, with_slots, nowhere}
 use Rattle.layout_defs.specs.OwnHeights.{but_height, but_height_wide, but_height_widened, but_height_tall, but_height_placed, fixed_at, fixed_widened, fixed_tall}
 use Rattle.layout_defs.specs.Tables.{Holds}
 use Rattle.layout_defs.proofs.Boxes.{map-map}
 use Rattle.layout_defs.proofs.OwnHeights.{natural_widths_ask_none, widths_ask_none, natural_heights_ask_at_widths, slots_ask_none}
 use Rattle.scene_defs.specs.Scene.{Scene}
 use Rattle.gui_layout.specs.declared.layout_box.LayoutBox.{LayoutBox}
-use Rattle.gui_layout.specs.Found.{HoldsWidths, boxed, widths_of}
+use Rattle.gui_layout.specs.Found.{HoldsNaturalWidths, HoldsWidths, boxed, widths_of}
 use Rattle.gui_layout.specs.OwnHeights.{IsFixed, AreFixed, KeepsFixed}
 use Rattle.gui_layout.specs.Scenes.{HoldsBoxes, scene_box}
 use Rattle.gui_layout.specs.Slots.{HoldsSlots, talls, tall_at}
@@ -44,6 +44,14 @@ module _ (b c : ℕ → Box) (f : Forest ℕ) (same : (h : ℕ) → has f h ≡ 
 
   widths-but : map_forest but_height_wide (widths_of b f) ≡ map_forest but_height_wide (widths_of c f)
   widths-but = sym (natural_widths_ask_none (boxed b f)) ∙ (ap with_natural_widths boxed-but ∙ natural_widths_ask_none (boxed c f))
+
+  -- have the same natural widths
+  pub same_naturals : (table : List ℕ) → HoldsNaturalWidths b table f → HoldsNaturalWidths c table f
+  same_naturals table holds =
+      let handle = λ (w : Wide). w.box.handle in
+      let natural = λ (w : Wide). w.natural in
+      Holds-made but_height_wide handle natural 0 table (widths_of c f)
+      (subst (Holds handle natural 0 table) widths-but (Holds-mapped but_height_wide handle natural 0 table (widths_of b f) holds))
 
   -- have the same widths
   pub same_widths : (ws table : List ℕ) → HoldsWidths b ws table f → HoldsWidths c ws table f

@@ -1,14 +1,19 @@
 -- Boxes while those of listed handles are made anew.
-use Rattle.std.proofs.Common.{◌≡◌, ◌∙◌, sym, ap, refl, subst, ℕ, ◌+◌, ◌<◌, Bool, true, false, cond, eqb, eq-eqb, List, [], ◌∷◌, arith}
+use Rattle.std.proofs.Common.{◌≡◌, ◌∙◌, sym, ap, refl, subst, ℕ, ◌+◌, ◌<◌, Bool, true, false, cond, eqb, eq-eqb, inl, inr, List, [], ◌∷◌, arith}
 use Rattle.std.specs.Prelude.{Option, Some, None, is_some, IsSome}
-use Rattle.std.proofs.lemmas.Bool.{eqb-true}
+use Rattle.std.proofs.lemmas.Bool.{cases_Bool, eqb-true}
 use Rattle.gui_base.specs.declared.Handle.{Handle}
 use Rattle.gui_pool.specs.Table.{Table, value_at, value_replaced}
 use Rattle.layout_defs.specs.Boxes.{Box}
 use Rattle.layout_defs.specs.OwnHeights.{but_height}
 use Rattle.gui_layout.specs.declared.layout_box.LayoutBox.{LayoutBox}
 use Rattle.gui_layout.specs.Listing.{times, value_count}
+use Rattle.gui_layout.specs.Renewed.{IsRenewed, KeepsRenewed}
+use Rattle.gui_layout.specs.Scenes.{scene_box}
+use Rattle.gui_layout.specs.Tables.{listing_of}
 use Rattle.gui_layout.specs.Views.{box_of, box_or, box_at}
+use Rattle.gui_layout.proofs.Listed.{some_listed, listed_replaced}
+use Rattle.scene_defs.specs.Scene.{Scene}
 use Rattle.gui_layout.proofs.These.{value-set, within_of}
 
 some_of : (o : Option LayoutBox) (n : ℕ) → cond (is_some o) 1 0 ≡ n → 0 < n → IsSome o
@@ -52,3 +57,22 @@ module _ (box : ℕ → Box) where
   -- where none is left, each has its own
   pub left_none : (t : Table LayoutBox) → BoxesLeft t [] → (k : ℕ) → IsSome (value_at t k) → but_height (box_at t k) ≡ but_height (box k)
   left_none t left k some = left.own k some refl
+
+-- One box that is made anew.
+module _ (scene : Scene) where
+  pub record Renews (old new : Table LayoutBox) (h : ℕ) : Type 0 where
+    pub own : IsRenewed scene new h
+    pub kept : KeepsRenewed scene old new
+    pub listed : listing_of new ≡ listing_of old
+
+  pub renews_replaced : (t : Table LayoutBox) (h : ℕ) (made : LayoutBox) → IsSome (value_at t h) → but_height (box_of h made) ≡ but_height (scene_box scene h) → Renews t (value_replaced t h made) h
+  renews_replaced t h made some is =
+      let value : (k : ℕ) → value_at (value_replaced t h made) k ≡ cond (eqb h k) (Some made) (value_at t k) = λ k. value-set t.values h k (Some made) (within_of t h some) in
+      record {
+        own = subst (λ (o : Option LayoutBox). but_height (box_or h o) ≡ but_height (scene_box scene h)) (sym (value h)) (rw (eq-eqb h h refl) is);
+        kept = λ k was. subst (λ (o : Option LayoutBox). but_height (box_or k o) ≡ but_height (scene_box scene k)) (sym (value k)) (elim (cases_Bool (eqb h k)) [
+          | inl same ↦ rw same (subst (λ m. but_height (box_of m made) ≡ but_height (scene_box scene m)) (eqb-true h k same) is)
+          | inr differs ↦ rw differs was
+        ]);
+        listed = listed_replaced t h made (some_listed t h some);
+      }

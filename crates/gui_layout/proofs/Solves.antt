@@ -1,13 +1,15 @@
 -- Roots that are solved one after another.
-use Rattle.std.proofs.Common.{◌≡◌, ◌∙◌, refl, sym, subst, ℕ, true, List, [], ◌∷◌, get_or, map, pos}
+use Rattle.std.proofs.Common.{◌≡◌, ◌∙◌, refl, sym, subst, ℕ, false, List, [], ◌∷◌, get_or, map, pos}
 use Rattle.gui_base.specs.Forest.{Forest, Empty, Tree, has, roots, map_forest}
 use Rattle.layout_defs.specs.Boxes.{Box}
 use Rattle.layout_defs.specs.Solving.{Wide, Widened, Tall, Placed, Slot, kid_widths, with_widths, with_natural_heights, kid_slots, with_slots, nowhere, solved}
-use Rattle.layout_defs.specs.Tables.{KeepsOthers}
+use Rattle.std.proofs.lemmas.Bool.{false_from_ne_true}
+use Rattle.gui_base.proofs.Forests.{map-agree}
 use Rattle.gui_layout.specs.Found.{boxed, widths_of}
-use Rattle.gui_layout.specs.Slots.{HoldsPlaced}
+use Rattle.gui_layout.specs.Layouts.{KeepsRest}
+use Rattle.gui_layout.specs.Settled.{Layout, known_at, known, IsSettled}
 use Rattle.gui_layout.proofs.Parts.{IsDistinct}
-use Rattle.gui_layout.proofs.Finds.{Holds-kept, keeps_none, keeps_first, apart, widths-handles}
+use Rattle.gui_layout.proofs.Finds.{keeps_none, keeps_first, elsewhere, widths-handles}
 
 abbrev wide_handle : Wide → ℕ
 wide_handle w = w.box.handle
@@ -45,25 +47,39 @@ module _ (box : ℕ → Box) (width height : ℕ) where
       handles_placed (map (λ _. record { x = pos 0; y = pos 0; height = height }) (roots tall)) tall
       ∙ (handles_tall widened ∙ (handles_widened (map (λ _. width) (roots wide)) wide ∙ widths-handles box f))
 
-  -- these trees are solved, and nothing else changes
-  pub record Solves (widths widths' : List ℕ) (places places' : List Slot) (f : Forest ℕ) : Type 0 where
-    pub placed : HoldsPlaced widths' places' (solved width height (boxed box f))
-    pub other_widths : KeepsOthers 0 widths widths' f
-    pub other_places : KeepsOthers nowhere places places' f
+-- the same is known of an object whose entries are the same
+pub known_same : (box : ℕ → Box) (b c : Layout) (k : ℕ) → get_or c.natural_widths k 0 ≡ get_or b.natural_widths k 0 → get_or c.widths k 0 ≡ get_or b.widths k 0 →
+    get_or c.natural_heights k 0 ≡ get_or b.natural_heights k 0 → get_or c.slots k nowhere ≡ get_or b.slots k nowhere → known_at box c k ≡ known_at box b k
+known_same box b c k natural_width width natural_height slot =
+    λ i. record { box = record (box k) { handle = k }; natural_width = natural_width i; width = width i; natural_height = natural_height i; slot = slot i }
 
-  pub solves_none : (w : List ℕ) (p : List Slot) → Solves w w p p Empty
-  solves_none w p = record { placed = (tt, tt); other_widths = keeps_none 0 w; other_places = keeps_none nowhere p }
+pub rest_same : (box : ℕ → Box) (b c : Layout) (f : Forest ℕ) (k : ℕ) → KeepsRest b c f → has f k ≡ false → known_at box c k ≡ known_at box b k
+rest_same box b c f k keeps out = known_same box b c k (keeps.natural_widths.others k out) (keeps.widths.others k out) (keeps.natural_heights.others k out) (keeps.slots.others k out)
 
-  pub solves_first : (w w' w'' : List ℕ) (p p' p'' : List Slot) (h : ℕ) (cs rest : Forest ℕ) → IsDistinct (Tree h cs rest) → Solves w w' p p' (Tree h cs Empty) → Solves w' w'' p' p'' rest → Solves w w'' p p'' (Tree h cs rest)
-  solves_first w w' w'' p p' p'' h cs rest distinct first later =
+module _ (box : ℕ → Box) (width height : ℕ) where
+  -- these trees are settled, and nothing else changes
+  pub record Solves (old new : Layout) (f : Forest ℕ) : Type 0 where
+    pub settled : IsSettled width height (known box new f)
+    pub others : KeepsRest old new f
+
+  pub solves_none : (l : Layout) → Solves l l Empty
+  solves_none l = record {
+    settled = record { fit = tt; fill = tt };
+    others = record { natural_widths = keeps_none 0 l.natural_widths; widths = keeps_none 0 l.widths; natural_heights = keeps_none 0 l.natural_heights; slots = keeps_none nowhere l.slots };
+  }
+
+  pub solves_first : (a b c : Layout) (h : ℕ) (cs rest : Forest ℕ) → IsDistinct (Tree h cs rest) → Solves a b (Tree h cs Empty) → Solves b c rest → Solves a c (Tree h cs rest)
+  solves_first a b c h cs rest distinct first later =
       let tree = Tree h cs Empty in
-      let handles = handles_solved tree in
-      let wide = Holds-kept placed_handle (λ (q : Placed). q.tall.width) 0 w' w'' (solved width height (boxed box tree))
-      (subst (λ (g : Forest ℕ). (k : ℕ) → has g k ≡ true → get_or w'' k 0 ≡ get_or w' k 0) (sym handles) (apart 0 w' w'' h cs rest distinct later.other_widths)) first.placed.0 in
-      let stands = Holds-kept placed_handle (λ (q : Placed). q.slot) nowhere p' p'' (solved width height (boxed box tree))
-      (subst (λ (g : Forest ℕ). (k : ℕ) → has g k ≡ true → get_or p'' k nowhere ≡ get_or p' k nowhere) (sym handles) (apart nowhere p' p'' h cs rest distinct later.other_places)) first.placed.1 in
+      let same : known box b tree ≡ known box c tree =
+      map-agree (known_at box b) (known_at box c) tree (λ k i. sym (rest_same box b c rest k later.others (false_from_ne_true (has rest k) (λ j. elsewhere h cs rest distinct k i j)))) in
+      let now : IsSettled width height (known box c tree) = subst (IsSettled width height) same first.settled in
       record {
-        placed = ((wide.0, wide.1, later.placed.0), (stands.0, stands.1, later.placed.1));
-        other_widths = keeps_first 0 w w' w'' h cs rest first.other_widths later.other_widths;
-        other_places = keeps_first nowhere p p' p'' h cs rest first.other_places later.other_places;
+        settled = record { fit = (now.fit.0, now.fit.1, later.settled.fit); fill = (now.fill.0, later.settled.fill) };
+        others = record {
+          natural_widths = keeps_first 0 a.natural_widths b.natural_widths c.natural_widths h cs rest first.others.natural_widths later.others.natural_widths;
+          widths = keeps_first 0 a.widths b.widths c.widths h cs rest first.others.widths later.others.widths;
+          natural_heights = keeps_first 0 a.natural_heights b.natural_heights c.natural_heights h cs rest first.others.natural_heights later.others.natural_heights;
+          slots = keeps_first nowhere a.slots b.slots c.slots h cs rest first.others.slots later.others.slots;
+        };
       }

@@ -119,9 +119,17 @@ times-numbers : (hs : List Handle) (k : ℕ) → times hs k ≡ times_of (number
 times-numbers [] k = refl
 times-numbers (h ∷ hs) k = ap (λ n. cond (eqb h.0 k) 1 0 + n) (times-numbers hs k)
 
+true-of : (b : Bool) → (b ≡ false → ⊥) → b ≡ true
+true-of true other = refl
+true-of false other = absurd (other refl)
+
 module _ (hs : List Handle) (f : Forest ℕ) (listed : numbers hs ≡ preorder f) where
-  times_is : (k : ℕ) → times hs k ≡ count f k
+  pub times_is : (k : ℕ) → times hs k ≡ count f k
   times_is k = times-numbers hs k ∙ (ap (λ xs. times_of xs k) listed ∙ times-preorder f k)
+
+  -- what is listed is there
+  pub has-times : (k : ℕ) → 0 < times hs k → has f k ≡ true
+  has-times k some = let a = times_is k in true-of (has f k) (λ out. let c = count-off f k out in omega arith)
 
   -- as many are listed as there are objects
   pub length_is : length hs ≡ size f
@@ -130,12 +138,8 @@ module _ (hs : List Handle) (f : Forest ℕ) (listed : numbers hs ≡ preorder f
   pub proper_of : StandsOnce f → ((h : ℕ) → has f h ≡ true → h < HANDLE.high + 1) → AreProper hs
   proper_of once low = record {
     once = λ k. let a = times_is k in let b = once k in omega arith;
-    low = λ k some. let a = times_is k in low k (told (has f k) (λ out. let c = count-off f k out in omega arith));
+    low = λ k some. low k (has-times k some);
   }
-    where
-      told : (b : Bool) → (b ≡ false → ⊥) → b ≡ true
-      told true other = refl
-      told false other = absurd (other refl)
 
   module _ {T : Type 0} (objects : ℕ) (t : Table T) (these : HasThese objects t hs) where
     told_by : (b c : Bool) (n : ℕ) → cond b 1 0 ≡ n → (c ≡ true → 1 ≤ n) → (c ≡ false → n ≡ 0) → b ≡ c

@@ -14,3 +14,7 @@ pub mod OwnHeights
 pub mod Kept
 pub mod Kids
 pub mod Solved
+pub mod Settled
+pub mod Frames
+pub mod Layouts
+pub mod Renewed

@@ -1,15 +1,19 @@
 -- What `Places` shows: its limits, and the place of each object.
-use Rattle.std.specs.Prelude.{◌≡◌, ℕ, option_map, slice_index}
+use Rattle.std.specs.Prelude.{◌≡◌, ℕ, false, option_map, slice_index, is_some}
 use Rattle.std.specs.declared.option.Option.{Option}
 use Rattle.gui_base.specs.Area.{Rect, area_at}
 use Rattle.gui_base.specs.Bounded.{bounds_of}
 use Rattle.gui_base.specs.Limits.{Bounds}
+use Rattle.gui_base.specs.Forest.{has, tree_at}
 use Rattle.gui_pool.specs.Table.{value_at}
-use Rattle.scene_defs.specs.Scene.{Scene}
+use Rattle.scene_defs.specs.Scene.{Scene, handles_of}
 use Rattle.gui_layout.specs.declared.places.Places.{Places}
 use Rattle.gui_layout.specs.declared.position.Position.{Position}
 use Rattle.gui_layout.specs.Kept.{Entries}
 use Rattle.scene_defs.specs.Place.{place}
+use Rattle.gui_layout.specs.Layouts.{told}
+use Rattle.gui_layout.specs.Scenes.{scene_box, HoldsBoxes}
+use Rattle.gui_layout.specs.Settled.{Layout, known, IsSettled}
 use Rattle.gui_layout.specs.Tables.{sizes_of}
 
 abbrev pub entries_of : Places → Entries
@@ -37,3 +41,24 @@ place_at p h = place_in (entries_of p) h
 -- each object of a scene has its place, and nothing else has one
 abbrev pub AreSolved : Places → Scene → Type 0
 AreSolved p scene = (h : ℕ) → place_at p h ≡ place scene h
+
+-- what is found of each object
+abbrev pub layout_of : Places → Layout
+layout_of p = told p.natural_widths p.widths p.natural_heights p.positions
+
+-- and its box and its natural sizes are known
+pub record AreSettled (p : Places) (scene : Scene) : Type 0 where
+  pub boxes : HoldsBoxes p.boxes scene
+  pub settled : IsSettled scene.limits.width scene.limits.height
+      (known (scene_box scene) (layout_of p) (handles_of scene.trees))
+  pub there : (h : ℕ) → is_some (value_at p.positions h) ≡ has (handles_of scene.trees) h
+  pub solved : AreSolved p scene
+
+-- they were settled for a scene that differs in h and in what lies below it alone, and has the same trees
+pub record AreSettledBut (p : Places) (scene : Scene) (h : ℕ) : Type 0 where
+  pub before : Scene
+  pub settled : AreSettled p before
+  pub trees : handles_of scene.trees ≡ handles_of before.trees
+  pub limits : scene.limits ≡ before.limits
+  pub same : (k : ℕ) → has (tree_at (handles_of scene.trees) h) k ≡ false →
+      scene_box scene k ≡ scene_box before k

@@ -1,25 +1,24 @@
 //! All roots.
 ghost use Rattle.std.specs.Prelude.{◌≡◌, ◌≤◌, vec_capacity};
-ghost use Rattle.gui_base.specs.Forest.{StandsOnce};
+ghost use Rattle.gui_base.specs.Forest.{StandsOnce, size};
 ghost use Rattle.gui_base.specs.Forest.{height as levels_of};
-ghost use Rattle.gui_base.specs.Forest.{size};
-ghost use Rattle.layout_defs.specs.Solving.{solved};
 ghost use Rattle.gui_store.specs.Views.{scene_of};
-ghost use Rattle.gui_layout.specs.Found.{boxed};
+ghost use Rattle.gui_layout.specs.Layouts.{told};
 ghost use Rattle.gui_layout.specs.Scenes.{scene_box, HoldsBoxes};
-ghost use Rattle.gui_layout.specs.Slots.{HoldsPlaced, slots_of};
-ghost use Rattle.gui_layout.specs.Tables.{sizes_of, listing_of, AreListed};
+ghost use Rattle.gui_layout.specs.Settled.{known, IsSettled};
+ghost use Rattle.gui_layout.specs.Tables.{listing_of, AreListed};
 
+use crate::frame::Frame;
 use crate::layout_box::LayoutBox;
 use crate::position::Position;
-use crate::root::solve_root;
 use crate::size::Size;
+use crate::tree::solve_tree;
 use gui_flex::FlexItem;
 use gui_pool::Table;
 use gui_store::Store;
 use gui_tree::Tree;
 
-/// Solves all roots, and all below them.
+/// Solves all roots, which fill the panel, and all below them.
 pub(crate) fn solve_trees(
     tree: &Tree,
     boxes: &mut Table<LayoutBox>,
@@ -29,8 +28,8 @@ pub(crate) fn solve_trees(
     natural_heights: &mut Table<Size>,
     places: &mut Table<Position>,
     items: &mut Vec<FlexItem>,
-    width: u16,
-    height: u16,
+    width: Size,
+    height: Size,
 )
     requires once { StandsOnce tree.now.forest }
     requires boxes { HoldsBoxes boxes.old (scene_of store.now) }
@@ -42,10 +41,9 @@ pub(crate) fn solve_trees(
     requires few { size tree.now.forest ≤ 4000 }
     requires low { levels_of tree.now.forest ≤ 16 }
     requires capacity { size tree.now.forest ≤ vec_capacity items.old }
-    requires width { width ≤ 8191 }
-    requires height { height ≤ 8191 }
-    ensures solved { HoldsPlaced (sizes_of widths.new) (slots_of places.new)
-        (solved width height (boxed (scene_box (scene_of store.now)) tree.now.forest)) }
+    ensures settled { IsSettled width.pixels height.pixels (known (scene_box (scene_of store.now))
+        (told natural_widths.new widths.new natural_heights.new places.new) tree.now.forest) }
+    ensures boxes { HoldsBoxes boxes.new (scene_of store.now) }
     ensures listed_boxes { listing_of boxes.new ≡ listing_of boxes.old }
     ensures listed { listing_of natural_widths.new ≡ listing_of natural_widths.old }
     ensures listed_widths { listing_of widths.new ≡ listing_of widths.old }
@@ -55,7 +53,7 @@ pub(crate) fn solve_trees(
 {
     let mut next = tree.first_root();
     while let Some(root) = next {
-        solve_root(
+        solve_tree(
             tree,
             boxes,
             store,
@@ -65,8 +63,7 @@ pub(crate) fn solve_trees(
             places,
             items,
             root,
-            width,
-            height,
+            Frame::Panel(width, height),
         );
         next = tree.next(root);
     }

@@ -1,5 +1,6 @@
 //! Boxes by handle.
 ghost use Rattle.std.specs.Prelude.{◌≡◌, ℕ};
+ghost use Rattle.gui_layout.specs.Tables.{IsListed, listing_of};
 ghost use Rattle.gui_layout.specs.Views.{box_of, box_at, no_box};
 ghost use Rattle.layout_defs.specs.Boxes.{course_of, side_across, side_down, wraps, is_reversed};
 
@@ -10,14 +11,15 @@ use gui_flex::FlexPlaces;
 use gui_pool::Table;
 use layout_defs::{Course, Side};
 
-/// The box of an object: an empty one where it has none.
-pub(crate) fn box_at(boxes: &Table<LayoutBox>, h: Handle) -> LayoutBox
-    ensures { box_of h.0 result ≡ box_at boxes.now h.0 }
+/// The box of an object that has one, where it stands.
+pub(crate) fn known_box(boxes: &Table<LayoutBox>, h: Handle) -> &LayoutBox
+    requires { IsListed (listing_of boxes.now) h.0 }
+    ensures { box_of h.0 result.now ≡ box_at boxes.now h.0 }
 {
-    match boxes.get(h.0 as u32) {
-        Some(found) => *found,
-        None => empty_box(),
-    }
+    let Some(found) = boxes.get(h.0 as u32) else {
+        unreachable!()
+    };
+    found
 }
 
 /// A box of no size.

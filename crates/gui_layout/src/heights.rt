@@ -1,7 +1,8 @@
 //! Natural heights.
-ghost use Rattle.std.specs.Prelude.{◌≡◌, ◌≤◌, ◌<◌, ◌+◌, ◌*◌, ◌∷◌, ◌++◌, [], ℕ, true, map, max, vec_len};
+ghost use Rattle.std.specs.Prelude.{◌≡◌, ◌≤◌, ◌<◌, ◌+◌, ◌-◌, ◌*◌, ◌∷◌, ◌++◌, [], ℕ, true, map, max, vec_len};
 ghost use Rattle.std.specs.Prelude.{vec_capacity, slice_index};
 ghost use Rattle.gui_base.specs.Forest.{StandsOnce, has, size, tree_at};
+ghost use Rattle.layout_defs.specs.declared.Course.TheVariants.{Across};
 ghost use Rattle.layout_defs.specs.Flex.{spanned, thickness, tracks};
 ghost use Rattle.layout_defs.specs.Boxes.{wraps, is_reversed, course_of};
 ghost use Rattle.layout_defs.specs.Solving.{tall_box, taking_part, in_order, height_item, kids_height};
@@ -15,7 +16,7 @@ ghost use Rattle.gui_layout.specs.Columns.{with_kid_down, kids_column, with_gaps
 ghost use Rattle.gui_layout.specs.Talls.{HoldsNaturalHeights};
 ghost use Rattle.gui_layout.specs.Tables.{sizes_of, listing_of, AreListed};
 
-use crate::boxes::{box_at, course_of, is_reversed, side_down, wraps};
+use crate::boxes::{course_of, is_reversed, known_box, side_down, wraps};
 use crate::layout_box::LayoutBox;
 use crate::natural::{Row, flowing, natural_size, reach};
 use crate::size::Size;
@@ -48,31 +49,6 @@ fn with_kid(row: Row, course: Course, kid: &LayoutBox, natural: u16) -> Row
         size,
         count: row.count + 1,
     }
-}
-
-/// How high the children of an object are together that stand in no row.
-fn kids_column(
-    tree: &Tree,
-    boxes: &Table<LayoutBox>,
-    widths: &Table<Size>,
-    naturals: &Table<Size>,
-    h: Handle,
-    course: Course,
-) -> Row
-    requires once { StandsOnce tree.now.forest }
-    requires few { size tree.now.forest ≤ 4000 }
-    requires found { BelowHaveHeights boxes.now widths.now naturals.now tree.now.forest h.0 }
-    ensures value { row_of result ≡ kids_column course (high_kids boxes.now widths.now tree.now.forest h.0) }
-    ensures size { result.size ≤ 70000 * result.count }
-    ensures count { result.count ≤ 4000 }
-{
-    let mut row = Row { size: 0, count: 0 };
-    let mut next = tree.first_child(h);
-    while let Some(child) = next {
-        row = with_kid(row, course, &box_at(boxes, child), size_at(naturals, child));
-        next = tree.next(child);
-    }
-    row
 }
 
 /// How high children are together that are so high, with the gaps of a column.
@@ -125,6 +101,7 @@ fn fill_row(
     requires few { size tree.now.forest ≤ 4000 }
     requires found { BelowHaveHeights boxes.now widths.now naturals.now tree.now.forest h.0 }
     requires capacity { size tree.now.forest ≤ vec_capacity items.old }
+    requires listed_boxes { AreListed (listing_of boxes.now) tree.now.forest }
     ensures items { items_of items.new.items
         ≡ map height_item (taking_part tall_box (high_kids boxes.now widths.now tree.now.forest h.0)) }
     ensures few { vec_len items.new ≤ 4000 }
@@ -135,7 +112,7 @@ fn fill_row(
     while let Some(child) = next {
         push_kid(
             items,
-            &box_at(boxes, child),
+            known_box(boxes, child),
             size_at(widths, child),
             size_at(naturals, child),
         );
@@ -163,7 +140,35 @@ fn tracks_height(items: &mut Vec<FlexItem>, flow: Flow, room: u16, gap: u16, tra
     sizes + u32::from(track_gap) * count.saturating_sub(1)
 }
 
-/// How high the children of an object are together.
+/// How high the children of an object are together that stand in a row. It is not inlined, so that other
+/// objects pay nothing for it.
+#[inline(never)]
+fn row_height(
+    tree: &Tree,
+    boxes: &Table<LayoutBox>,
+    widths: &Table<Size>,
+    naturals: &Table<Size>,
+    items: &mut Vec<FlexItem>,
+    h: Handle,
+    own: &LayoutBox,
+) -> u32
+    requires once { StandsOnce tree.now.forest }
+    requires few { size tree.now.forest ≤ 4000 }
+    requires found { BelowHaveHeights boxes.now widths.now naturals.now tree.now.forest h.0 }
+    requires capacity { size tree.now.forest ≤ vec_capacity items.old }
+    requires listed_boxes { AreListed (listing_of boxes.now) tree.now.forest }
+    ensures value { result ≡ kids_height Across (box_of h.0 own.now)
+        (slice_index (sizes_of widths.now) h.0 - (own.now.left + own.now.right))
+        (taking_part tall_box (high_kids boxes.now widths.now tree.now.forest h.0)) }
+    ensures small { result ≤ 500000000 }
+    ensures capacity { vec_capacity items.new ≡ vec_capacity items.old }
+{
+    fill_row(tree, boxes, widths, naturals, items, h);
+    let room = inner(size_at(widths, h), own.left, own.right);
+    tracks_height(items, own.flow, room, own.gap_across, own.gap_down)
+}
+
+/// How high the children of an object are together, which are together so high where they stand in no row.
 fn kids_height(
     tree: &Tree,
     boxes: &Table<LayoutBox>,
@@ -172,31 +177,34 @@ fn kids_height(
     items: &mut Vec<FlexItem>,
     h: Handle,
     own: &LayoutBox,
-    room: u16,
+    row: Row,
 ) -> u32
     requires once { StandsOnce tree.now.forest }
     requires few { size tree.now.forest ≤ 4000 }
     requires found { BelowHaveHeights boxes.now widths.now naturals.now tree.now.forest h.0 }
     requires capacity { size tree.now.forest ≤ vec_capacity items.old }
-    ensures value { result ≡ kids_height (course_of own.now.flow) (box_of h.0 own.now) room
+    requires row { row_of row
+        ≡ kids_column (course_of own.now.flow) (high_kids boxes.now widths.now tree.now.forest h.0) }
+    requires size { row.size ≤ 70000 * row.count }
+    requires count { row.count ≤ 4000 }
+    requires listed_boxes { AreListed (listing_of boxes.now) tree.now.forest }
+    ensures value { result ≡ kids_height (course_of own.now.flow) (box_of h.0 own.now)
+        (slice_index (sizes_of widths.now) h.0 - (own.now.left + own.now.right))
         (taking_part tall_box (high_kids boxes.now widths.now tree.now.forest h.0)) }
     ensures small { result ≤ 500000000 }
     ensures capacity { vec_capacity items.new ≡ vec_capacity items.old }
 {
+    if row.count == 0 {
+        return 0;
+    }
     let course = course_of(own.flow);
     match course {
-        Course::Across => {
-            fill_row(tree, boxes, widths, naturals, items, h);
-            tracks_height(items, own.flow, room, own.gap_across, own.gap_down)
-        }
-        _ => {
-            let row = kids_column(tree, boxes, widths, naturals, h, course);
-            with_gaps(row, course, own.gap_down)
-        }
+        Course::Across => row_height(tree, boxes, widths, naturals, items, h, own),
+        _ => with_gaps(row, course, own.gap_down),
     }
 }
 
-/// The natural height of an object, from those of its children.
+/// The natural height of an object whose children are together so high where they stand in no row.
 fn natural_height(
     tree: &Tree,
     boxes: &Table<LayoutBox>,
@@ -204,19 +212,25 @@ fn natural_height(
     naturals: &Table<Size>,
     items: &mut Vec<FlexItem>,
     h: Handle,
+    own: &LayoutBox,
+    row: Row,
 ) -> u16
     requires once { StandsOnce tree.now.forest }
     requires few { size tree.now.forest ≤ 4000 }
     requires found { BelowHaveHeights boxes.now widths.now naturals.now tree.now.forest h.0 }
     requires capacity { size tree.now.forest ≤ vec_capacity items.old }
+    requires own { box_of h.0 own.now ≡ box_at boxes.now h.0 }
+    requires row { row_of row
+        ≡ kids_column (course_of own.now.flow) (high_kids boxes.now widths.now tree.now.forest h.0) }
+    requires size { row.size ≤ 70000 * row.count }
+    requires count { row.count ≤ 4000 }
+    requires listed_boxes { AreListed (listing_of boxes.now) tree.now.forest }
     ensures value { result ≡ natural_height (box_at boxes.now h.0) (slice_index (sizes_of widths.now) h.0)
         (high_kids boxes.now widths.now tree.now.forest h.0) }
     ensures small { result ≤ 8191 }
     ensures capacity { vec_capacity items.new ≡ vec_capacity items.old }
 {
-    let own = box_at(boxes, h);
-    let room = inner(size_at(widths, h), own.left, own.right);
-    let kids = kids_height(tree, boxes, widths, naturals, items, h, &own, room);
+    let kids = kids_height(tree, boxes, widths, naturals, items, h, own, row);
     natural_size(
         own.height,
         u32::from(own.top) + u32::from(own.bottom),
@@ -224,7 +238,8 @@ fn natural_height(
     )
 }
 
-/// Finds the natural heights of an object and of all below it, children first.
+/// Finds the natural heights of an object that has this box and of all below it, children first. It answers
+/// that of the object.
 pub(crate) fn find_natural_heights(
     tree: &Tree,
     boxes: &Table<LayoutBox>,
@@ -232,12 +247,17 @@ pub(crate) fn find_natural_heights(
     naturals: &mut Table<Size>,
     items: &mut Vec<FlexItem>,
     h: Handle,
-)
+    own: &LayoutBox,
+) -> u16
     requires once { StandsOnce tree.now.forest }
     requires listed { AreListed (listing_of naturals.old) tree.now.forest }
     requires few { size tree.now.forest ≤ 4000 }
     requires there { has tree.now.forest h.0 ≡ true }
     requires capacity { size tree.now.forest ≤ vec_capacity items.old }
+    requires own { box_of h.0 own.now ≡ box_at boxes.now h.0 }
+    requires listed_boxes { AreListed (listing_of boxes.now) tree.now.forest }
+    ensures value { result ≡ natural_height (box_at boxes.now h.0) (slice_index (sizes_of widths.now) h.0)
+        (high_kids boxes.now widths.now tree.now.forest h.0) }
     ensures found { HoldsNaturalHeights (box_at boxes.now) (sizes_of widths.now) (sizes_of naturals.new)
         (tree_at tree.now.forest h.0) }
     ensures others { KeepsOthers 0 (sizes_of naturals.old) (sizes_of naturals.new)
@@ -245,11 +265,16 @@ pub(crate) fn find_natural_heights(
     ensures capacity { vec_capacity items.new ≡ vec_capacity items.old }
     ensures listed { listing_of naturals.new ≡ listing_of naturals.old }
 {
+    let course = course_of(own.flow);
+    let mut row = Row { size: 0, count: 0 };
     let mut next = tree.first_child(h);
     while let Some(child) = next {
-        find_natural_heights(tree, boxes, widths, naturals, items, child);
+        let kid = known_box(boxes, child);
+        let natural = find_natural_heights(tree, boxes, widths, naturals, items, child, kid);
+        row = with_kid(row, course, kid, natural);
         next = tree.next(child);
     }
-    let natural = natural_height(tree, boxes, widths, naturals, items, h);
+    let natural = natural_height(tree, boxes, widths, naturals, items, h, own, row);
     set_size(naturals, h, natural);
+    natural
 }

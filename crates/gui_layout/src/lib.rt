@@ -5,11 +5,17 @@
 //! own height, which goes by its width. A pass goes down by recursion, 16 deep at most, and along siblings by
 //! loops. It reads the tables of the passes before it and writes one of its own.
 //!
+//! Where one object has changed, or what lies below it, the places are settled: the passes go through the
+//! tree of the nearest object, from that one upward, that stands by itself in a parent whose place does not
+//! go by its children. All else stays.
+//!
 //! All memory is taken at [`Places::open`].
 #![tactic(auto)]
 
 mod all;
 mod boxes;
+mod frame;
+mod framed;
 mod heights;
 mod inside;
 mod layout_box;
@@ -21,9 +27,11 @@ mod own_heights;
 mod places;
 mod position;
 mod positions;
-mod root;
+mod renewal;
 mod size;
+mod steady;
 mod tables;
+mod tree;
 mod widths;
 
 pub use places::Places;

@@ -1,19 +1,20 @@
 //! Natural widths.
 ghost use Rattle.std.specs.Prelude.{◌≡◌, ◌≤◌, ◌<◌, ◌+◌, ◌*◌, ℕ, true, if◌then◌else◌, ◌==◌, max, ℤ, pos};
-ghost use Rattle.std.specs.Prelude.{negsuc, ◌≤ℤ◌};
+ghost use Rattle.std.specs.Prelude.{negsuc, ◌≤ℤ◌, List};
 ghost use Rattle.gui_base.specs.Forest.{StandsOnce, has, size, tree_at};
-ghost use Rattle.layout_defs.specs.Solving.{reach, natural_size, natural_width};
+ghost use Rattle.layout_defs.specs.Boxes.{course_of};
+ghost use Rattle.layout_defs.specs.Solving.{Wide, reach, natural_size, natural_width};
 ghost use Rattle.layout_defs.specs.Tables.{KeepsOthers};
-ghost use Rattle.gui_layout.specs.Kids.{wide_kid, wide_kids, BelowHaveWidths};
-ghost use Rattle.gui_layout.specs.Views.{box_at};
+ghost use Rattle.gui_layout.specs.Kids.{wide_kid, wide_kids};
+ghost use Rattle.gui_layout.specs.Views.{box_of, box_at};
 ghost use Rattle.gui_layout.specs.Rows.{row_of, with_kid, kids_row, with_gaps};
 ghost use Rattle.gui_layout.specs.Found.{HoldsNaturalWidths};
 ghost use Rattle.gui_layout.specs.Tables.{sizes_of, listing_of, AreListed};
 
-use crate::boxes::{box_at, course_of, side_across};
+use crate::boxes::{course_of, known_box, side_across};
 use crate::layout_box::LayoutBox;
 use crate::size::Size;
-use crate::tables::{set_size, size_at};
+use crate::tables::set_size;
 use gui_base::{Handle, Length};
 use gui_pool::Table;
 use gui_tree::Tree;
@@ -83,30 +84,6 @@ pub(crate) fn flowing(grow: u8, natural: u16) -> u32
     if grow > 0 { 0 } else { u32::from(natural) }
 }
 
-/// How wide the children of an object are together.
-fn kids_row(
-    tree: &Tree,
-    boxes: &Table<LayoutBox>,
-    naturals: &Table<Size>,
-    h: Handle,
-    course: Course,
-) -> Row
-    requires once { StandsOnce tree.now.forest }
-    requires few { size tree.now.forest ≤ 4000 }
-    requires found { BelowHaveWidths boxes.now naturals.now tree.now.forest h.0 }
-    ensures value { row_of result ≡ kids_row course (wide_kids boxes.now tree.now.forest h.0) }
-    ensures size { result.size ≤ 70000 * result.count }
-    ensures count { result.count ≤ 4000 }
-{
-    let mut row = Row { size: 0, count: 0 };
-    let mut next = tree.first_child(h);
-    while let Some(child) = next {
-        row = with_kid(row, course, &box_at(boxes, child), size_at(naturals, child));
-        next = tree.next(child);
-    }
-    row
-}
-
 /// How wide children are together that are so wide, with the gaps of a row.
 fn with_gaps(row: Row, course: Course, gap: u16) -> u32
     requires size { row.size ≤ 70000 * row.count }
@@ -121,17 +98,15 @@ fn with_gaps(row: Row, course: Course, gap: u16) -> u32
     }
 }
 
-/// The natural width of an object, from those of its children.
-fn natural_width(tree: &Tree, boxes: &Table<LayoutBox>, naturals: &Table<Size>, h: Handle) -> u16
-    requires once { StandsOnce tree.now.forest }
-    requires few { size tree.now.forest ≤ 4000 }
-    requires found { BelowHaveWidths boxes.now naturals.now tree.now.forest h.0 }
-    ensures value { result ≡ natural_width (box_at boxes.now h.0) (wide_kids boxes.now tree.now.forest h.0) }
+/// The natural width of an object whose children are together so wide.
+fn natural_width(own: &LayoutBox, row: Row) -> u16
+    requires size { row.size ≤ 70000 * row.count }
+    requires count { row.count ≤ 4000 }
+    ensures value { (h : ℕ) (kids : List Wide) → row_of row ≡ kids_row (course_of own.now.flow) kids
+        → result ≡ natural_width (box_of h own.now) kids }
+    ensures small { result ≤ 8191 }
 {
-    let own = box_at(boxes, h);
-    let course = course_of(own.flow);
-    let row = kids_row(tree, boxes, naturals, h, course);
-    let kids = with_gaps(row, course, own.gap_across);
+    let kids = with_gaps(row, course_of(own.flow), own.gap_across);
     natural_size(
         own.width,
         u32::from(own.left) + u32::from(own.right),
@@ -139,28 +114,38 @@ fn natural_width(tree: &Tree, boxes: &Table<LayoutBox>, naturals: &Table<Size>, 
     )
 }
 
-/// Finds the natural widths of an object and of all below it, children first.
+/// Finds the natural widths of an object that has this box and of all below it, children first. It answers
+/// that of the object.
 pub(crate) fn find_natural_widths(
     tree: &Tree,
     boxes: &Table<LayoutBox>,
     naturals: &mut Table<Size>,
     h: Handle,
-)
+    own: &LayoutBox,
+) -> u16
     requires once { StandsOnce tree.now.forest }
     requires listed { AreListed (listing_of naturals.old) tree.now.forest }
     requires few { size tree.now.forest ≤ 4000 }
     requires there { has tree.now.forest h.0 ≡ true }
+    requires own { box_of h.0 own.now ≡ box_at boxes.now h.0 }
+    requires listed_boxes { AreListed (listing_of boxes.now) tree.now.forest }
+    ensures value { result ≡ natural_width (box_at boxes.now h.0) (wide_kids boxes.now tree.now.forest h.0) }
     ensures found { HoldsNaturalWidths (box_at boxes.now) (sizes_of naturals.new)
         (tree_at tree.now.forest h.0) }
     ensures others { KeepsOthers 0 (sizes_of naturals.old) (sizes_of naturals.new)
         (tree_at tree.now.forest h.0) }
     ensures listed { listing_of naturals.new ≡ listing_of naturals.old }
 {
+    let course = course_of(own.flow);
+    let mut row = Row { size: 0, count: 0 };
     let mut next = tree.first_child(h);
     while let Some(child) = next {
-        find_natural_widths(tree, boxes, naturals, child);
+        let kid = known_box(boxes, child);
+        let natural = find_natural_widths(tree, boxes, naturals, child, kid);
+        row = with_kid(row, course, kid, natural);
         next = tree.next(child);
     }
-    let natural = natural_width(tree, boxes, naturals, h);
+    let natural = natural_width(own, row);
     set_size(naturals, h, natural);
+    natural
 }

@@ -1,5 +1,5 @@
 //! The boxes of the objects of a store.
-ghost use Rattle.std.specs.Prelude.{◌≡◌, ◌≤◌, ℕ, true, Some, pos};
+ghost use Rattle.std.specs.Prelude.{◌≡◌, ◌≤◌, ◌+◌, ◌-◌, ℕ, true, Some, pos, slice_index};
 ghost use Rattle.gui_base.specs.Props.{is_value, values_of};
 ghost use Rattle.gui_base.specs.declared.intervals.TheConstants.{PAD};
 ghost use Rattle.gui_base.specs.declared.props.Prop.TheVariants.{BorderWidth, PadTop, PadBottom, PadLeft};
@@ -16,11 +16,14 @@ ghost use Rattle.gui_store.specs.Views.{scene_of};
 ghost use Rattle.gui_layout.specs.Views.{box_of};
 ghost use Rattle.gui_layout.specs.Scenes.{object_with, scene_box, HoldsBoxes};
 ghost use Rattle.gui_layout.specs.Own.{has_own_size};
-ghost use Rattle.gui_layout.specs.Tables.{listing_of};
+ghost use Rattle.gui_layout.specs.Tables.{sizes_of, listing_of};
 
 use crate::boxes::empty_box;
 use crate::layout_box::LayoutBox;
 use crate::looks::look_in;
+use crate::size::Size;
+use crate::tables::size_at;
+use crate::widths::inner;
 use arrayvec::ArrayVec;
 use gui_base::{Flag, Handle, Kind, Part, Prop};
 use gui_flex::FlexPlaces;
@@ -85,6 +88,20 @@ fn has_own_size(kind: Kind) -> bool
     matches!(kind, Kind::Label | Kind::Image | Kind::Checkbox)
 }
 
+/// The width of what an object with this row shows, in pixels. It is not inlined: a look takes much room,
+/// which a function that holds one clears at each call.
+#[inline(never)]
+fn shown_width(store: &Store, h: Handle, row: &Row) -> u32
+    requires row { Some (shown_row row.now) ≡ row_at (scene_of store.now) h.0 }
+    requires in_range { IsRow row.now }
+    ensures value { let scene = scene_of store.now in
+        result ≡ (object_box scene (object_with scene h.0 (shown_row row.now))).own_width }
+    ensures small { result ≤ 1000000 }
+{
+    let mut text = ArrayVec::new();
+    own_width(&look_in(store, h, row, &mut text)).unsigned_abs()
+}
+
 /// The own width of what an object with this row shows, in pixels.
 fn own_width_of(store: &Store, h: Handle, row: &Row) -> u32
     requires row { Some (shown_row row.now) ≡ row_at (scene_of store.now) h.0 }
@@ -96,20 +113,33 @@ fn own_width_of(store: &Store, h: Handle, row: &Row) -> u32
     if !has_own_size(row.kind) {
         return 0;
     }
-    let mut text = ArrayVec::new();
-    own_width(&look_in(store, h, row, &mut text)).unsigned_abs()
+    shown_width(store, h, row)
 }
 
-/// The own height of what an object shows in a content area that is so wide, in pixels: 0 where the object is
-/// not there.
-pub(crate) fn own_height_of(store: &Store, h: Handle, room: u16) -> u32
+/// The height of what an object with this row shows in a content area that is so wide, in pixels. It is not
+/// inlined, as the width is not.
+#[inline(never)]
+fn shown_height(store: &Store, h: Handle, row: &Row, room: u16) -> u32
+    requires row { Some (shown_row row.now) ≡ row_at (scene_of store.now) h.0 }
+    requires in_range { IsRow row.now }
     ensures value { result ≡ (scene_box (scene_of store.now) h.0).own_height room }
+    ensures small { result ≤ 1000000 }
+{
+    let mut text = ArrayVec::new();
+    own_height(&look_in(store, h, row, &mut text), i32::from(room)).unsigned_abs()
+}
+
+/// The own height of what an object with this box shows at the width that was found, in pixels: 0 where the
+/// object is not there. The width is looked up where something is shown.
+pub(crate) fn own_height_of(store: &Store, h: Handle, own: &LayoutBox, widths: &Table<Size>) -> u32
+    ensures value { result ≡ (scene_box (scene_of store.now) h.0).own_height
+        (slice_index (sizes_of widths.now) h.0 - (own.now.left + own.now.right)) }
     ensures small { result ≤ 1000000 }
 {
     match store.row(h) {
         Some(row) if has_own_size(row.kind) => {
-            let mut text = ArrayVec::new();
-            own_height(&look_in(store, h, row, &mut text), i32::from(room)).unsigned_abs()
+            let room = inner(size_at(widths, h), own.left, own.right);
+            shown_height(store, h, row, room)
         }
         _ => 0,
     }

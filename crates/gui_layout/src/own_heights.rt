@@ -6,12 +6,10 @@ ghost use Rattle.gui_layout.specs.OwnHeights.{IsFixed, AreFixed, KeepsFixed};
 ghost use Rattle.gui_layout.specs.Scenes.{scene_box, HoldsBoxes};
 ghost use Rattle.gui_layout.specs.Tables.{sizes_of, listing_of, IsListed, AreListed};
 
-use crate::boxes::box_at;
+use crate::boxes::known_box;
 use crate::layout_box::LayoutBox;
 use crate::objects::own_height_of;
 use crate::size::Size;
-use crate::tables::size_at;
-use crate::widths::inner;
 use gui_base::Handle;
 use gui_pool::Table;
 use gui_store::Store;
@@ -26,14 +24,14 @@ fn set_own_height(boxes: &mut Table<LayoutBox>, widths: &Table<Size>, store: &St
     ensures boxes { HoldsBoxes boxes.new (scene_of store.now) }
     ensures listed { listing_of boxes.new ≡ listing_of boxes.old }
 {
-    let mut own = box_at(boxes, h);
-    let room = inner(size_at(widths, h), own.left, own.right);
-    let own_height = own_height_of(store, h, room);
+    let own = known_box(boxes, h);
+    let own_height = own_height_of(store, h, own, widths);
     if own_height == own.own_height {
         return;
     }
-    own.own_height = own_height;
-    let _ = boxes.replace(h.0 as u32, own);
+    let mut changed = *own;
+    changed.own_height = own_height;
+    let _ = boxes.replace(h.0 as u32, changed);
 }
 
 /// Sets the own heights of an object and of all below it, whose widths are found.

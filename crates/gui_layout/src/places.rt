@@ -5,8 +5,9 @@ ghost use Rattle.std.specs.Prelude.{length, vec_capacity};
 ghost use Rattle.gui_base.specs.Area.{area_at, is_empty, width_of};
 ghost use Rattle.gui_base.specs.Bounded.{bounds_of};
 ghost use Rattle.gui_base.specs.Corners.{rect_of};
-ghost use Rattle.gui_base.specs.Forest.{preorder};
+ghost use Rattle.gui_base.specs.Forest.{StandsOnce, has, parent_of, preorder, tree_at};
 ghost use Rattle.gui_tree.specs.Handles.{numbers};
+ghost use Rattle.layout_defs.specs.Solving.{room_of};
 ghost use Rattle.layout_defs.specs.Reach.{IsNear, IsPlaced as IsPlaceNumber};
 ghost use Rattle.scene_defs.specs.Looks.{look_of};
 ghost use Rattle.scene_defs.specs.Scene.{handles_of, is_there, object_at};
@@ -14,25 +15,38 @@ ghost use Rattle.gui_widgets.specs.Looks.{IsLook, widget_of};
 ghost use Rattle.gui_store.specs.Views.{scene_of};
 ghost use Rattle.gui_layout.specs.Kept.{AreEntries};
 ghost use Rattle.scene_defs.specs.Visible.{some_area, met, visible};
+ghost use Rattle.gui_layout.specs.Frames.{FrameIsNearby, IsFrameOf, Encloses};
+ghost use Rattle.gui_layout.specs.declared.frame.Frame.TheVariants.{Content};
+ghost use Rattle.gui_layout.specs.Settled.{known_at, tall_of, IsSteady};
+ghost use Rattle.gui_layout.specs.Slots.{room_in};
+ghost use Rattle.gui_layout.specs.Views.{box_at};
 ghost use Rattle.gui_layout.specs.Reaches.{IsPlaced};
 ghost use Rattle.gui_layout.specs.Scenes.{HoldsBoxes, shown_panel};
 ghost use Rattle.gui_layout.specs.Listing.{AreProper, HasThese};
+ghost use Rattle.gui_layout.specs.Tables.{AreListed, IsListed, listing_of};
 
 use crate::all::solve_trees;
-use crate::boxes::empty_box;
+use crate::boxes::{empty_box, known_box};
+use crate::frame::Frame;
+use crate::inside::Inside;
 use crate::layout_box::LayoutBox;
 use crate::listing::{are_same, clear, fill, list_trees};
 use crate::looks::look_in;
 use crate::objects::set_boxes;
 use crate::position::{CORNER, Position};
+use crate::positions::inside_of;
+use crate::renewal::renew_boxes;
 use crate::size::Size;
-use crate::tables::size_at;
+use crate::steady::{is_nearby, is_steady};
+use crate::tables::{position_at, size_at};
+use crate::tree::solve_tree;
 use arrayvec::ArrayVec;
 use gui_base::intervals::HANDLE;
 use gui_base::{Area, Flag, Handle, Limits, NoMemory};
 use gui_flex::FlexItem;
 use gui_pool::Table;
 use gui_store::Store;
+use gui_tree::Tree;
 use gui_widgets::Look;
 use std::alloc::Global;
 use std::mem;
@@ -142,7 +156,8 @@ fn shown_panel(store: &Store, root: Handle) -> Option<Area>
 }
 
 impl Places {
-    ghost use Rattle.gui_layout.specs.Solved.{limits_of, place_at, AreSolved};
+    ghost use Rattle.gui_layout.specs.Solved.{limits_of, layout_of, place_at, AreSolved, AreSettled};
+    ghost use Rattle.gui_layout.specs.Solved.{AreSettledBut};
 
     /// No object has a place. It takes all the memory that solving will need, or answers NoMemory where there
     /// is too little.
@@ -175,12 +190,46 @@ impl Places {
     /// Solves all places of a store anew.
     pub fn solve_all(&mut self, store: &Store)
         requires { limits_of self.old ≡ (scene_of store.now).limits }
+        ensures settled { AreSettled self.new (scene_of store.now) }
         ensures solved { AreSolved self.new (scene_of store.now) }
         ensures limits { limits_of self.new ≡ limits_of self.old }
     {
         self.enter(store);
         self.set_boxes(store);
         self.solve(store);
+    }
+
+    /// Settles the places of a store in which an object has changed, or what lies below it, since they were
+    /// settled, and nothing else. Of the objects that stand by themselves in a parent whose place does not go
+    /// by its children, the nearest above the object is found; what lies below that one is solved anew, and
+    /// all else stays. The answer is that object.
+    pub fn settle(&mut self, store: &Store, h: Handle) -> Handle
+        requires there { is_there (scene_of store.now) h.0 ≡ true }
+        requires but { AreSettledBut self.old (scene_of store.now) h.0 }
+        requires limits { limits_of self.old ≡ (scene_of store.now).limits }
+        ensures settled { AreSettled self.new (scene_of store.now) }
+        ensures there { is_there (scene_of store.now) result.0 ≡ true }
+        ensures encloses { Encloses (handles_of (scene_of store.now).trees) result.0 h.0 }
+        ensures others { (k : ℕ) → has (tree_at (handles_of (scene_of store.now).trees) result.0) k ≡ false →
+            place_at self.new k ≡ place_at self.old k }
+        ensures limits { limits_of self.new ≡ limits_of self.old }
+    {
+        let tree = store.tree();
+        renew_boxes(tree, &mut self.boxes, store, h);
+        let (top, frame) = self.frame_of(tree, h);
+        solve_tree(
+            tree,
+            &mut self.boxes,
+            store,
+            &mut self.natural_widths,
+            &mut self.widths,
+            &mut self.natural_heights,
+            &mut self.positions,
+            &mut self.items,
+            top,
+            frame,
+        );
+        top
     }
 
     /// The place of an object, or None exactly where it was not there when the places were solved. It lies
@@ -245,6 +294,60 @@ impl Places {
         }
     }
 
+    /// The content area of an object whose place does not go by its children, and in which these stand by
+    /// themselves.
+    fn steady_inside(&self, h: Handle) -> Option<Inside>
+        requires { IsListed (listing_of self.now.boxes) h.0 }
+        ensures steady { IfSome result (λ inside. IsSteady (box_at self.now.boxes h.0)) }
+        ensures room { IfSome result (λ inside. room_in inside ≡
+            room_of (tall_of (known_at (box_at self.now.boxes) (layout_of self.now) h.0))
+            (known_at (box_at self.now.boxes) (layout_of self.now) h.0).slot) }
+        ensures near { IfSome result (λ inside. FrameIsNearby (Content inside)) }
+    {
+        let own = known_box(&self.boxes, h);
+        let position = position_at(&self.positions, h);
+        if is_steady(own) && is_nearby(position) {
+            Some(inside_of(own, position, size_at(&self.widths, h)))
+        } else {
+            None
+        }
+    }
+
+    /// The nearest object, from this one upward, whose parent does not go by it, and what it stands in.
+    fn frame_of(&self, tree: &Tree, h: Handle) -> (Handle, Frame)
+        requires once { StandsOnce tree.now.forest }
+        requires there { has tree.now.forest h.0 ≡ true }
+        requires listed { AreListed (listing_of self.now.boxes) tree.now.forest }
+        ensures there { has tree.now.forest result.0.0 ≡ true }
+        ensures encloses { Encloses tree.now.forest result.0.0 h.0 }
+        ensures near { FrameIsNearby result.1 }
+        ensures frame { IsFrameOf (limits_of self.now) (known_at (box_at self.now.boxes) (layout_of self.now))
+            (parent_of tree.now.forest result.0.0) result.1 }
+    {
+        let Some(parent) = tree.parent(h) else {
+            return (h, self.panel());
+        };
+        match self.steady_inside(parent) {
+            Some(inside) => (h, Frame::Content(inside)),
+            None => self.frame_of(tree, parent),
+        }
+    }
+
+    /// What a root stands in.
+    fn panel(&self) -> Frame
+        ensures near { FrameIsNearby result }
+        ensures frame { IsFrameOf (limits_of self.now) (known_at (box_at self.now.boxes) (layout_of self.now))
+            None result }
+    {
+        let width = Size {
+            pixels: self.limits.width as u16,
+        };
+        let height = Size {
+            pixels: self.limits.height as u16,
+        };
+        Frame::Panel(width, height)
+    }
+
     /// Takes out the entries of all objects.
     fn forget(&mut self)
         ensures empty { self.new.listed.items ≡ [] }
@@ -306,7 +409,7 @@ impl Places {
         requires limits { limits_of self.old ≡ (scene_of store.now).limits }
         requires listed { numbers self.old.listed.items ≡ preorder (handles_of (scene_of store.now).trees) }
         requires boxes { HoldsBoxes self.old.boxes (scene_of store.now) }
-        ensures solved { AreSolved self.new (scene_of store.now) }
+        ensures settled { AreSettled self.new (scene_of store.now) }
         ensures limits { limits_of self.new ≡ limits_of self.old }
     {
         solve_trees(
@@ -318,8 +421,12 @@ impl Places {
             &mut self.natural_heights,
             &mut self.positions,
             &mut self.items,
-            self.limits.width as u16,
-            self.limits.height as u16,
+            Size {
+                pixels: self.limits.width as u16,
+            },
+            Size {
+                pixels: self.limits.height as u16,
+            },
         );
     }
 }

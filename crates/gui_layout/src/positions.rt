@@ -1,6 +1,6 @@
 //! Heights and places, downward.
 ghost use Rattle.std.specs.Prelude.{◌≡◌, ◌≤◌, ◌<◌, ◌+◌, ◌-◌, ◌∷◌, ◌++◌, [], ℕ, ℤ, List, true, length, map};
-ghost use Rattle.std.specs.Prelude.{drop, vec_len, vec_capacity, pos, negsuc, ◌≤ℤ◌, ◌+ℤ◌, ◌-ℤ◌};
+ghost use Rattle.std.specs.Prelude.{drop, vec_len, vec_capacity, pos, negsuc, ◌≤ℤ◌, ◌+ℤ◌, ◌-ℤ◌, slice_index};
 ghost use Rattle.std.specs.List.{All};
 ghost use Rattle.gui_base.specs.Forest.{StandsOnce, has, height, size, tree_at, children_of};
 ghost use Rattle.layout_defs.specs.declared.Course.TheVariants.{Across, Down};
@@ -19,7 +19,7 @@ ghost use Rattle.gui_layout.specs.Slots.{IsClose, HasRoom, HoldsSlots, Deals, Is
 ghost use Rattle.gui_layout.specs.Slots.{slot_at, at_roots};
 ghost use Rattle.gui_layout.specs.Tables.{sizes_of, listing_of, AreListed};
 
-use crate::boxes::{box_at, course_of, is_reversed, side_across, side_down, wraps};
+use crate::boxes::{course_of, is_reversed, known_box, side_across, side_down, wraps};
 use crate::inside::Inside;
 use crate::layout_box::LayoutBox;
 use crate::position::Position;
@@ -81,11 +81,19 @@ fn aligned_at(side: Side, wanted: i32, room: u16, size: u16) -> i32
 }
 
 /// A child's place without flex.
-fn own_position(kid: &LayoutBox, inside: Inside, width: u16, natural: u16) -> Position
-    ensures value { (h : ℕ) → slot_of result ≡ own_slot (room_in inside) (tall_kid h kid.now width natural) }
+pub(crate) fn own_position(
+    kid: &LayoutBox,
+    inside: Inside,
+    widths: &Table<Size>,
+    naturals: &Table<Size>,
+    child: Handle,
+) -> Position
+    ensures value { (h : ℕ) → slot_of result ≡ own_slot (room_in inside) (tall_kid h kid.now
+        (slice_index (sizes_of widths.now) child.0) (slice_index (sizes_of naturals.now) child.0)) }
     ensures close { IsClose inside.x inside.y (slot_of result) }
 {
-    let height = size_in(kid.height, inside.height, natural);
+    let width = size_at(widths, child);
+    let height = size_in(kid.height, inside.height, size_at(naturals, child));
     let x = aligned_at(side_across(kid.align), kid.x, inside.width, width);
     let y = aligned_at(side_down(kid.align), kid.y, inside.height, height);
     Position {
@@ -280,29 +288,33 @@ fn place_column(items: &mut Vec<FlexItem>, own: &LayoutBox, inside: Inside)
     );
 }
 
-/// The place that a child is dealt, and how many items are dealt then.
+/// The place that a child is dealt, and how many items are dealt then. Its sizes are looked up where it is
+/// dealt no item.
 fn dealt_position(
     kid: &LayoutBox,
     course: Course,
     inside: Inside,
-    width: u16,
-    natural: u16,
+    widths: &Table<Size>,
+    naturals: &Table<Size>,
+    child: Handle,
     items: &[FlexItem],
     i: usize,
 ) -> (Position, usize)
     requires within { i ≤ length items.now }
     ensures value { (h : ℕ) (kids : List Tall) → dealt tall_box (own_slot (room_in inside))
-        (tall_kid h kid.now width natural ∷ kids) (map (item_slot course (room_in inside)) (drop i items.now))
+        (tall_kid h kid.now (slice_index (sizes_of widths.now) child.0)
+        (slice_index (sizes_of naturals.now) child.0) ∷ kids)
+        (map (item_slot course (room_in inside)) (drop i items.now))
         ≡ slot_of result.0 ∷ dealt tall_box (own_slot (room_in inside)) kids
         (map (item_slot course (room_in inside)) (drop result.1 items.now)) }
     ensures close { IsClose inside.x inside.y (slot_of result.0) }
     ensures within { result.1 ≤ length items.now }
 {
     if kid.hidden {
-        return (own_position(kid, inside, width, natural), i);
+        return (own_position(kid, inside, widths, naturals, child), i);
     }
     if i == items.len() {
-        return (own_position(kid, inside, width, natural), i);
+        return (own_position(kid, inside, widths, naturals, child), i);
     }
     (item_position(course, &items[i], inside), i + 1)
 }
@@ -321,6 +333,7 @@ fn fill_flow(
     requires once { StandsOnce tree.now.forest }
     requires few { size tree.now.forest ≤ 4000 }
     requires capacity { size tree.now.forest ≤ vec_capacity items.old }
+    requires listed_boxes { AreListed (listing_of boxes.now) tree.now.forest }
     ensures items { items_of items.new.items
         ≡ map (flow_item course room) (taking_part tall_box
         (tall_kids boxes.now widths.now naturals.now tree.now.forest h.0)) }
@@ -332,7 +345,7 @@ fn fill_flow(
     while let Some(child) = next {
         push_kid(
             items,
-            &box_at(boxes, child),
+            known_box(boxes, child),
             course,
             room,
             size_at(widths, child),
@@ -356,6 +369,7 @@ fn place_flow(
     requires once { StandsOnce tree.now.forest }
     requires few { size tree.now.forest ≤ 4000 }
     requires capacity { size tree.now.forest ≤ vec_capacity items.old }
+    requires listed_boxes { AreListed (listing_of boxes.now) tree.now.forest }
     ensures slots { map (item_slot (course_of own.now.flow) (room_in inside)) items.new.items
         ≡ flow_slots (box_of h.0 own.now) (room_in inside) (taking_part tall_box
         (tall_kids boxes.now widths.now naturals.now tree.now.forest h.0)) }
@@ -413,6 +427,7 @@ fn deal_positions(
 )
     requires once { StandsOnce tree.now.forest }
     requires listed { AreListed (listing_of places.old) tree.now.forest }
+    requires listed_boxes { AreListed (listing_of boxes.now) tree.now.forest }
     ensures deals { Deals (box_at boxes.now) (sizes_of widths.now) (sizes_of naturals.now) (room_in inside)
         (slots_of places.old) (slots_of places.new) (children_of tree.now.forest h.0)
         (map (item_slot course (room_in inside)) items.now) }
@@ -422,11 +437,12 @@ fn deal_positions(
     let mut i = 0;
     while let Some(child) = next {
         let (position, later) = dealt_position(
-            &box_at(boxes, child),
+            known_box(boxes, child),
             course,
             inside,
-            size_at(widths, child),
-            size_at(naturals, child),
+            widths,
+            naturals,
+            child,
             items,
             i,
         );
@@ -437,7 +453,7 @@ fn deal_positions(
 }
 
 /// The content area of an object that stands there and is so wide.
-fn inside_of(own: &LayoutBox, at: Position, width: u16) -> Inside
+pub(crate) fn inside_of(own: &LayoutBox, at: Position, width: u16) -> Inside
     requires width { width ≤ 8191 }
     requires room { HasRoom (slot_of at) 1 }
     ensures value { (h naturals : ℕ) → room_in result
@@ -465,7 +481,9 @@ fn corner(at: i32, before: u16) -> i32
     at + i32::from(before)
 }
 
-/// Sets the places of the children of an object whose own place is set.
+/// Sets the places of the children of an object whose own place is set. It is not inlined, so that an object
+/// without children pays nothing for it.
+#[inline(never)]
 fn set_kid_positions(
     tree: &Tree,
     boxes: &Table<LayoutBox>,
@@ -480,6 +498,8 @@ fn set_kid_positions(
     requires few { size tree.now.forest ≤ 4000 }
     requires capacity { size tree.now.forest ≤ vec_capacity items.old }
     requires room { HasRoom (slot_at (slots_of places.old) h.0) 1 }
+    requires listed_boxes { AreListed (listing_of boxes.now) tree.now.forest }
+    requires there { has tree.now.forest h.0 ≡ true }
     ensures kids { at_roots (slots_of places.new) (children_of tree.now.forest h.0)
         ≡ kid_slots (tall_at (box_at boxes.now) (sizes_of widths.now) (sizes_of naturals.now) h.0)
         (slot_at (slots_of places.old) h.0)
@@ -491,9 +511,9 @@ fn set_kid_positions(
     ensures capacity { vec_capacity items.new ≡ vec_capacity items.old }
     ensures listed { listing_of places.new ≡ listing_of places.old }
 {
-    let own = box_at(boxes, h);
-    let inside = inside_of(&own, position_at(places, h), size_at(widths, h));
-    place_flow(tree, boxes, widths, naturals, items, h, &own, inside);
+    let own = known_box(boxes, h);
+    let inside = inside_of(own, position_at(places, h), size_at(widths, h));
+    place_flow(tree, boxes, widths, naturals, items, h, own, inside);
     deal_positions(
         tree,
         boxes,
@@ -523,6 +543,7 @@ pub(crate) fn find_places(
     requires there { has tree.now.forest h.0 ≡ true }
     requires capacity { size tree.now.forest ≤ vec_capacity items.old }
     requires room { HasRoom (slot_at (slots_of places.old) h.0) (height (tree_at tree.now.forest h.0)) }
+    requires listed_boxes { AreListed (listing_of boxes.now) tree.now.forest }
     ensures found { HoldsSlots (box_at boxes.now) (sizes_of widths.now) (sizes_of naturals.now)
         (slot_at (slots_of places.old) h.0 ∷ []) (slots_of places.new) (tree_at tree.now.forest h.0) }
     ensures others { KeepsOthers nowhere (slots_of places.old) (slots_of places.new)

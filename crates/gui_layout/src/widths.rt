@@ -13,7 +13,7 @@ ghost use Rattle.gui_layout.specs.Views.{box_of, box_at};
 ghost use Rattle.gui_layout.specs.Found.{HoldsNaturalWidths, HoldsWidths};
 ghost use Rattle.gui_layout.specs.Tables.{sizes_of, listing_of, AreListed};
 
-use crate::boxes::{box_at, course_of, is_reversed, wraps};
+use crate::boxes::{course_of, is_reversed, known_box, wraps};
 use crate::layout_box::LayoutBox;
 use crate::size::Size;
 use crate::tables::{set_size, size_at};
@@ -90,23 +90,26 @@ pub(crate) fn share_in_order(items: &mut Vec<FlexItem>, flow: Flow, room: u16, g
     turn(items, back);
 }
 
-/// The width that a child is dealt, and how many items are dealt then.
+/// The width that a child is dealt, and how many items are dealt then. Its natural width is looked up where
+/// it is dealt no item.
 fn dealt_width(
     kid: &LayoutBox,
     room: u16,
-    natural: u16,
+    naturals: &Table<Size>,
+    child: Handle,
     items: &[FlexItem],
     i: usize,
 ) -> (u16, usize)
     requires within { i ≤ length items.now }
     ensures value { (h : ℕ) (kids : List Wide) → dealt wide_box (width_in room)
-        (wide_kid h kid.now natural ∷ kids) (main_sizes (items_of (drop i items.now)))
+        (wide_kid h kid.now (slice_index (sizes_of naturals.now) child.0) ∷ kids)
+        (main_sizes (items_of (drop i items.now)))
         ≡ result.0 ∷ dealt wide_box (width_in room) kids (main_sizes (items_of (drop result.1 items.now))) }
     ensures small { result.0 ≤ 8191 }
     ensures within { result.1 ≤ length items.now }
 {
     if kid.hidden || i == items.len() {
-        return (size_in(kid.width, room, natural), i);
+        return (size_in(kid.width, room, size_at(naturals, child)), i);
     }
     (items[i].main as u16, i + 1)
 }
@@ -124,6 +127,7 @@ fn fill_row(
     requires few { size tree.now.forest ≤ 4000 }
     requires found { BelowHaveWidths boxes.now naturals.now tree.now.forest h.0 }
     requires capacity { size tree.now.forest ≤ vec_capacity items.old }
+    requires listed_boxes { AreListed (listing_of boxes.now) tree.now.forest }
     ensures items { items_of items.new.items
         ≡ map (width_item room) (taking_part wide_box (wide_kids boxes.now tree.now.forest h.0)) }
     ensures few { vec_len items.new ≤ 4000 }
@@ -132,7 +136,12 @@ fn fill_row(
     items.clear();
     let mut next = tree.first_child(h);
     while let Some(child) = next {
-        push_kid(items, &box_at(boxes, child), room, size_at(naturals, child));
+        push_kid(
+            items,
+            known_box(boxes, child),
+            room,
+            size_at(naturals, child),
+        );
         next = tree.next(child);
     }
 }
@@ -151,6 +160,7 @@ fn deal_widths(
     requires once { StandsOnce tree.now.forest }
     requires listed { AreListed (listing_of widths.old) tree.now.forest }
     requires found { BelowHaveWidths boxes.now naturals.now tree.now.forest h.0 }
+    requires listed_boxes { AreListed (listing_of boxes.now) tree.now.forest }
     ensures dealt { map (slice_index (sizes_of widths.new)) (roots (children_of tree.now.forest h.0))
         ≡ dealt wide_box (width_in room) (wide_kids boxes.now tree.now.forest h.0)
         (main_sizes (items_of items.now)) }
@@ -161,13 +171,7 @@ fn deal_widths(
     let mut next = tree.first_child(h);
     let mut i = 0;
     while let Some(child) = next {
-        let (width, later) = dealt_width(
-            &box_at(boxes, child),
-            room,
-            size_at(naturals, child),
-            items,
-            i,
-        );
+        let (width, later) = dealt_width(known_box(boxes, child), room, naturals, child, items, i);
         set_size(widths, child, width);
         i = later;
         next = tree.next(child);
@@ -197,6 +201,7 @@ fn row_shares(
     requires found { BelowHaveWidths boxes.now naturals.now tree.now.forest h.0 }
     requires capacity { size tree.now.forest ≤ vec_capacity items.old }
     requires room { room ≤ 8191 }
+    requires listed_boxes { AreListed (listing_of boxes.now) tree.now.forest }
     ensures dealt { let kids = wide_kids boxes.now tree.now.forest h.0
         in dealt wide_box (width_in room) kids (main_sizes (items_of items.new.items))
         ≡ kid_widths_by (course_of own.now.flow) (box_of h.0 own.now) room kids }
@@ -211,7 +216,9 @@ fn row_shares(
     }
 }
 
-/// Sets the widths of the children of an object whose own width is set.
+/// Sets the widths of the children of an object whose own width is set. It is not inlined, so that an object
+/// without children pays nothing for it.
+#[inline(never)]
 fn set_kid_widths(
     tree: &Tree,
     boxes: &Table<LayoutBox>,
@@ -225,6 +232,8 @@ fn set_kid_widths(
     requires few { size tree.now.forest ≤ 4000 }
     requires found { BelowHaveWidths boxes.now naturals.now tree.now.forest h.0 }
     requires capacity { size tree.now.forest ≤ vec_capacity items.old }
+    requires listed_boxes { AreListed (listing_of boxes.now) tree.now.forest }
+    requires there { has tree.now.forest h.0 ≡ true }
     ensures kids { map (slice_index (sizes_of widths.new)) (roots (children_of tree.now.forest h.0))
         ≡ kid_widths (box_at boxes.now h.0) (slice_index (sizes_of widths.old) h.0)
         (wide_kids boxes.now tree.now.forest h.0) }
@@ -233,9 +242,9 @@ fn set_kid_widths(
     ensures capacity { vec_capacity items.new ≡ vec_capacity items.old }
     ensures listed { listing_of widths.new ≡ listing_of widths.old }
 {
-    let own = box_at(boxes, h);
+    let own = known_box(boxes, h);
     let room = inner(size_at(widths, h), own.left, own.right);
-    row_shares(tree, boxes, naturals, items, h, &own, room);
+    row_shares(tree, boxes, naturals, items, h, own, room);
     deal_widths(tree, boxes, naturals, widths, items.as_slice(), h, room);
 }
 
@@ -255,6 +264,7 @@ pub(crate) fn find_widths(
     requires naturals_found { HoldsNaturalWidths (box_at boxes.now) (sizes_of naturals.now)
         (tree_at tree.now.forest h.0) }
     requires capacity { size tree.now.forest ≤ vec_capacity items.old }
+    requires listed_boxes { AreListed (listing_of boxes.now) tree.now.forest }
     ensures found { HoldsWidths (box_at boxes.now) (slice_index (sizes_of widths.old) h.0 ∷ [])
         (sizes_of widths.new) (tree_at tree.now.forest h.0) }
     ensures others { KeepsOthers 0 (sizes_of widths.old) (sizes_of widths.new) (tree_at tree.now.forest h.0) }

@@ -242,12 +242,10 @@ impl Board {
     pub(crate) fn stop_refusal(&self, h: Handle, var: Var) -> Option<Refusal>
         ensures { result ≡ first_of (tests_of (machine_of self.now) (Command.Stop h var)) None }
     {
-        if !self.has(h) {
-            Some(Refusal::Unknown)
-        } else if !self.anims.is_moved(h, var) {
-            Some(Refusal::Unknown)
-        } else {
+        if self.has(h) && self.anims.is_moved(h, var) {
             None
+        } else {
+            Some(Refusal::Unknown)
         }
     }
 

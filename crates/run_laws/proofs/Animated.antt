@@ -1,5 +1,5 @@
 -- What animations give their objects leaves the animations and the time.
-use Rattle.std.proofs.Common.{◌≡◌, ◌∙◌, refl, ℕ, Option, Some, None, List, [], ◌∷◌}
+use Rattle.std.proofs.Common.{◌∙◌, refl, Option, Some, None, [], ◌∷◌}
 use Rattle.std.specs.Prelude.{ℤ, ◌-◌}
 use Rattle.gui_base.specs.declared.Handle.{Handle}
 use Rattle.gui_base.specs.declared.events.Var.{Var}

@@ -1,5 +1,5 @@
 -- Who is animated is there, whatever is played.
-use Rattle.std.proofs.Common.{◌≡◌, ◌∙◌, refl, ℕ, Bool, true, false, Option, Some, None, List, [], ◌∷◌, ◌++◌, filter, arith}
+use Rattle.std.proofs.Common.{◌≡◌, refl, ℕ, Bool, true, false, Option, Some, None, List, [], ◌∷◌, filter, arith}
 use Rattle.std.specs.Prelude.{if◌then◌else◌, not, ◌||◌, ◌==◌, IfSome}
 use Rattle.std.specs.List.{list_any}
 use Rattle.std.proofs.lemmas.Bool.{not-false}
@@ -33,8 +33,8 @@ use Rattle.run_defs.specs.Focusing.{unfocus, refocus, focus_taken, hand_over, mo
 use Rattle.run_defs.specs.Machine.{Machine}
 use Rattle.run_defs.specs.Making.{make, make_by, put_state, is_same, is_in_state, with_groups, heir, pass_on, leave_from, leave_group, without_handlers, without_targets, without_anims, forget, handles, not_there, made, note, attempt, attempt_by}
 use Rattle.run_defs.specs.Play.{Rule, nothing, with, ◌⊳◌, ◌▷◌, each, aimed}
-use Rattle.run_defs.specs.Step.{handler_added, handlers_dropped, keypad_in, encoder_in, anim_stopped, down_at, lifted, answer, gone, var_tests, full_for, is_command_in_range, rule_of, unless, step, IsCommand}
-use Rattle.run_defs.proofs.Inputs.{any-filter, IsAside, IsClosed, good_feed_pointer, good_feed_keypad, good_feed_encoder, good_tick}
+use Rattle.run_defs.specs.Step.{anim_stopped, down_at, lifted, answer, gone, var_tests, full_for, is_command_in_range, rule_of, unless, step, IsCommand}
+use Rattle.run_defs.proofs.Inputs.{any-filter, IsClosed, good_feed_pointer, good_feed_keypad, good_feed_encoder, good_tick}
 use Rattle.run_laws.specs.Animated.{AnimatedAreThere, FirstAnimatedAreThere, StepsKeepAnimated}
 use Rattle.run_laws.proofs.Counting.{among-filter}
 use Rattle.run_laws.proofs.Scenes.{none-goes, others-stay}

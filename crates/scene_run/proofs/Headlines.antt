@@ -1,10 +1,11 @@
 -- The headline from the reading.
-use Rattle.std.proofs.Common.{◌≡◌, ap, subst, sym, [], arith}
+use Rattle.std.proofs.Common.{◌≡◌, ◌⊎◌, ap, subst, sym, [], arith}
 use Rattle.std.specs.Prelude.{Some, None, ℕ}
 use Rattle.std.specs.declared.option.Option.{Option}
 use Rattle.std.proofs.KnownBytes.{Appends-nil}
 use Rattle.gui_base.specs.Limits.{Bounds}
 use Rattle.run_defs.specs.Machine.{Machine, first_machine}
+use Rattle.gui_edge.specs.Causes.{Rose}
 use Rattle.gui_edge.specs.Panel.{PanelState, Opens}
 use Rattle.gui_edge.proofs.Telling.{keeps_telling-some}
 use Rattle.scene_run.specs.Effects.{Output, PanelEffects, SinceOpening}
@@ -28,6 +29,11 @@ since_opening old new width height limit opens = record {
   sent = ap (λ (p : PanelState). p.sent) opens.is;
   flush_faults = ap (λ (p : PanelState). p.flush_faults) opens.is;
 }
+
+-- a frame that failed since the panel was opened failed since it was closed
+pub fault_since : (closed opened : PanelState) (width height limit : ℕ) → Opens closed opened width height limit → (A : Type 0) (after : ℕ) → A ⊎ Rose opened.present_faults after → A ⊎ Rose closed.present_faults after
+fault_since closed opened width height limit opens A after =
+    subst (λ (n : ℕ). A ⊎ Rose n after) (ap (λ (p : PanelState). p.present_faults) opens.is)
 
 headline_by : (limits : Bounds) (old new : Outside) (status : Status) → RunsAs limits.make (first_machine limits) old new status → Headline (Some limits) old new status
 headline_by limits old new PanelFault h = tt

@@ -1,10 +1,10 @@
-use Rattle.std.proofs.Common.{ℕ, List, ◌≡◌, vec_capacity}
+use Rattle.std.proofs.Common.{◌≡◌, vec_capacity}
 use Rattle.gui_base.specs.Forest.{size}
-use Rattle.layout_defs.specs.Solving.{Slot}
-use Rattle.gui_layout.specs.Tables.{sizes_of, listing_of}
+use Rattle.gui_layout.specs.Layouts.{told}
+use Rattle.gui_layout.specs.Settled.{Layout}
+use Rattle.gui_layout.specs.Tables.{listing_of}
 use Rattle.gui_store.specs.Views.{scene_of}
 use Rattle.gui_layout.specs.Scenes.{scene_box, HoldsBoxes}
-use Rattle.gui_layout.specs.Slots.{slots_of}
 use Rattle.gui_layout.proofs.Parts.{IsNext, trees_from}
 use Rattle.gui_layout.proofs.Solves.{Solves}
 use Rattle.gui_layout.proofs.all.solve_trees.Given as goal
@@ -21,7 +21,9 @@ invariant-loop-next l =
       listed_heights : listing_of l.natural_heights ≡ listing_of l.fn.natural_heights;
       listed_places : listing_of l.places ≡ listing_of l.fn.places;
       capacity : vec_capacity l.items ≡ vec_capacity l.fn.items;
-      later : (w : List ℕ) (p : List Slot) → Solves (scene_box (scene_of l.store)) l.width l.height (sizes_of l.widths) w (slots_of l.places) p (trees_from l.next f) → Solves (scene_box (scene_of l.store)) l.width l.height (sizes_of l.fn.widths) w (slots_of l.fn.places) p f;
+      later : (now : Layout) →
+          Solves (scene_box (scene_of l.store)) l.width.pixels l.height.pixels (told l.natural_widths l.widths l.natural_heights l.places) now (trees_from l.next f) →
+          Solves (scene_box (scene_of l.store)) l.width.pixels l.height.pixels (told l.fn.natural_widths l.fn.widths l.fn.natural_heights l.fn.places) now f;
     }
 
 abbrev pub decreases-loop-next : goal.decreases-loop-next

@@ -1,5 +1,9 @@
-use Rattle.std.proofs.Common.{ℕ, List, ◌≡◌, ◌<◌, vec_capacity}
-use Rattle.gui_base.specs.Forest.{size, tree_at, children_of}
+use Rattle.std.proofs.Common.{ℕ, List, ◌≡◌, ◌<◌, ◌≤◌, ◌+◌, ◌*◌, vec_capacity}
+use Rattle.std.specs.List.{fold}
+use Rattle.gui_base.specs.Forest.{roots, size, tree_at, children_of}
+use Rattle.gui_layout.specs.Columns.{with_kid_down, kids_column}
+use Rattle.gui_layout.specs.Rows.{row_of}
+use Rattle.gui_layout.specs.Talls.{heights_of}
 use Rattle.gui_layout.specs.Tables.{sizes_of, listing_of}
 use Rattle.gui_layout.specs.Views.{box_at}
 use Rattle.gui_layout.proofs.Parts.{IsNext, trees_from}
@@ -12,10 +16,14 @@ decreases-find_natural_heights l = size (tree_at l.tree.now.forest l.h.0)
 abbrev pub invariant-loop-next : goal.invariant-loop-next
 invariant-loop-next l =
     let f = l.tree.forest in
+    let trees = trees_from l.next f in
     let box = box_at l.boxes in
     record {
       next_is : IsNext f l.next;
-      small : size (trees_from l.next f) < size (tree_at f l.h.0);
+      small : size trees < size (tree_at f l.h.0);
+      few : l.row.count + size trees ≤ 4000;
+      sized : l.row.size ≤ 70000 * l.row.count;
+      left : fold (with_kid_down l.course) (row_of l.row) (roots (heights_of box (sizes_of l.widths) trees)) ≡ kids_column l.course (roots (heights_of box (sizes_of l.widths) (children_of f l.h.0)));
       listed : listing_of l.naturals ≡ listing_of l.fn.naturals;
       capacity : vec_capacity l.items ≡ vec_capacity l.fn.items;
       later : (u : List ℕ) → Heightens box (sizes_of l.widths) (sizes_of l.naturals) u (trees_from l.next f) → Heightens box (sizes_of l.widths) (sizes_of l.fn.naturals) u (children_of f l.h.0);

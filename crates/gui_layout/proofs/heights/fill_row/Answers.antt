@@ -6,11 +6,11 @@ use Rattle.gui_flex.specs.Items.{items_of}
 use Rattle.gui_layout.specs.Tables.{sizes_of}
 use Rattle.gui_layout.specs.Views.{box_at}
 use Rattle.gui_layout.specs.Talls.{HoldsNaturalHeights, heights_of}
-use Rattle.gui_layout.proofs.Parts.{distinct_once, IsNext, GoesOn, trees_from, walk_begins, walk_goes_on, part_children, size-part}
+use Rattle.gui_layout.proofs.Parts.{distinct_once, has-part, here, IsHead, next_head, IsNext, GoesOn, trees_from, walk_begins, walk_goes_on, part_children, size-part}
 use Rattle.gui_layout.proofs.Columns.{found_is}
 use Rattle.gui_layout.proofs.Lists.{part_taken_by}
 use Rattle.gui_layout.proofs.heights.fill_row.Goals as goal
-use Rattle.gui_layout.proofs.heights.fill_row.Goals.{After-next-next}
+use Rattle.gui_layout.proofs.heights.fill_row.Goals.{In-Some, After-next-next}
 
 goes : (c : After-next-next) → GoesOn c.args.tree.now.forest c.in-Some.child c.next-next.result
 goes c =
@@ -53,7 +53,7 @@ loop-next-preserved c =
     let holds : HoldsNaturalHeights box (sizes_of c.args.widths.now) (sizes_of c.args.naturals.now) (Tree h g.children g.rest) = subst (HoldsNaturalHeights box (sizes_of c.args.widths.now) (sizes_of c.args.naturals.now)) (now_is d) inv.holds in
     let item = λ (w : Tall). height_item w in
     let kids = roots (heights_of box (sizes_of c.args.widths.now) g.rest) in
-    let kid = found_is c.args.boxes.now (sizes_of c.args.widths.now) h _ _ c.box_at.result g.children c.box_at.ensures c.size_at.ensures.value (c.size_at-in-Some.ensures.value ∙ holds.0) in
+    let kid = found_is c.args.boxes.now (sizes_of c.args.widths.now) h _ _ c.known_box.result.now g.children c.known_box.ensures c.size_at.ensures.value (c.size_at-in-Some.ensures.value ∙ holds.0) in
     record {
       next_is = g.next_is;
       few = rw g.later (omega arith);
@@ -64,3 +64,12 @@ loop-next-preserved c =
           (ap (λ l. items_of c.loop-next.items.items ++ l) (part_taken_by tall_box height_item _ kids ∙ ap (λ (k : Tall). map height_item (taking_part tall_box (k ∷ kids))) kid)
           ∙ (ap (λ (t : Forest ℕ). items_of c.loop-next.items.items ++ map height_item (taking_part tall_box (roots (heights_of box (sizes_of c.args.widths.now) t)))) (sym (now_is d)) ∙ inv.left));
     }
+
+head : (c : In-Some) → IsHead c.args.tree.now.forest c.in-Some.child
+head c = next_head c.args.tree.now.forest c.in-Some.child (subst (IsNext c.args.tree.now.forest) c.in-Some.is c.loop-next.invariant.next_is)
+
+pub known_box-requires : goal.known_box-requires
+known_box-requires c =
+    let e = head (goal.at.known_box-requires c).In-Some in
+    let h = c.in-Some.child.0 in
+    c.requires.listed_boxes h (has-part e.part h (here h e.children e.rest))

@@ -1,24 +1,16 @@
-use Rattle.std.proofs.Common.{◌≡◌, ◌∙◌, sym, ap, w32, to_z, of_z, arith}
-use Rattle.std.specs.Prelude.{nat_abs}
-use Rattle.std.proofs.lemmas.Int.{ints, to_z-of_z}
-use Rattle.gui_base.specs.Area.{nat_of}
+use Rattle.std.proofs.Common.{◌≡◌, ◌∙◌, ◌+◌, ◌-◌, ap, sym, slice_index}
 use Rattle.scene_defs.specs.Row.{shown_row}
-use Rattle.widget_defs.specs.Sizes.{own_height}
 use Rattle.gui_store.specs.Views.{scene_of}
-use Rattle.gui_widgets.specs.Looks.{widget_of}
-use Rattle.gui_layout.proofs.SceneBoxes.{no_height, look-height}
+use Rattle.gui_layout.specs.Scenes.{scene_box}
+use Rattle.gui_layout.specs.Tables.{sizes_of}
+use Rattle.gui_layout.proofs.SceneBoxes.{no_height}
 use Rattle.gui_layout.proofs.objects.own_height_of.Goals as goal
+
+pub returns-in_default-clause-value : goal.returns-in_default-clause-value
+returns-in_default-clause-value c = no_height (scene_of c.args.store.now) c.args.h.0 (shown_row c.in-Some.row.now) (slice_index (sizes_of c.args.widths.now) c.args.h.0 - (c.args.own.now.left + c.args.own.now.right)) c.in-Some.ensures.value (sym c.has_own_size.ensures ∙ c.if-has_own_size.false)
 
 pub returns-in-Some-clause-value : goal.returns-in-Some-clause-value
 returns-in-Some-clause-value c =
-    let scene = scene_of c.args.store.now in
-    let n = c.own_height.ensures.value in
-    let small = c.own_height.ensures.small in
-    let kept : to_z w32 (of_z w32 c.own_height.result) ≡ c.own_height.result = to_z-of_z w32 c.own_height.result (omega (arith, ints, n, small)) in
-    let from : to_z w32 (of_z w32 c.from.result) ≡ c.from.result = to_z-of_z w32 c.from.result (omega (arith, ints, c.from.ensures, c.ranges.room.fits)) in
-    let room : nat_of (to_z w32 (of_z w32 c.from.result)) ≡ c.args.room = ap nat_of (from ∙ c.from.ensures) in
-    c.unsigned_abs.ensures.value ∙ ap nat_abs (kept ∙ n) ∙ ap (own_height (widget_of c.look_in.result)) room
-    ∙ look-height scene c.args.h.0 c.args.room (widget_of c.look_in.result) c.look_in.ensures.shows
-
-pub returns-in_default-clause-value : goal.returns-in_default-clause-value
-returns-in_default-clause-value c = no_height (scene_of c.args.store.now) c.args.h.0 (shown_row c.in-Some.row.now) c.args.room c.in-Some.ensures.value (sym c.has_own_size.ensures ∙ c.if-has_own_size.false)
+    let insets = c.args.own.now.left + c.args.own.now.right in
+    let room : c.inner-room.result ≡ slice_index (sizes_of c.args.widths.now) c.args.h.0 - insets = c.inner-room.ensures.value ∙ ap (λ w. w - insets) c.size_at.ensures.value in
+    c.shown_height.ensures.value ∙ ap ((scene_box (scene_of c.args.store.now) c.args.h.0).own_height) room

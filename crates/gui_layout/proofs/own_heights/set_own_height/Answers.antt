@@ -1,4 +1,4 @@
-use Rattle.std.proofs.Common.{◌≡◌, ◌∙◌, sym, ap, subst, ◌+◌, ◌-◌, get_or}
+use Rattle.std.proofs.Common.{◌≡◌, ◌∙◌, refl, sym, ap, subst, ◌+◌, ◌-◌, get_or}
 use Rattle.std.specs.Prelude.{IsSome}
 use Rattle.gui_pool.specs.Table.{Table, value_at}
 use Rattle.layout_defs.specs.OwnHeights.{fixed_at}
@@ -17,18 +17,17 @@ there c = listed_some c.args.boxes.now c.args.h.0 c.requires.listed
 
 -- the box as it was read, with the own height that was asked
 read : (c : After-own_height_of-own_height) →
-    record (box_of c.args.h.0 c.box_at-own.result) { own_height = λ _. c.own_height_of-own_height.result } ≡ fixed_at (get_or (sizes_of c.args.widths.now) c.args.h.0 0) (scene_box (scene_of c.args.store.now) c.args.h.0)
+    record (box_of c.args.h.0 c.known_box-own.result.now) { own_height = λ _. c.own_height_of-own_height.result } ≡ fixed_at (get_or (sizes_of c.args.widths.now) c.args.h.0 0) (scene_box (scene_of c.args.store.now) c.args.h.0)
 read c =
     let h = c.args.h.0 in
-    let own = c.box_at-own.result in
+    let own = c.known_box-own.result.now in
     let width = get_or (sizes_of c.args.widths.now) h 0 in
-    let room : c.inner-room.result ≡ width - (own.left + own.right) = c.inner-room.ensures.value ∙ ap (λ n. n - (own.left + own.right)) c.size_at.ensures.value in
-    fixed_is (scene_box (scene_of c.args.store.now)) c.args.boxes.now h width c.inner-room.result c.own_height_of-own_height.result own c.box_at-own.ensures (c.requires.boxes h (there c)) room c.own_height_of-own_height.ensures.value
+    fixed_is (scene_box (scene_of c.args.store.now)) c.args.boxes.now h width (width - (own.left + own.right)) c.own_height_of-own_height.result own c.known_box-own.ensures (c.requires.boxes h (there c)) refl c.own_height_of-own_height.ensures.value
 
 pub returns-then-own_height-own-clause-fixed : goal.returns-then-own_height-own-clause-fixed
 returns-then-own_height-own-clause-fixed c =
     let d = (goal.at.returns-then-own_height-own-clause-fixed c).After-own_height_of-own_height in
-    sym c.box_at-own.ensures ∙ (ap (λ n. record (box_of c.args.h.0 c.box_at-own.result) { own_height = λ _. n }) (sym c.if-own_height-own.true) ∙ read d)
+    sym c.known_box-own.ensures ∙ (ap (λ n. record (box_of c.args.h.0 c.known_box-own.result.now) { own_height = λ _. n }) (sym c.if-own_height-own.true) ∙ read d)
 
 done : (c : After-replace) → Fixes (scene_of c.args.store.now) (sizes_of c.args.widths.now) c.args.boxes.now c.replace.new.self c.args.h.0
 done c =

@@ -62,7 +62,7 @@ find_places-requires t c =
     let listed = subst (λ (ks : Listing). AreListed ks f) (sym inv.listed) c.requires.listed in
     let capacity = inv.capacity in
     let room = c.requires.capacity in
-    (search rules, (c.requires.once, (listed, (c.requires.few, (has-part e.part h (here h e.children e.rest), (omega arith, room_below parent child (height (tree_at f h)) (height (tree_at f c.args.h.0)) c.requires.room below low))))))
+    (search rules, (c.requires.once, (listed, (c.requires.few, (has-part e.part h (here h e.children e.rest), (omega arith, (room_below parent child (height (tree_at f h)) (height (tree_at f c.args.h.0)) c.requires.room below low, c.requires.listed_boxes)))))))
 
 goes : (t : ℕ) (c : After-next-next t) → GoesOn c.args.tree.now.forest c.in-Some.child c.next-next.result
 goes t c =

@@ -58,7 +58,7 @@ loop-next-preserved c =
           inv.later u
           (subst (λ (t : Forest ℕ). Deals box w n room a u t (map made (drop c.loop-next.i c.args.items.now))) (sym (now_is d))
           (slots_first box w n room a u h (slot_of p) g.children g.rest _ (map made (drop c.loop-next.i c.args.items.now)) (map made (drop c.dealt_position-later.result.1 c.args.items.now))
-          (distinct-part g.part (distinct_once f c.requires.once)) short (tall_is c.args.boxes.now w n h _ _ c.box_at.result c.box_at.ensures c.size_at.ensures.value c.size_at-in-Some.ensures.value)
+          (distinct-part g.part (distinct_once f c.requires.once)) short (tall_is c.args.boxes.now w n h _ _ c.known_box.result.now c.known_box.ensures refl refl)
           (c.dealt_position-later.ensures.value h (roots (talls box w n g.rest))) c.dealt_position-later.ensures.close
           (subst (λ (t : List Slot). Deals box w n room t u g.rest (map made (drop c.dealt_position-later.result.1 c.args.items.now))) c.set_position.ensures.set
           (subst (λ (t : Forest ℕ). Deals box w n room (slots_of c.set_position.new.places) u t (map made (drop c.dealt_position-later.result.1 c.args.items.now))) g.later rest))));
@@ -81,3 +81,9 @@ set_position-requires c =
     let e = head (goal.at.set_position-requires c).In-Some in
     let h = c.in-Some.child.0 in
     subst (λ (ks : Listing). IsListed ks h) (sym c.loop-next.invariant.listed) (c.requires.listed h (has-part e.part h (here h e.children e.rest)))
+
+pub known_box-requires : goal.known_box-requires
+known_box-requires c =
+    let e = head (goal.at.known_box-requires c).In-Some in
+    let h = c.in-Some.child.0 in
+    c.requires.listed_boxes h (has-part e.part h (here h e.children e.rest))

@@ -6,11 +6,11 @@ use Rattle.gui_flex.specs.Items.{items_of}
 use Rattle.gui_layout.specs.Tables.{sizes_of}
 use Rattle.gui_layout.specs.Views.{box_at}
 use Rattle.gui_layout.specs.Slots.{talls, flow_item}
-use Rattle.gui_layout.proofs.Parts.{distinct_once, IsNext, GoesOn, trees_from, walk_begins, walk_goes_on, part_children, size-part}
+use Rattle.gui_layout.proofs.Parts.{distinct_once, has-part, here, IsHead, next_head, IsNext, GoesOn, trees_from, walk_begins, walk_goes_on, part_children, size-part}
 use Rattle.gui_layout.proofs.Lists.{part_taken_by}
 use Rattle.gui_layout.proofs.Flows.{tall_is}
 use Rattle.gui_layout.proofs.positions.fill_flow.Goals as goal
-use Rattle.gui_layout.proofs.positions.fill_flow.Goals.{After-next-next}
+use Rattle.gui_layout.proofs.positions.fill_flow.Goals.{In-Some, After-next-next}
 
 goes : (c : After-next-next) → GoesOn c.args.tree.now.forest c.in-Some.child c.next-next.result
 goes c =
@@ -52,7 +52,7 @@ loop-next-preserved c =
     let more = c.push_kid.ensures.len in
     let item = flow_item c.args.course c.args.room in
     let kids = roots (talls box w n g.rest) in
-    let kid = tall_is c.args.boxes.now w n h _ _ c.box_at.result c.box_at.ensures c.size_at.ensures.value c.size_at-in-Some.ensures.value in
+    let kid = tall_is c.args.boxes.now w n h _ _ c.known_box.result.now c.known_box.ensures c.size_at.ensures.value c.size_at-in-Some.ensures.value in
     record {
       next_is = g.next_is;
       few = rw g.later (omega arith);
@@ -62,3 +62,12 @@ loop-next-preserved c =
           (ap (λ l. items_of c.loop-next.items.items ++ l) (part_taken_by tall_box item _ kids ∙ ap (λ (k : Tall). map item (taking_part tall_box (k ∷ kids))) kid)
           ∙ (ap (λ (t : Forest ℕ). items_of c.loop-next.items.items ++ map item (taking_part tall_box (roots (talls box w n t)))) (sym (now_is d)) ∙ inv.left));
     }
+
+head : (c : In-Some) → IsHead c.args.tree.now.forest c.in-Some.child
+head c = next_head c.args.tree.now.forest c.in-Some.child (subst (IsNext c.args.tree.now.forest) c.in-Some.is c.loop-next.invariant.next_is)
+
+pub known_box-requires : goal.known_box-requires
+known_box-requires c =
+    let e = head (goal.at.known_box-requires c).In-Some in
+    let h = c.in-Some.child.0 in
+    c.requires.listed_boxes h (has-part e.part h (here h e.children e.rest))

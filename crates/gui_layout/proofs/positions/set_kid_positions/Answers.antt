@@ -18,7 +18,7 @@ returns-clause-kids c =
     let h = c.args.h.0 in
     let w = (sizes_of c.args.widths.now) in
     let n = (sizes_of c.args.naturals.now) in
-    let own = c.box_at-own.result in
+    let own = c.known_box-own.result.now in
     let room = room_in c.inside_of-inside.result in
     let kids = roots (talls (box_at c.args.boxes.now) w n (children_of f h)) in
     let tall = tall_kid h own c.size_at.result (get_or n h 0) in
@@ -30,7 +30,7 @@ returns-clause-kids c =
     let all : ss ≡ kid_slots tall slot kids =
     kid_slots_are tall slot room kids (map (item_slot c.course_of.result room) c.as_slice.result.now) ss (c.inside_of-inside.ensures.value h (get_or n h 0)) c.deal_positions.ensures.deals.dealt flow in
     subst (λ (s : Slot). ss ≡ kid_slots (tall_at (box_at c.args.boxes.now) w n h) s kids) c.position_at.ensures
-    (subst (λ (t : Tall). ss ≡ kid_slots t slot kids) (tall_is c.args.boxes.now w n h _ _ own c.box_at-own.ensures c.size_at.ensures.value refl) all)
+    (subst (λ (t : Tall). ss ≡ kid_slots t slot kids) (tall_is c.args.boxes.now w n h _ _ own c.known_box-own.ensures c.size_at.ensures.value refl) all)
 
 pub returns-clause-near : goal.returns-clause-near
 returns-clause-near c =
@@ -39,3 +39,6 @@ returns-clause-near c =
     let parent = slot_at (slots_of c.args.places.now) h in
     let corner : IsAtCorner parent room = subst (λ (s : Slot). IsAtCorner s room) c.position_at.ensures c.inside_of-inside.ensures.near in
     All-weaker (IsClose room.x room.y) (IsBelow parent) (close_below parent room corner) (at_roots (slots_of c.deal_positions.new.places) (children_of c.args.tree.now.forest h)) c.deal_positions.ensures.deals.close
+
+pub known_box-own-requires : goal.known_box-own-requires
+known_box-own-requires c = c.requires.listed_boxes c.args.h.0 c.requires.there

@@ -58,7 +58,7 @@ find_widths-requires t c =
     let holds : HoldsNaturalWidths box (sizes_of c.args.naturals.now) (Tree c.in-Some.child.0 e.children e.rest) = subst (HoldsNaturalWidths box (sizes_of c.args.naturals.now)) (ap (λ (o : Option Handle). trees_from o f) c.in-Some.is ∙ e.is) c.loop-next.invariant.holds in
     let own : HoldsNaturalWidths box (sizes_of c.args.naturals.now) (Tree c.in-Some.child.0 e.children Empty) = (holds.0, holds.1, tt) in
     let room = c.requires.capacity in
-    (search rules, (c.requires.once, (listed, (c.requires.few, (has-part e.part c.in-Some.child.0 (here c.in-Some.child.0 e.children e.rest), (subst (HoldsNaturalWidths box (sizes_of c.args.naturals.now)) (sym known.tree) own, omega arith))))))
+    (search rules, (c.requires.once, (listed, (c.requires.few, (has-part e.part c.in-Some.child.0 (here c.in-Some.child.0 e.children e.rest), (subst (HoldsNaturalWidths box (sizes_of c.args.naturals.now)) (sym known.tree) own, (omega arith, c.requires.listed_boxes)))))))
 
 goes : (t : ℕ) (c : After-next-next t) → GoesOn c.args.tree.now.forest c.in-Some.child c.next-next.result
 goes t c =

@@ -49,7 +49,7 @@ loop-next-preserved c =
     let h = c.in-Some.child.0 in
     let holds : HoldsNaturalWidths box (sizes_of c.args.naturals.now) (Tree h g.children g.rest) = subst (HoldsNaturalWidths box (sizes_of c.args.naturals.now)) (now_is d) inv.holds in
     let kids = roots (widths_of box g.rest) in
-    let kid = kid_is c.args.boxes.now h _ c.box_at.result g.children c.box_at.ensures (c.size_at.ensures.value ∙ holds.0) in
+    let kid = kid_is c.args.boxes.now h _ c.known_box.result.now g.children c.known_box.ensures holds.0 in
     let short = sizes_short c.loop-next.widths h (subst (λ (ks : Listing). IsListed ks h) (sym inv.listed) (c.requires.listed h (has-part g.part h (here h g.children g.rest)))) in
     record {
       next_is = g.next_is;
@@ -73,3 +73,9 @@ set_size-requires-clause-listed c =
     let e = head (goal.at.set_size-requires-clause-listed c).In-Some in
     let h = c.in-Some.child.0 in
     subst (λ (ks : Listing). IsListed ks h) (sym c.loop-next.invariant.listed) (c.requires.listed h (has-part e.part h (here h e.children e.rest)))
+
+pub known_box-requires : goal.known_box-requires
+known_box-requires c =
+    let e = head (goal.at.known_box-requires c).In-Some in
+    let h = c.in-Some.child.0 in
+    c.requires.listed_boxes h (has-part e.part h (here h e.children e.rest))

@@ -6,10 +6,10 @@ use Rattle.gui_flex.specs.Items.{items_of}
 use Rattle.gui_layout.specs.Tables.{sizes_of}
 use Rattle.gui_layout.specs.Views.{box_at}
 use Rattle.gui_layout.specs.Found.{HoldsNaturalWidths, widths_of}
-use Rattle.gui_layout.proofs.Parts.{distinct_once, IsNext, GoesOn, trees_from, walk_begins, walk_goes_on, part_children, size-part}
+use Rattle.gui_layout.proofs.Parts.{distinct_once, has-part, here, IsHead, next_head, IsNext, GoesOn, trees_from, walk_begins, walk_goes_on, part_children, size-part}
 use Rattle.gui_layout.proofs.Kids.{kid_is, part_taken}
 use Rattle.gui_layout.proofs.widths.fill_row.Goals as goal
-use Rattle.gui_layout.proofs.widths.fill_row.Goals.{After-next-next}
+use Rattle.gui_layout.proofs.widths.fill_row.Goals.{In-Some, After-next-next}
 
 goes : (c : After-next-next) → GoesOn c.args.tree.now.forest c.in-Some.child c.next-next.result
 goes c =
@@ -52,7 +52,7 @@ loop-next-preserved c =
     let holds : HoldsNaturalWidths box (sizes_of c.args.naturals.now) (Tree h g.children g.rest) = subst (HoldsNaturalWidths box (sizes_of c.args.naturals.now)) (now_is d) inv.holds in
     let item = λ (w : Wide). width_item c.args.room w in
     let kids = roots (widths_of box g.rest) in
-    let kid = kid_is c.args.boxes.now h _ c.box_at.result g.children c.box_at.ensures (c.size_at.ensures.value ∙ holds.0) in
+    let kid = kid_is c.args.boxes.now h _ c.known_box.result.now g.children c.known_box.ensures (c.size_at.ensures.value ∙ holds.0) in
     record {
       next_is = g.next_is;
       few = rw g.later (omega arith);
@@ -63,3 +63,12 @@ loop-next-preserved c =
           (ap (λ l. items_of c.loop-next.items.items ++ l) (part_taken c.args.room _ kids ∙ ap (λ (k : Wide). map (width_item c.args.room) (taking_part wide_box (k ∷ kids))) kid)
           ∙ (ap (λ (t : Forest ℕ). items_of c.loop-next.items.items ++ map (width_item c.args.room) (taking_part wide_box (roots (widths_of box t)))) (sym (now_is d)) ∙ inv.left));
     }
+
+head : (c : In-Some) → IsHead c.args.tree.now.forest c.in-Some.child
+head c = next_head c.args.tree.now.forest c.in-Some.child (subst (IsNext c.args.tree.now.forest) c.in-Some.is c.loop-next.invariant.next_is)
+
+pub known_box-requires : goal.known_box-requires
+known_box-requires c =
+    let e = head (goal.at.known_box-requires c).In-Some in
+    let h = c.in-Some.child.0 in
+    c.requires.listed_boxes h (has-part e.part h (here h e.children e.rest))

@@ -3,7 +3,7 @@ use Rattle.std.proofs.lemmas.Int.{ints, to_z-of_z}
 use Rattle.gui_play.proofs.Columns.{along}
 use Rattle.gui_play.proofs.Values.{ranged}
 use Rattle.gui_play.proofs.pointing.value_along.Goals as goal
-use Rattle.gui_play.proofs.pointing.value_along.Goals.{After-column, After-share-above}
+use Rattle.gui_play.proofs.pointing.value_along.Goals.{After-column}
 
 pub overflow_sub-row : goal.overflow_sub-row
 overflow_sub-row c =

@@ -1,10 +1,11 @@
 use Rattle.std.proofs.Common.{◌∙◌, ap, refl, sym}
 use Rattle.std.specs.Option.{option_map}
 use Rattle.gui_base.specs.Bounded.{bounds_of}
+use Rattle.gui_edge.specs.Causes.{Rose}
 use Rattle.gui_core.specs.Machines.{machine_of}
 use Rattle.scene_run.specs.Effects.{output}
 use Rattle.scene_run.specs.Headline.{outside, MadeEnded}
-use Rattle.scene_run.proofs.Headlines.{since_opening, headline_read, headline_made, made_reads_nothing}
+use Rattle.scene_run.proofs.Headlines.{since_opening, fault_since, headline_read, headline_made, made_reads_nothing}
 use Rattle.scene_run.proofs.top.run_scene.Given.{Over}
 use Rattle.scene_run.proofs.top.run_scene.Goals as goal
 use Rattle.scene_run.proofs.top.run_scene.Goals.{After-run_made}
@@ -35,3 +36,15 @@ pub returns-in-Ok-open-clause-read_fault : goal.returns-in-Ok-open-clause-read_f
 returns-in-Ok-open-clause-read_fault g c =
     λ e. made_reads_nothing c.in-Some.k (machine_of c.in-Ok.gui) (output (g.L.Sink.state c.args.log.now) (g.P.Panel.state c.args.panel.now))
     (output (g.L.Sink.state c.run_made.new.log) (g.P.Panel.state c.run_made.new.panel)) c.run_made.result (made_ended g c) e
+
+pub returns-in-None-clause-write_fault : goal.returns-in-None-clause-write_fault
+returns-in-None-clause-write_fault g c =
+    λ e. fault_since (g.P.Panel.state c.args.panel.now) (g.P.Panel.state c.open-2.new.self) _ _ _ c.in-Ok-open.ensures
+    (Rose (g.L.Sink.state c.args.log.now).faults (g.L.Sink.state c.read_script.new.log).faults) (g.P.Panel.state c.read_script.new.panel).present_faults
+    (c.read_script.ensures.write_fault e)
+
+pub returns-in-Ok-open-clause-write_fault : goal.returns-in-Ok-open-clause-write_fault
+returns-in-Ok-open-clause-write_fault g c =
+    λ e. fault_since (g.P.Panel.state c.args.panel.now) (g.P.Panel.state c.open-2.new.self) _ _ _ c.in-Ok-open.ensures
+    (Rose (g.L.Sink.state c.args.log.now).faults (g.L.Sink.state c.run_made.new.log).faults) (g.P.Panel.state c.run_made.new.panel).present_faults
+    (c.run_made.ensures.write_fault e)

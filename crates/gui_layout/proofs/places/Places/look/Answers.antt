@@ -1,4 +1,4 @@
-use Rattle.std.proofs.Common.{◌∙◌, sym, true, false}
+use Rattle.std.proofs.Common.{◌∙◌, sym}
 use Rattle.std.proofs.lemmas.Bool.{false≢true}
 use Rattle.gui_store.specs.Views.{scene_of}
 use Rattle.gui_layout.proofs.SceneBoxes.{row_gone}

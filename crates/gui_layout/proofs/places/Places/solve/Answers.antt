@@ -3,14 +3,14 @@ use Rattle.gui_base.specs.Forest.{size}
 use Rattle.gui_base.specs.Limits.{Bounds}
 use Rattle.scene_defs.specs.Scene.{handles_of}
 use Rattle.gui_store.specs.Views.{scene_of}
-use Rattle.layout_defs.specs.Solving.{solved}
-use Rattle.gui_layout.specs.Found.{boxed}
 use Rattle.gui_layout.specs.Kept.{Entries}
-use Rattle.gui_layout.specs.Slots.{HoldsPlaced, slots_of}
-use Rattle.gui_layout.specs.Tables.{sizes_of, listing_of, AreListed}
+use Rattle.gui_layout.specs.Layouts.{told}
+use Rattle.gui_layout.specs.Settled.{known, IsSettled}
+use Rattle.gui_layout.specs.Tables.{listing_of, AreListed}
 use Rattle.gui_layout.specs.Scenes.{scene_box}
 use Rattle.gui_layout.proofs.Entering.{few, flat, all_placed}
-use Rattle.gui_layout.proofs.These.{are_listed, these_kept}
+use Rattle.gui_layout.proofs.Fitting.{settled_placed}
+use Rattle.gui_layout.proofs.These.{are_listed, these_kept, has_value}
 use Rattle.gui_layout.proofs.places.Places.solve.Goals as goal
 
 pub solve_trees-requires-clause-few : goal.solve_trees-requires-clause-few
@@ -78,17 +78,24 @@ invariant_of-self c =
       items_room = rw done.capacity room;
     }
 
-pub returns-clause-solved : goal.returns-clause-solved
-returns-clause-solved c =
+pub returns-clause-settled : goal.returns-clause-settled
+returns-clause-settled c =
     let scene = scene_of c.args.store.now in
     let self = c.args.self.now in
     let now = c.solve_trees.new in
     let done = c.solve_trees.ensures in
+    let box = scene_box scene in
+    let l = told now.natural_widths now.widths now.natural_heights now.places in
     let entries : Entries = record { boxes = now.boxes; natural_widths = now.natural_widths; widths = now.widths; natural_heights = now.natural_heights; positions = now.places } in
     let wide : self.limits.width ≡ scene.limits.width = ap (λ (b : Bounds). b.width) c.requires.limits in
     let high : self.limits.height ≡ scene.limits.height = ap (λ (b : Bounds). b.height) c.requires.limits in
-    let placed : HoldsPlaced (sizes_of now.widths) (slots_of now.places) (solved scene.limits.width scene.limits.height (boxed (scene_box scene) (handles_of scene.trees))) =
-    rw (← wide, ← high, ← c.tree.ensures.forest) done.solved in
-    all_placed scene c.tree.ensures.valid self.limits.objects entries self.listed.items c.requires.listed
-    (these_kept self.limits.objects self.positions now.places self.listed.items done.listed_places self.kept.positions)
-    placed
+    let settled : IsSettled scene.limits.width scene.limits.height (known box l (handles_of scene.trees)) =
+    rw (← wide, ← high, ← c.tree.ensures.forest) done.settled in
+    let listed = these_kept self.limits.objects self.positions now.places self.listed.items done.listed_places self.kept.positions in
+    let some = has_value self.listed.items (handles_of scene.trees) c.requires.listed self.limits.objects now.places listed in
+    record {
+      boxes = done.boxes;
+      settled = settled;
+      there = some;
+      solved = all_placed scene c.tree.ensures.valid entries some (settled_placed box l scene.limits.width scene.limits.height (handles_of scene.trees) settled);
+    }

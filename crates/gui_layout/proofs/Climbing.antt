@@ -1,0 +1,52 @@
+-- What stands above an object, by its handle.
+use Rattle.std.proofs.Common.{◌≡◌, ◌∙◌, sym, ap, ℕ, ◌<◌, true, false, ◌⊎◌, List, ◌∷◌, length, Option, Some, None, inl, inr, arith}
+use Rattle.std.specs.Prelude.{option_map}
+use Rattle.gui_base.specs.Forest.{Forest, Empty, StandsOnce, has, tree_at, parent_of, path_of}
+use Rattle.gui_base.specs.declared.Handle.{Handle}
+use Rattle.gui_tree.specs.Handles.{as_handle}
+use Rattle.gui_store.proofs.Paths.{goes_up, rest_at}
+use Rattle.gui_layout.specs.Frames.{Encloses}
+use Rattle.gui_layout.proofs.Parts.{there, found, distinct_once, here}
+use Rattle.gui_layout.proofs.Settling.{parent-in, parent-out, tree-there}
+
+pub in_own_tree : (f : Forest ℕ) (h : ℕ) → StandsOnce f → has f h ≡ true → has (tree_at f h) h ≡ true
+in_own_tree f h once is =
+    let at = there f h is in
+    let known = found at.part (distinct_once f once) in
+    rw known.tree (here h at.children Empty)
+
+number : (o : Option ℕ) (p : Handle) → Some p ≡ option_map as_handle o → o ≡ Some p.0
+number None p e = cc
+number (Some n) p e = let same : p ≡ as_handle n = cc in ap Some (sym (ap (λ (k : Handle). k.0) same))
+
+-- the parent of an object that is there
+pub record IsAbove (f : Forest ℕ) (h : ℕ) (p : Handle) : Type 0 where
+  pub parent : parent_of f h ≡ Some p.0
+  pub there : has f p.0 ≡ true
+  pub encloses : Encloses f p.0 h
+  pub out : has (tree_at f h) p.0 ≡ false
+  pub higher : length (path_of f p.0) < length (path_of f h)
+
+pub is_above : (f : Forest ℕ) (h : ℕ) (p : Handle) → StandsOnce f → has f h ≡ true → Some p ≡ option_map as_handle (parent_of f h) → IsAbove f h p
+is_above f h p once is up =
+    let parent = number (parent_of f h) p up in
+    let distinct = distinct_once f once in
+    let path : path_of f h ≡ h ∷ path_of f p.0 = (goes_up f h once is).path ∙ ap (λ (o : Option Handle). h ∷ rest_at f o) (sym up) in
+    let shorter : length (path_of f p.0) < length (path_of f h) = omega (arith, ap (λ (hs : List ℕ). length hs) path) in
+    record {
+      parent = parent;
+      there = tree-there p.0 h f (inside h (in_own_tree f h once is));
+      encloses = inside;
+      out = parent-out h p.0 None f distinct is parent (λ e. absurd (no_parent e));
+      higher = shorter;
+    }
+  where
+    no_parent : None ≡ Some p.0 → ⊥
+    no_parent e = cc
+
+    within : (k : ℕ) → (None ≡ Some p.0) ⊎ (has (tree_at f p.0) k ≡ true) → has (tree_at f p.0) k ≡ true
+    within k (inl e) = absurd (no_parent e)
+    within k (inr i) = i
+
+    inside : (k : ℕ) → has (tree_at f h) k ≡ true → has (tree_at f p.0) k ≡ true
+    inside k i = within k (parent-in h p.0 k None f (distinct_once f once) i (number (parent_of f h) p up))

@@ -1,0 +1,4 @@
+use Rattle.gui_layout.proofs.widths.set_kid_widths.Goals as goal
+
+pub known_box-own-requires : goal.known_box-own-requires
+known_box-own-requires c = c.requires.listed_boxes c.args.h.0 c.requires.there

@@ -1,0 +1,44 @@
+//! Objects whose place does not go by what stands in them.
+ghost use Rattle.std.specs.Prelude.{◌≡◌, ℕ, true};
+ghost use Rattle.gui_layout.specs.Frames.{StandsNearby};
+ghost use Rattle.gui_layout.specs.Settled.{is_content, IsSteady};
+ghost use Rattle.gui_layout.specs.Slots.{slot_of};
+ghost use Rattle.gui_layout.specs.Views.{box_of};
+ghost use Rattle.layout_defs.specs.declared.Course.TheVariants.{Free};
+
+use crate::boxes::course_of;
+use crate::layout_box::LayoutBox;
+use crate::position::Position;
+use gui_base::Length;
+use layout_defs::Course;
+
+/// How far from the panel's corner an object may stand so that trees of any height have room in it.
+const NEARBY: i32 = 8_000_000;
+
+/// Whether a size is that of the content.
+fn is_content(size: Length) -> bool
+    ensures { result ≡ is_content size }
+{
+    matches!(size, Length::Content)
+}
+
+/// Whether children stand by themselves.
+fn is_free(course: Course) -> bool
+    ensures { result ≡ true → course ≡ Free }
+{
+    matches!(course, Course::Free)
+}
+
+/// Whether the natural sizes of an object do not go by its children, which stand by themselves.
+pub(crate) fn is_steady(own: &LayoutBox) -> bool
+    ensures { result ≡ true → (h : ℕ) → IsSteady (box_of h own.now) }
+{
+    is_free(course_of(own.flow)) && (!is_content(own.width) && !is_content(own.height))
+}
+
+/// Whether trees of any height have room in an object that stands there.
+pub(crate) fn is_nearby(position: Position) -> bool
+    ensures { result ≡ true → StandsNearby (slot_of position) }
+{
+    (-NEARBY < position.x && position.x <= NEARBY) && (-NEARBY < position.y && position.y <= NEARBY)
+}

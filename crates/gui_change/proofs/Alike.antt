@@ -68,11 +68,11 @@ these_alike objects t hs ks same these =
     let len = same.len in
     record { keys = these.keys; room = omega arith; each = λ k. these.each k ∙ sym (same.each k) }
 
-among-times : (hs : List Handle) (h : ℕ) → is_among (numbers hs) h ≡ true → 0 < times hs h
+pub among-times : (hs : List Handle) (h : ℕ) → is_among (numbers hs) h ≡ true → 0 < times hs h
 among-times [] h i = cc
 among-times (k ∷ ks) h i = grind (arith, nat_tests, i, among-times ks h)
 
-times-among : (hs : List Handle) (h : ℕ) → 0 < times hs h → is_among (numbers hs) h ≡ true
+pub times-among : (hs : List Handle) (h : ℕ) → 0 < times hs h → is_among (numbers hs) h ≡ true
 times-among [] h some = absurd (omega arith)
 times-among (k ∷ ks) h some = grind (arith, nat_tests, some, times-among ks h)
 

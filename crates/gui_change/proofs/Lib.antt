@@ -2,6 +2,7 @@ pub mod Alike
 pub mod Below
 pub mod Changes
 pub mod Covering
+pub mod Within
 pub mod Listing
 pub mod Orders
 pub mod Owing

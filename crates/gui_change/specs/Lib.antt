@@ -1,6 +1,7 @@
 pub mod Again
 pub mod Canvas
 pub mod Concerned
+pub mod Differing
 pub mod Handles
 pub mod Looks
 pub mod Owed

@@ -13,6 +13,7 @@ mod again;
 mod canvas;
 mod concerned;
 mod debts;
+mod differing;
 mod look;
 mod named;
 mod renew;

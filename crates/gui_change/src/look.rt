@@ -37,7 +37,7 @@ pub(crate) struct Look {
 }
 
 /// Gives a value to an object that has none.
-fn put(table: &mut Table<Seen>, h: Handle, value: Seen)
+pub(crate) fn put(table: &mut Table<Seen>, h: Handle, value: Seen)
     requires within { h.0 < length table.old.values }
     requires vacant { value_at table.old h.0 ≡ None }
     requires room { 0 < table.old.spare }

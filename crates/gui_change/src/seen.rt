@@ -1,5 +1,5 @@
 //! What is seen of one object.
-ghost use Rattle.std.specs.Prelude.{◌≡◌, true, IfSome, option_map};
+ghost use Rattle.std.specs.Prelude.{◌≡◌, [], true, None, Some, IfSome, option_map};
 ghost use Rattle.gui_base.specs.Corners.{rect_of};
 ghost use Rattle.layout_defs.specs.Reach.{IsNear};
 ghost use Rattle.gui_widgets.specs.Looks.{items_of};
@@ -8,6 +8,7 @@ ghost use Rattle.scene_defs.specs.Place.{place};
 ghost use Rattle.scene_defs.specs.Items.{items};
 ghost use Rattle.gui_layout.specs.Solved.{AreSolved};
 ghost use Rattle.gui_store.specs.Views.{scene_of};
+ghost use Rattle.gui_change.specs.Owed.{sight_of};
 ghost use Rattle.gui_change.specs.Seen.{IsSeen, KeepsItems, place_in};
 ghost use Rattle.gui_change.specs.Sightings.{IsSighted};
 
@@ -29,6 +30,17 @@ pub(crate) struct Seen {
 }
 
 impl Seen {
+    /// Nothing.
+    pub(crate) fn nothing() -> Seen
+        ensures sight { sight_of (Some result) ≡ sight_of None }
+        ensures items { items_of result.items.items ≡ [] }
+    {
+        Seen {
+            visible: None,
+            items: ArrayVec::new(),
+        }
+    }
+
     /// Where the object stands, if it stands somewhere.
     pub(crate) fn place(&self) -> Option<Area>
         ensures { option_map rect_of result ≡ place_in (items_of self.now.items.items) }
@@ -51,7 +63,7 @@ fn items_at(store: &Store, places: &Places, h: Handle, at: Option<Area>) -> Arra
         return ArrayVec::new();
     };
     let mut text = ArrayVec::new();
-    let look = places.look(store, h, &mut text);
+    let look = places.paint_look(store, h, &mut text);
     items(&look, area)
 }
 

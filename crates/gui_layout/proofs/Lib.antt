@@ -23,3 +23,5 @@ pub mod Settling
 pub mod Alone
 pub mod Climbing
 pub mod Renewals
+pub mod Painted
+pub mod Ranged

@@ -2,6 +2,7 @@ pub mod Views
 pub mod Found
 pub mod Rows
 pub mod Own
+pub mod Painted
 pub mod Reaches
 pub mod Slots
 pub mod Columns

@@ -3,6 +3,7 @@ ghost use Rattle.std.specs.Prelude.{◌≡◌, ℤ, Some, true, option_map};
 ghost use Rattle.std.specs.Str.{chars};
 ghost use Rattle.gui_base.specs.Props.{is_value};
 ghost use Rattle.gui_base.specs.declared.props.Prop.{Prop as Property};
+ghost use Rattle.gui_base.specs.declared.words.Part.TheVariants.{Main};
 ghost use Rattle.scene_defs.specs.Change.{text_at};
 ghost use Rattle.scene_defs.specs.Looks.{look_of, image_look};
 ghost use Rattle.scene_defs.specs.Row.{shown_row};
@@ -12,9 +13,10 @@ ghost use Rattle.scene_defs.specs.Valid.{IsRow};
 ghost use Rattle.widget_defs.specs.Looks.{AreValues, value_in};
 ghost use Rattle.gui_store.specs.Views.{scene_of};
 ghost use Rattle.gui_widgets.specs.Looks.{IsLook, widget_of};
+ghost use Rattle.gui_layout.specs.Painted.{FillsAs, PaintsLike, paints_content, paints_indicator, paints_knob};
 
 use arrayvec::ArrayVec;
-use gui_base::{Handle, Part, Prop};
+use gui_base::{Handle, Kind, Part, Prop};
 use gui_font::Images;
 use gui_store::{Row, Store};
 use gui_widgets::{ImageLook, Look, Values};
@@ -46,6 +48,76 @@ fn values(store: &Store, h: Handle, row: &Row, part: Part) -> Values
         store.value_by_row(h, row, part, Prop::TextLetterSpace),
         store.value_by_row(h, row, part, Prop::TextLineSpace),
     ])
+}
+
+/// Values that are not looked up.
+const UNASKED: Values = Values([0; 19]);
+
+/// Whether objects of a kind paint something in their content area.
+fn paints_content(kind: Kind) -> bool
+    ensures { result ≡ paints_content kind }
+{
+    matches!(
+        kind,
+        Kind::Label | Kind::Image | Kind::Bar | Kind::Slider | Kind::Checkbox
+    )
+}
+
+/// Whether they paint their indicator.
+fn paints_indicator(kind: Kind) -> bool
+    ensures { result ≡ paints_indicator kind }
+{
+    matches!(kind, Kind::Bar | Kind::Slider | Kind::Checkbox)
+}
+
+/// Whether they paint their knob.
+fn paints_knob(kind: Kind) -> bool
+    ensures { result ≡ paints_knob kind }
+{
+    matches!(kind, Kind::Slider)
+}
+
+/// The values that the fill and the border of a part go by. No other is looked up.
+fn fill_values(store: &Store, h: Handle, row: &Row, part: Part) -> Values
+    requires { Some (shown_row row.now) ≡ row_at (scene_of store.now) h.0 }
+    ensures fills { FillsAs (value_in result) (value (scene_of store.now) h.0 part) }
+    ensures in_range { AreValues (value_in result) }
+{
+    let mut values = UNASKED;
+    values.0[0] = store.value_by_row(h, row, part, Prop::BgColor);
+    values.0[1] = store.value_by_row(h, row, part, Prop::BgOpa);
+    values.0[2] = store.value_by_row(h, row, part, Prop::BorderColor);
+    values.0[3] = store.value_by_row(h, row, part, Prop::BorderOpa);
+    values.0[4] = store.value_by_row(h, row, part, Prop::BorderWidth);
+    values
+}
+
+/// The values of an object's own part that its items go by.
+fn main_values(store: &Store, h: Handle, row: &Row) -> Values
+    requires { Some (shown_row row.now) ≡ row_at (scene_of store.now) h.0 }
+    ensures fills { FillsAs (value_in result) (value (scene_of store.now) h.0 Main) }
+    ensures all { paints_content row.now.kind ≡ true →
+        (prop : Property) → value_in result prop ≡ value (scene_of store.now) h.0 Main prop }
+    ensures in_range { AreValues (value_in result) }
+{
+    if paints_content(row.kind) {
+        values(store, h, row, Part::Main)
+    } else {
+        fill_values(store, h, row, Part::Main)
+    }
+}
+
+/// The values of another part that items go by, where it is painted.
+fn part_values(store: &Store, h: Handle, row: &Row, part: Part, is_painted: bool) -> Values
+    requires { Some (shown_row row.now) ≡ row_at (scene_of store.now) h.0 }
+    ensures fills { is_painted ≡ true → FillsAs (value_in result) (value (scene_of store.now) h.0 part) }
+    ensures in_range { AreValues (value_in result) }
+{
+    if is_painted {
+        fill_values(store, h, row, part)
+    } else {
+        UNASKED
+    }
 }
 
 /// The image that an object shows with its size, if it shows one that is finished.
@@ -89,6 +161,34 @@ pub(crate) fn look_in<'a>(
         scrollbar: values(store, h, row, Part::Scrollbar),
         indicator: values(store, h, row, Part::Indicator),
         knob: values(store, h, row, Part::Knob),
+        text: text_of(store, h, room),
+        value: row.value,
+        min: row.min,
+        max: row.max,
+        image: image_look(store.images(), row.image),
+        fonts: store.fonts(),
+    }
+}
+
+/// An object that has this row with what its items go by, and its text in `room`. No other value is looked up.
+pub(crate) fn paint_look_in<'a>(
+    store: &'a Store,
+    h: Handle,
+    row: &Row,
+    room: &'a mut ArrayVec<u8, 1000>,
+) -> Look<'a>
+    requires row { Some (shown_row row.now) ≡ row_at (scene_of store.now) h.0 }
+    requires in_range { IsRow row.now }
+    ensures look { IsLook result }
+    ensures paints { PaintsLike (scene_of store.now) h.0 (widget_of result) }
+{
+    let kind = row.kind;
+    Look {
+        kind,
+        main: main_values(store, h, row),
+        scrollbar: UNASKED,
+        indicator: part_values(store, h, row, Part::Indicator, paints_indicator(kind)),
+        knob: part_values(store, h, row, Part::Knob, paints_knob(kind)),
         text: text_of(store, h, room),
         value: row.value,
         min: row.min,

@@ -13,6 +13,7 @@ ghost use Rattle.scene_defs.specs.Looks.{look_of};
 ghost use Rattle.scene_defs.specs.Scene.{handles_of, is_there, object_at};
 ghost use Rattle.gui_widgets.specs.Looks.{IsLook, widget_of};
 ghost use Rattle.gui_store.specs.Views.{scene_of};
+ghost use Rattle.gui_layout.specs.Painted.{PaintsLike};
 ghost use Rattle.gui_layout.specs.Kept.{AreEntries};
 ghost use Rattle.scene_defs.specs.Visible.{some_area, met, visible};
 ghost use Rattle.gui_layout.specs.Frames.{FrameIsNearby, IsFrameOf, Encloses};
@@ -31,7 +32,7 @@ use crate::frame::Frame;
 use crate::inside::Inside;
 use crate::layout_box::LayoutBox;
 use crate::listing::{are_same, clear, fill, list_trees};
-use crate::looks::look_in;
+use crate::looks::{look_in, paint_look_in};
 use crate::objects::set_boxes;
 use crate::position::{CORNER, Position};
 use crate::positions::inside_of;
@@ -262,6 +263,25 @@ impl Places {
             unreachable!()
         };
         look_in(store, h, row, text)
+    }
+
+    /// An object that is there with what its items go by, and its text in `text`. A value that they do not go by
+    /// is not looked up: this one serves painting, and [`Places::look`] tells all.
+    pub fn paint_look<'a>(
+        &self,
+        store: &'a Store,
+        h: Handle,
+        text: &'a mut ArrayVec<u8, 1000>,
+    ) -> Look<'a>
+        requires there { is_there (scene_of store.now) h.0 ≡ true }
+        ensures look { IsLook result }
+        ensures paints { PaintsLike (scene_of store.now) h.0 (widget_of result) }
+    {
+        let _ = &self.limits;
+        let Some(row) = store.row(h) else {
+            unreachable!()
+        };
+        paint_look_in(store, h, row, text)
     }
 
     /// What is seen of an object of a store for which the places were solved: its place met with those of all

@@ -111,7 +111,7 @@ fn paint_object<L: Ledger>(
 {
     let store = shown.store;
     let mut text = ArrayVec::new();
-    let look = shown.places.look(store, h, &mut text);
+    let look = shown.places.paint_look(store, h, &mut text);
     let items = items(&look, place);
     paint_items(
         buf,

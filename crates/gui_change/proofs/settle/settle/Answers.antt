@@ -16,8 +16,9 @@ use Rattle.gui_layout.proofs.Parts.{there, found, distinct_once, size-part}
 use Rattle.gui_layout.proofs.Settling.{tree-in}
 use Rattle.gui_layout.proofs.These.{has-times, times_is, these_kept}
 use Rattle.std.proofs.lemmas.Bool.{both_ways, false_from_ne_true}
-use Rattle.gui_change.specs.Again.{owed_again}
+use Rattle.gui_change.specs.Again.{AreSeenBut, owed_again}
 use Rattle.gui_change.proofs.Settlement.{settled-but, others-seen, known-shown, owes-none}
+use Rattle.gui_change.proofs.Staying.{all_seen}
 use Rattle.gui_change.proofs.ShownTrees.{count-tree, shown-below, shown-above, flat-shown, flat-hidden}
 use Rattle.gui_change.proofs.settle.settle.Goals as goal
 use Rattle.gui_change.proofs.settle.settle.Goals.{After-settle-top, After-is_none, After-as_slice}
@@ -124,26 +125,27 @@ see_all_again-requires-clause-some c k some =
     let e = (goal.at.see_all_again-requires-clause-some c).After-settle-top in
     shown-top e k ∙ shown-below (scene_of c.args.store.now) c.tree-tree.ensures.valid c.settle-top.result.0 k (shown d) (inside d k some)
 
-pub see_all_again-requires-clause-rest : goal.see_all_again-requires-clause-rest
-see_all_again-requires-clause-rest c k s none known =
-    let d = (goal.at.see_all_again-requires-clause-rest c).After-as_slice in
+-- others are seen already
+rest-seen : (c : After-as_slice) → AreSeenBut c.args.look.now.seen (scene_of c.args.store.now) c.as_slice.result.now
+rest-seen c k s none known =
     let f = handles_of (scene_of c.args.store.now).trees in
     let u = c.settle-top.result.0 in
     let out : has (tree_at f u) k ≡ false =
     false_from_ne_true (has (tree_at f u) k) (λ i.
-    let is = times_is c.as_slice.result.now (tree_at f u) (listed d) k in
+    let is = times_is c.as_slice.result.now (tree_at f u) (listed c) k in
     let more = count-has (tree_at f u) k i in absurd (omega arith)) in
     others-seen c.args.places.now c.settle-top.new.self c.args.look.now (scene_of c.args.store.now) c.args.h.0 u c.tree-tree.ensures.valid c.requires.was c.requires.there c.requires.order
     c.settle-top.ensures.settled c.settle-top.ensures.encloses c.settle-top.ensures.others k s out known
 
 pub returns-clause-shows : goal.returns-clause-shows
 returns-clause-shows c =
+    let d = (goal.at.returns-clause-shows c).After-as_slice in
     let scene = scene_of c.args.store.now in
     let look = c.args.look.now in
     record {
       order = c.requires.order;
       table = these_kept scene.limits.objects look.seen c.see_all_again.new.table look.order.items c.see_all_again.ensures.listing c.requires.was.shows.table;
-      seen = c.see_all_again.ensures.seen;
+      seen = all_seen look.seen c.see_all_again.new.table scene c.as_slice.result.now (rest-seen d) c.see_all_again.ensures.seen c.see_all_again.ensures.rest;
       room = c.requires.was.shows.room;
     }
 

@@ -1,16 +1,7 @@
-use Rattle.std.proofs.Common.{◌≡◌, ◌∙◌, subst, sym, ℤ, true, SFits, w32, to_z, of_z, rules}
-use Rattle.std.proofs.lemmas.Int.{to_z-of_z}
-use Rattle.gui_base.specs.Props.{is_value}
-use Rattle.gui_base.specs.declared.props.Prop.{Prop}
+use Rattle.std.proofs.Common.{sym, rules}
 use Rattle.gui_base.specs.declared.props.Prop.TheVariants as prop
+use Rattle.gui_layout.proofs.Ranged.{kept, still}
 use Rattle.gui_layout.proofs.looks.values.Goals as goal
-
--- a number that is kept in 32 bits
-kept : (n v : ℤ) → SFits w32 n → v ≡ n → to_z w32 (of_z w32 n) ≡ v
-kept n v fits e = to_z-of_z w32 n fits ∙ sym e
-
-still : (p : Prop) (n : ℤ) → SFits w32 n → is_value p n ≡ true → is_value p (to_z w32 (of_z w32 n)) ≡ true
-still p n fits is = subst (λ m. is_value p m ≡ true) (sym (to_z-of_z w32 n fits)) is
 
 pub returns-clause-values : goal.returns-clause-values
 returns-clause-values c prop.BgColor = kept _ _ (search rules) (sym c.value_by_row.ensures.value)

@@ -1,17 +1,21 @@
-use Rattle.std.proofs.Common.{◌≡◌, ◌∙◌, sym, ap, subst, ℤ, true, List, arith}
+use Rattle.std.proofs.Common.{◌≡◌, ◌∙◌, sym, ap, subst, ℕ, ℤ, true, List, map, arith}
 use Rattle.std.specs.List.{All}
-use Rattle.gui_base.specs.Area.{nat_of}
+use Rattle.gui_base.specs.Area.{nat_of, width_of}
+use Rattle.gui_base.specs.Props.{is_value}
 use Rattle.gui_base.specs.Corners.{rect_of}
 use Rattle.gui_base.specs.declared.props.Prop.TheVariants.{TextFont}
 use Rattle.gui_base.specs.declared.words.Part.TheVariants.{Main}
 use Rattle.text_defs.specs.Building.{is_finished}
 use Rattle.text_defs.specs.Fonts.{Font}
 use Rattle.widget_defs.specs.Items.{Item as Painted}
-use Rattle.gui_widgets.specs.Looks.{items_of, widget_of}
-use Rattle.scene_defs.specs.Scene.{value}
+use Rattle.gui_widgets.specs.Looks.{items_of}
+use Rattle.gui_widgets.specs.Texts.{IsTextIn}
 use Rattle.scene_defs.proofs.Ready.{fonts_of_texts}
+use Rattle.scene_defs.proofs.Values.{values_in_range}
+use Rattle.scene_defs.specs.Items.{coat_in}
 use Rattle.gui_store.specs.Views.{scene_of}
 use Rattle.gui_paint.specs.Paintable.{IsPaintable}
+use Rattle.gui_paint.specs.Painting.{Paints, painted_coats}
 use Rattle.gui_paint.proofs.Ready.{font_ended, items_ready}
 use Rattle.gui_paint.proofs.Trees.{font_is, paints_object}
 use Rattle.gui_paint.proofs.paint.paint_object.Goals as goal
@@ -24,18 +28,24 @@ items-items-requires-clause-place g c =
 pub paint_items-requires-clause-ready : goal.paint_items-requires-clause-ready
 paint_items-requires-clause-ready g c =
     let scene = scene_of c.args.shown.now.store.now in
-    let look = widget_of c.look-look.result in
-    let font = font_is scene c.args.h.0 look c.look-look.ensures.shows in
+    let area = rect_of c.args.place in
+    let paints = c.paint_look-look.ensures.paints in
+    let font = font_is scene c.args.h.0 paints.whole paints.is in
     let finished = subst (λ (v : ℤ). is_finished scene.fonts (nat_of v) ≡ true) (sym font) (fonts_of_texts scene c.args.h.0 Main c.requires.valid) in
-    let ended = font_ended scene.fonts (look.main TextFont) (c.look-look.ensures.look.main TextFont) finished in
-    let ready = items_ready scene.fonts look (rect_of c.args.place) ended (omega (arith, c.requires.narrow)) c.items-items.ensures.texts in
+    let fits = subst (λ (v : ℤ). is_value TextFont v ≡ true) (sym font) (values_in_range scene c.args.h.0 Main TextFont c.requires.valid) in
+    let ended = font_ended scene.fonts (paints.whole.main TextFont) fits finished in
+    let texts = subst (λ (l : List Painted). All (IsTextIn (width_of area)) l) (paints.items area) c.items-items.ensures.texts in
+    let ready = items_ready scene.fonts paints.whole area ended (omega (arith, c.requires.narrow)) texts in
     subst (λ (fonts : List Font). All (IsPaintable fonts) (items_of c.as_slice.result.now)) (sym c.fonts.ensures)
-    (subst (λ (l : List Painted). All (IsPaintable scene.fonts) l) (sym (ap items_of c.as_slice.ensures.value ∙ c.items-items.ensures.items)) ready)
+    (subst (λ (l : List Painted). All (IsPaintable scene.fonts) l) (sym (ap items_of c.as_slice.ensures.value ∙ (c.items-items.ensures.items ∙ paints.items area))) ready)
 
 pub paint_items-requires-clause-short : goal.paint_items-requires-clause-short
-paint_items-requires-clause-short g c = c.look-look.ensures.look.short
+paint_items-requires-clause-short g c = c.paint_look-look.ensures.look.short
 
 pub returns : goal.returns
 returns g c =
-    paints_object c.args.buf.now c.paint_items.new.buf (scene_of c.args.shown.now.store.now) (rect_of c.args.visible) (rect_of c.args.place) c.args.h.0 (widget_of c.look-look.result) _ _ _ c.look-look.ensures.shows c.requires.place c.fonts.ensures c.images.ensures
-    (ap items_of c.as_slice.ensures.value ∙ c.items-items.ensures.items) c.paint_items.ensures
+    let scene = scene_of c.args.shown.now.store.now in
+    let paints = c.paint_look-look.ensures.paints in
+    let painted = subst (λ (text : List ℕ). Paints c.args.buf.now c.paint_items.new.buf (painted_coats (rect_of c.args.visible) (map (coat_in c.fonts.result.now.fonts c.images.result.now.images text) (items_of c.as_slice.result.now)))) paints.text c.paint_items.ensures in
+    paints_object c.args.buf.now c.paint_items.new.buf scene (rect_of c.args.visible) (rect_of c.args.place) c.args.h.0 paints.whole _ _ _ paints.is c.requires.place c.fonts.ensures c.images.ensures
+    (ap items_of c.as_slice.ensures.value ∙ (c.items-items.ensures.items ∙ paints.items (rect_of c.args.place))) painted

@@ -1,0 +1,44 @@
+-- What the painting of an object goes by.
+use Rattle.std.specs.Prelude.{◌≡◌, ℕ, Bool, true, false, Some, option_map}
+use Rattle.gui_base.specs.Area.{Rect}
+use Rattle.gui_base.specs.declared.props.Prop.TheVariants as prop
+use Rattle.gui_base.specs.declared.words.Kind.{Kind}
+use Rattle.gui_base.specs.declared.words.Kind.TheVariants as kind
+use Rattle.widget_defs.specs.Items.{items}
+use Rattle.widget_defs.specs.Looks.{Look, PartValues}
+use Rattle.scene_defs.specs.Looks.{look_of}
+use Rattle.scene_defs.specs.Scene.{Scene, object_at}
+
+-- whether objects of a kind paint something in their content area
+abbrev pub paints_content : Kind → Bool
+paints_content kind.Label = true
+paints_content kind.Image = true
+paints_content kind.Bar = true
+paints_content kind.Slider = true
+paints_content kind.Checkbox = true
+paints_content k = false
+
+abbrev pub paints_indicator : Kind → Bool
+paints_indicator kind.Bar = true
+paints_indicator kind.Slider = true
+paints_indicator kind.Checkbox = true
+paints_indicator k = false
+
+abbrev pub paints_knob : Kind → Bool
+paints_knob kind.Slider = true
+paints_knob k = false
+
+-- two parts have the same fill and the same border
+pub record FillsAs (some others : PartValues) : Type 0 where
+  pub bg_color : some prop.BgColor ≡ others prop.BgColor
+  pub bg_opa : some prop.BgOpa ≡ others prop.BgOpa
+  pub border_color : some prop.BorderColor ≡ others prop.BorderColor
+  pub border_opa : some prop.BorderOpa ≡ others prop.BorderOpa
+  pub border_width : some prop.BorderWidth ≡ others prop.BorderWidth
+
+-- a look paints what h paints, and has its text
+pub record PaintsLike (scene : Scene) (h : ℕ) (look : Look) : Type 0 where
+  pub whole : Look
+  pub is : Some whole ≡ option_map (look_of scene) (object_at scene h)
+  pub items : (area : Rect) → items look area ≡ items whole area
+  pub text : look.text ≡ whole.text

@@ -18,7 +18,7 @@ use crate::seen::{Seen, see};
 use crate::shown::list_shown;
 use crate::sighting::Nearby;
 use gui_base::intervals::HANDLE;
-use gui_base::{Handle, Limits, NoMemory};
+use gui_base::{Handle, NoMemory};
 use gui_layout::Places;
 use gui_pool::Table;
 use gui_store::Store;

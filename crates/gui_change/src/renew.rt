@@ -67,8 +67,8 @@ fn relist(look: &mut Look, spare: &mut Look)
     spare.order.clear();
 }
 
-/// Sees what is listed in `spare` once more, of each of which something is known and of nothing else, and lists
-/// what these objects owe.
+/// Sees what is listed in `spare` once more, of each of which something is known and of nothing else, and
+/// lists what these objects owe.
 fn see_still(
     look: &mut Look,
     spare: &mut Look,
@@ -102,8 +102,8 @@ fn see_still(
     relist(look, spare);
 }
 
-/// Sees what is listed in `spare` once more, all of which was shown before, and lists what these objects owe, and
-/// then what those owe that are shown no longer.
+/// Sees what is listed in `spare` once more, all of which was shown before, and lists what these objects owe,
+/// and then what those owe that are shown no longer.
 fn see_fewer(
     look: &mut Look,
     spare: &mut Look,

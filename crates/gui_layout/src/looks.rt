@@ -1,7 +1,5 @@
 //! Objects as their items show them.
-ghost use Rattle.std.specs.Prelude.{◌≡◌, ℤ, Some, true, option_map};
-ghost use Rattle.std.specs.Str.{chars};
-ghost use Rattle.gui_base.specs.Props.{is_value};
+ghost use Rattle.std.specs.Prelude.{◌≡◌, Some, true, option_map};
 ghost use Rattle.gui_base.specs.declared.props.Prop.{Prop as Property};
 ghost use Rattle.gui_base.specs.declared.words.Part.TheVariants.{Main};
 ghost use Rattle.scene_defs.specs.Change.{text_at};
@@ -13,7 +11,8 @@ ghost use Rattle.scene_defs.specs.Valid.{IsRow};
 ghost use Rattle.widget_defs.specs.Looks.{AreValues, value_in};
 ghost use Rattle.gui_store.specs.Views.{scene_of};
 ghost use Rattle.gui_widgets.specs.Looks.{IsLook, widget_of};
-ghost use Rattle.gui_layout.specs.Painted.{FillsAs, PaintsLike, paints_content, paints_indicator, paints_knob};
+ghost use Rattle.gui_layout.specs.Painted.{FillsAs, PaintsLike};
+ghost use Rattle.gui_layout.specs.Painted.{paints_content, paints_indicator, paints_knob};
 
 use arrayvec::ArrayVec;
 use gui_base::{Handle, Kind, Part, Prop};
@@ -170,7 +169,8 @@ pub(crate) fn look_in<'a>(
     }
 }
 
-/// An object that has this row with what its items go by, and its text in `room`. No other value is looked up.
+/// An object that has this row with what its items go by, and its text in `room`. No other value is looked
+/// up.
 pub(crate) fn paint_look_in<'a>(
     store: &'a Store,
     h: Handle,

@@ -265,8 +265,8 @@ impl Places {
         look_in(store, h, row, text)
     }
 
-    /// An object that is there with what its items go by, and its text in `text`. A value that they do not go by
-    /// is not looked up: this one serves painting, and [`Places::look`] tells all.
+    /// An object that is there with what its items go by, and its text in `text`. A value that they do not go
+    /// by is not looked up: this one serves painting, and [`Places::look`] tells all.
     pub fn paint_look<'a>(
         &self,
         store: &'a Store,

@@ -1,5 +1,4 @@
 pub mod Changing
-pub mod Fields
 pub mod Floor
 pub mod Mixes
 pub mod Places

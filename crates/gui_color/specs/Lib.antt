@@ -1,4 +1,3 @@
 pub mod Buffer
 pub mod Lending
 pub mod Masks
-pub mod Spread

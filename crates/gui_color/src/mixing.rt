@@ -1,16 +1,12 @@
 //! Mixing one colour over another.
-ghost use Rattle.std.specs.Prelude.{◌≡◌, ◌+◌, ◌*◌, ◌/◌, ◌≤◌};
-ghost use Rattle.gui_base.specs.Color.{parts, mix};
+ghost use Rattle.std.specs.Prelude.{◌≡◌, ◌+◌, ◌*◌, ◌/◌, ◌<◌, ◌≤◌};
+ghost use Rattle.gui_base.specs.Color.{red, green, blue, color, parts, mix};
 ghost use Rattle.gui_color.specs.Masks.{masked};
-ghost use Rattle.gui_color.specs.Spread.{spread, gathered};
 
 use gui_base::Rgb565;
 
-/// The bits of the three channels once a colour is spread.
-const CHANNELS: u32 = 0x07E0_F81F;
-
 /// All thirty-seconds: the upper colour alone is seen.
-pub(crate) const ALL_PARTS: u32 = 32;
+pub(crate) const ALL_PARTS: u16 = 32;
 
 /// `fg` over `bg` with an opacity from 0 to 255. Each channel is `bg + floor((fg - bg) * m / 32)` with `m =
 /// floor((opa + 4) / 8)`, so opacities from 252 on give `fg`, and those up to 3 leave `bg`.
@@ -29,16 +25,21 @@ pub fn combine(a: u8, b: u8) -> u8
     (u32::from(a) * u32::from(b) / 255) as u8
 }
 
-/// A colour with an opacity, made ready to be mixed over many others.
+/// A colour with an opacity, made ready to be mixed over many others. Its numbers have sixteen bits, as a
+/// pixel has, so that a processor mixes as many pixels at once as a register holds.
 #[derive(Clone, Copy)]
 pub(crate) struct Veil {
     fg: Rgb565,
     opa: u8,
-    /// The spread channels of `fg` times the thirty-seconds that it takes.
-    share: u32,
+    /// What each channel of `fg` adds: the channel times the thirty-seconds that it takes.
+    red_share: u16,
+    green_share: u16,
+    blue_share: u16,
     /// The thirty-seconds that are left to the colour below.
-    parts_left: u32,
-    ghost share_is: { share ≡ spread fg * parts opa },
+    parts_left: u16,
+    ghost red_is: { red_share ≡ red fg * parts opa },
+    ghost green_is: { green_share ≡ green fg * parts opa },
+    ghost blue_is: { blue_share ≡ blue fg * parts opa },
     ghost all_parts: { parts_left + parts opa ≡ 32 },
 }
 
@@ -51,18 +52,23 @@ impl Veil {
         Veil {
             fg,
             opa,
-            share: spread_of(fg) * parts,
+            red_share: red_of(fg) * parts,
+            green_share: green_of(fg) * parts,
+            blue_share: blue_of(fg) * parts,
             parts_left: ALL_PARTS - parts,
         }
     }
 
-    /// The colour that is seen where it lies over another. One product mixes the three channels, since none
-    /// runs into the next.
+    /// The colour that is seen where it lies over another.
     #[inline(always)]
     pub(crate) fn over(self, bg: Rgb565) -> Rgb565
         ensures { result ≡ mix self.fg bg self.opa }
     {
-        gather((self.share + spread_of(bg) * self.parts_left) / ALL_PARTS)
+        color_of(
+            mixed_channel(self.red_share, red_of(bg), self.parts_left),
+            mixed_channel(self.green_share, green_of(bg), self.parts_left),
+            mixed_channel(self.blue_share, blue_of(bg), self.parts_left),
+        )
     }
 
     /// The same where a test holds.
@@ -75,27 +81,53 @@ impl Veil {
 }
 
 /// How many thirty-seconds of the upper colour an opacity takes.
-pub(crate) fn parts_of(opa: u8) -> u32
+pub(crate) fn parts_of(opa: u8) -> u16
     ensures { result ≡ parts opa }
 {
-    (u32::from(opa) + 4) / 8
+    (u16::from(opa) + 4) / 8
 }
 
-/// The channels of a colour with room between them for a product with 32.
+/// A channel of two colours mixed: what is left of the lower one, and the share of the upper one. No sum is
+/// above 63 * 32, so sixteen bits hold it.
 #[inline(always)]
-fn spread_of(c: Rgb565) -> u32
-    ensures value { result ≡ spread c }
-    ensures most { result ≤ CHANNELS }
+fn mixed_channel(share: u16, below: u16, parts_left: u16) -> u16
+    requires { below * parts_left + share ≤ 2016 }
+    ensures { result ≡ (below * parts_left + share) / 32 }
 {
-    let bits = u32::from(c.0);
-    (bits | bits << 16) & CHANNELS
+    (below * parts_left + share) / ALL_PARTS
 }
 
-/// The colour whose channels are spread in a number.
+/// The five bits of red.
 #[inline(always)]
-fn gather(spread: u32) -> Rgb565
-    ensures { result ≡ gathered spread }
+fn red_of(c: Rgb565) -> u16
+    ensures { result ≡ red c }
 {
-    let channels = spread & CHANNELS;
-    Rgb565(((channels | channels >> 16) & 0xFFFF) as u16)
+    c.0 / 2048
+}
+
+/// The six bits of green.
+#[inline(always)]
+fn green_of(c: Rgb565) -> u16
+    ensures { result ≡ green c }
+{
+    c.0 / 32 % 64
+}
+
+/// The five bits of blue.
+#[inline(always)]
+fn blue_of(c: Rgb565) -> u16
+    ensures { result ≡ blue c }
+{
+    c.0 % 32
+}
+
+/// The colour of three channels.
+#[inline(always)]
+fn color_of(red: u16, green: u16, blue: u16) -> Rgb565
+    requires red { red < 32 }
+    requires green { green < 64 }
+    requires blue { blue < 32 }
+    ensures { result ≡ color red green blue }
+{
+    Rgb565(red * 2048 + green * 32 + blue)
 }

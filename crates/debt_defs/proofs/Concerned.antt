@@ -1,5 +1,5 @@
 -- What a change does not concern is the same after it.
-use Rattle.std.proofs.Common.{◌≡◌, ◌∙◌, sym, ap, ℕ, Bool, true, false, ◌&&◌, Option, Some, None, option_map, List, [], ◌∷◌, refl, inl, inr}
+use Rattle.std.proofs.Common.{◌≡◌, ◌∙◌, sym, ap, ℕ, Bool, true, false, ◌&&◌, Option, Some, None, option_map, List, [], ◌∷◌, map, refl, inl, inr}
 use Rattle.std.specs.List.{list_any}
 use Rattle.std.specs.Str.{chars}
 use Rattle.std.proofs.Math.Path.{fun_ext}
@@ -11,13 +11,14 @@ use Rattle.gui_base.specs.declared.intervals.TheConstants.{HANDLE}
 use Rattle.gui_base.specs.declared.props.Prop.TheVariants.{TextFont}
 use Rattle.gui_base.specs.declared.words.Part.{Part}
 use Rattle.gui_base.specs.declared.words.Part.TheVariants.{Main, Indicator, Knob}
-use Rattle.gui_base.specs.Forest.{Forest, Empty, Tree, and_then, tree_by, all_by}
+use Rattle.gui_base.specs.Forest.{Forest, Empty, Tree, and_then, tree_by, all_by, path_by}
 use Rattle.gui_base.specs.Intervals.{is_counted}
 use Rattle.gui_base.specs.Props.{inherits}
 use Rattle.gui_base.specs.Words.{same_prop}
 use Rattle.style_defs.specs.declared.Setting.{Setting}
 use Rattle.style_defs.specs.Book.{Book, a_setting, a_use, an_entry}
 use Rattle.style_defs.specs.Cascade.{sets, settings_of}
+use Rattle.style_defs.specs.Value.{value_on}
 use Rattle.text_defs.specs.Face.{Face}
 use Rattle.text_defs.specs.Fonts.{Font, face}
 use Rattle.text_defs.specs.Images.{Image, size_or}
@@ -40,7 +41,7 @@ use Rattle.debt_defs.proofs.Paths.{spares-last}
 use Rattle.debt_defs.proofs.Ready.{AssetsStay, assets-stay, font-finished}
 use Rattle.scene_defs.proofs.Validity.{change_keeps_valid}
 use Rattle.debt_defs.proofs.Wins.{WinSame, asked-none, value-same, prop-is, local-set, local-unset, use-set, use-unset, gives, prop-set, prop-unset, style-made}
-use Rattle.debt_defs.proofs.SameRows.{IsAlike, set-same, all-off}
+use Rattle.debt_defs.proofs.SameRows.{IsAlike, set-same, all-off, same-object}
 use Rattle.debt_defs.proofs.SameTrees.{moved-same, not-in-tree, to-index, to-end, deleted-same, made-same, screen-same}
 
 -- Styles.
@@ -225,3 +226,20 @@ look-same before after h same = by (object_at before h) (object_at after h) refl
 
 pub others_look_same : OthersLookSame
 others_look_same scene c k v is off = look-same scene (changed scene c) k (others_are_same scene c k v is off)
+
+-- So has what has the same values, where the fonts and images are the same.
+pub look-alike : (before after : Scene) (k : ℕ) → after.fonts ≡ before.fonts → after.images ≡ before.images → object_at after k ≡ object_at before k → ((part : Part) → value after k part ≡ value before k part) →
+    look_at after k ≡ look_at before k
+look-alike before after k fonts images same values = ap (option_map (look_of after)) same ∙ by (object_at before k) refl where
+  by : (found : Option Object) → object_at before k ≡ found → option_map (look_of after) found ≡ option_map (look_of before) found
+  by None is = refl
+  by (Some object) is =
+      let made : made_at after object k ≡ made_at before object k = rw (values Main, values Indicator, values Knob, fonts, images) refl in
+      ap Some (found-look after k object (same ∙ is) ∙ made ∙ sym (found-look before k object is))
+
+-- and what keeps its path where trees are edited
+pub value-on-path : (scene : Scene) (trees : Forest Object) (k : ℕ) → path_by (is_at k) [] trees ≡ path_at scene k → (part : Part) → value (record scene { trees = trees }) k part ≡ value scene k part
+value-on-path scene trees k path part = ap (λ (p : List Object). λ prop. value_on scene.book.styles (map (styled_of scene.book) p) part prop) path
+
+pub look-on-path : (scene : Scene) (trees : Forest Object) (k : ℕ) → path_by (is_at k) [] trees ≡ path_at scene k → look_at (record scene { trees = trees }) k ≡ look_at scene k
+look-on-path scene trees k path = look-alike scene (record scene { trees = trees }) k refl refl (same-object scene (record scene { trees = trees }) k path) (value-on-path scene trees k path)

@@ -185,7 +185,7 @@ module _ (h p : ℕ) (t : Forest Object) (g : Forest Object → Forest Object) (
     | inr lower ↦ rw (lower, lower, own-has cs, own-has rest) refl
   ]
 
-  own-path : (above : List Object) (f : Forest Object) → path_by (is_at p) above (put f) ≡ path_by (is_at p) above f
+  pub own-path : (above : List Object) (f : Forest Object) → path_by (is_at p) above (put f) ≡ path_by (is_at p) above f
   own-path above Empty = refl
   own-path above (Tree object cs rest) = elim (cases_Bool (is_at p object)) [
     | inl top ↦ rw (top, top) refl

@@ -1,14 +1,16 @@
 -- What is the same where trees are edited.
-use Rattle.std.proofs.Common.{◌≡◌, ◌⊎◌, ◌∙◌, sym, ap, ℕ, Bool, true, false, eqb, ◌||◌, Option, Some, None, List, [], ◌∷◌, map, refl, arith, inl, inr, eq-eqb}
+use Rattle.std.proofs.Common.{◌≡◌, ◌⊎◌, ◌∙◌, sym, ap, ℕ, Bool, true, false, eqb, ◌||◌, Option, Some, None, List, [], ◌∷◌, map, ℤ, refl, subst, arith, inl, inr, eq-eqb}
 use Rattle.std.specs.List.{list_any}
 use Rattle.std.proofs.lemmas.List.{get_or-set_other}
 use Rattle.std.proofs.lemmas.Bool.{cases_Bool, or_parts, or_from, or_right, or_left, both_ways, false≢true, false_from_ne_true, eqb-true, eqb-false}
 use Rattle.std.proofs.lemmas.Bool.Decides.{nat_tests}
+use Rattle.gui_base.specs.declared.words.Part.{Part}
+use Rattle.gui_base.specs.declared.props.Prop.{Prop}
 use Rattle.gui_base.specs.Forest.{Forest, Empty, Tree, and_then, put_at, leaf, roots, cut_by, tree_by, children_by, parent_by, path_by, with_children_by}
 use Rattle.style_defs.specs.Book.{Book, locals_of, uses_of, forgotten, all_forgotten}
 use Rattle.style_defs.specs.Value.{value_on}
 use Rattle.style_defs.proofs.Changing.{all_forgets}
-use Rattle.scene_defs.specs.Scene.{Object, Scene, handle_of, is_at, styled_of, path_at}
+use Rattle.scene_defs.specs.Scene.{Object, Scene, handle_of, is_at, styled_of, path_at, value}
 use Rattle.scene_defs.specs.Change.{below, parent_object, last_below, at_index_below}
 use Rattle.scene_defs.specs.Valid.{IsValid}
 use Rattle.scene_defs.proofs.Distinct.{there, IsDistinct, distinct_once}
@@ -17,7 +19,7 @@ use Rattle.debt_defs.specs.Concerns.{lies_in, loses, holds_place}
 use Rattle.debt_defs.proofs.Inside.{among-handles, there-tree}
 use Rattle.debt_defs.proofs.Paths.{avoids, not-in, path-cut, children-cut, Spares, spares-last, spares-put, path-with, children-with, children-none}
 use Rattle.scene_defs.proofs.RowKinds.{parent-left}
-use Rattle.debt_defs.proofs.Moved.{lies-in-tree, parent-avoids, Puts, path-kept, children-kept, IsTreeAt, tree-at, puts-at, puts-last}
+use Rattle.debt_defs.proofs.Moved.{lies-in-tree, parent-avoids, own-path, Puts, path-kept, children-kept, IsTreeAt, tree-at, puts-at, puts-last}
 use Rattle.debt_defs.proofs.Wins.{map-same}
 use Rattle.debt_defs.proofs.SameRows.{IsAlike, same-object, same-edit}
 
@@ -183,6 +185,43 @@ module _ (scene : Scene) (v : IsValid scene) (h k : ℕ) (off : holds_place scen
     by None parent_is d = record { object = refl; children = refl; values = λ part prop. refl }
     by (Some p) parent_is d = moved-beside p (λ cs. and_then cs moved_tree) parent_is (puts-last h moved_tree) (λ out. spares-last (is_at k) moved_tree out) d
 
+-- All objects keep their paths, the moved ones and the parent too.
+module _ (scene : Scene) (v : IsValid scene) (h k : ℕ) where
+  abbrev moving : Forest Object
+  moving = tree_by (is_at h) scene.trees
+
+  beside-path : (p : Object) (g : Forest Object → Forest Object) → parent_object scene h ≡ Some p → (IsTreeAt h moving → Puts h moving g) → (there moving k ≡ false → Spares (is_at k) g) →
+      IsDistinct (with_children_by (is_at p.handle) g (cut_by (is_at h) scene.trees)) → path_by (is_at k) [] (with_children_by (is_at p.handle) g (cut_by (is_at h) scene.trees)) ≡ path_at scene k
+  beside-path p g parent_is puts spares e =
+      let d = distinct_once scene.trees v.trees.once in
+      let left = cut_by (is_at h) scene.trees in
+      let child = parent-child scene.trees h p d parent_is in
+      let put = puts (tree-at h scene.trees child.0) in
+      let path = path-cut (is_at p.handle) (is_at h) [] scene.trees (parent-avoids h p.handle scene.trees d child.1) in
+      elim (cases_Bool (lies_in scene h k)) [
+        | inl inside ↦ path-kept h p.handle moving g put scene.trees left d e refl child.1 (parent-left scene.trees h p parent_is) (gone scene.trees h) path k (lies-in-tree h k [] scene.trees d refl inside)
+        | inr outside ↦ elim (cases_Bool (eqb k p.handle)) [
+          | inl is ↦
+              let own = own-path h p.handle moving g put [] left ∙ path in
+              subst (λ j. path_by (is_at j) [] (with_children_by (is_at p.handle) g left) ≡ path_by (is_at j) [] scene.trees) (sym (eqb-true k p.handle is)) own
+          | inr other ↦
+              path-with (is_at k) (is_at p.handle) g (spares (not-in-tree scene.trees h k d outside)) (λ object at. let off = other in grind (arith, nat_tests)) [] left
+              ∙ path-cut (is_at k) (is_at h) [] scene.trees outside
+        ]
+      ]
+
+  pub index-path : (n : ℕ) → IsDistinct (at_index_below (parent_object scene h) scene.trees h n) → path_by (is_at k) [] (at_index_below (parent_object scene h) scene.trees h n) ≡ path_at scene k
+  index-path n e = by (parent_object scene h) refl e where
+    by : (parent : Option Object) → parent_object scene h ≡ parent → IsDistinct (at_index_below parent scene.trees h n) → path_by (is_at k) [] (at_index_below parent scene.trees h n) ≡ path_at scene k
+    by None parent_is d = refl
+    by (Some p) parent_is d = beside-path p (put_at n moving) parent_is (puts-at h n moving) (λ out. spares-put (is_at k) moving out n) d
+
+  pub end-path : IsDistinct (last_below (parent_object scene h) scene.trees h) → path_by (is_at k) [] (last_below (parent_object scene h) scene.trees h) ≡ path_at scene k
+  end-path e = by (parent_object scene h) refl e where
+    by : (parent : Option Object) → parent_object scene h ≡ parent → IsDistinct (last_below parent scene.trees h) → path_by (is_at k) [] (last_below parent scene.trees h) ≡ path_at scene k
+    by None parent_is d = refl
+    by (Some p) parent_is d = beside-path p (λ cs. and_then cs moving) parent_is (puts-last h moving) (λ out. spares-last (is_at k) moving out) d
+
 -- What is left of a tree stands in no tree that is cut out.
 there-from-cut : (f : Forest Object) (h j : ℕ) → there (cut_by (is_at h) f) j ≡ true → there f j ≡ true
 there-from-cut Empty h j i = i
@@ -241,25 +280,34 @@ uses-left (h ∷ hs) book j off =
     let parts : (eqb h j ≡ false) × (is_among hs j ≡ false) = or_parts _ _ off in
     uses-left hs (forgotten book h) j parts.1 ∙ get_or-set_other book.uses h j [] [] (λ e. eqb-false h j parts.0 (sym e))
 
-pub deleted-same : (scene : Scene) (v : IsValid scene) (h k : ℕ) → loses scene h k ≡ false →
-    IsAlike scene (record scene { trees = cut_by (is_at h) scene.trees; book = all_forgotten scene.book (below scene h) }) k
-deleted-same scene v h k off =
+pub deleted-path : (scene : Scene) (h k : ℕ) → lies_in scene h k ≡ false → path_by (is_at k) [] (cut_by (is_at h) scene.trees) ≡ path_at scene k
+deleted-path scene h k off = path-cut (is_at k) (is_at h) [] scene.trees off
+
+pub deleted-value : (scene : Scene) (v : IsValid scene) (h k : ℕ) → lies_in scene h k ≡ false → (part : Part) →
+    value (record scene { trees = cut_by (is_at h) scene.trees; book = all_forgotten scene.book (below scene h) }) k part ≡ value scene k part
+deleted-value scene v h k off part =
     let left = cut_by (is_at h) scene.trees in
     let after : Scene = record scene { trees = left; book = all_forgotten scene.book (below scene h) } in
-    let path = path-cut (is_at k) (is_at h) [] scene.trees (up scene v h k off) in
+    let path = deleted-path scene h k off in
     let gone : ℕ → Bool = is_among (below scene h) in
-    let none = path-among gone k left [] (λ j i. among-handles (tree_by (is_at h) scene.trees) j ∙ cut-apart scene.trees h j (distinct scene v h k off) i) refl in
+    let none = path-among gone k left [] (λ j i. among-handles (tree_by (is_at h) scene.trees) j ∙ cut-apart scene.trees h j (distinct_once scene.trees v.trees.once) i) refl in
     let styled : map (styled_of after.book) (path_at after k) ≡ map (styled_of scene.book) (path_at after k) =
     map-same (styled_of after.book) (styled_of scene.book) (λ object. gone object.handle)
     (λ object stays. rw (locals-left (below scene h) scene.book object.handle stays, uses-left (below scene h) scene.book object.handle stays) refl)
     (path_at after k) none in
+    ap (λ styles. λ prop. value_on styles (map (styled_of after.book) (path_at after k)) part prop) (all_forgets (below scene h) scene.book).styles_left
+    ∙ ap (λ os. λ prop. value_on scene.book.styles os part prop) styled
+    ∙ ap (λ p. λ prop. value_on scene.book.styles (map (styled_of scene.book) p) part prop) path
+
+pub deleted-same : (scene : Scene) (v : IsValid scene) (h k : ℕ) → loses scene h k ≡ false →
+    IsAlike scene (record scene { trees = cut_by (is_at h) scene.trees; book = all_forgotten scene.book (below scene h) }) k
+deleted-same scene v h k off =
+    let after : Scene = record scene { trees = cut_by (is_at h) scene.trees; book = all_forgotten scene.book (below scene h) } in
+    let outside = up scene v h k off in
     record {
-      object = same-object scene after k path;
-      children = ap (map handle_of) (children-cut (is_at k) (is_at h) [] scene.trees (up scene v h k off) (kids scene v h k off));
-      values = λ part prop.
-          ap (λ styles. value_on styles (map (styled_of after.book) (path_at after k)) part prop) (all_forgets (below scene h) scene.book).styles_left
-          ∙ ap (λ os. value_on scene.book.styles os part prop) styled
-          ∙ ap (λ p. value_on scene.book.styles (map (styled_of scene.book) p) part prop) path;
+      object = same-object scene after k (deleted-path scene h k outside);
+      children = ap (map handle_of) (children-cut (is_at k) (is_at h) [] scene.trees outside (kids scene v h k off));
+      values = λ part prop. ap (λ (f : Prop → ℤ). f prop) (deleted-value scene v h k outside part);
     }
 
 -- New objects.
@@ -278,6 +326,21 @@ made-same scene k p object new isnt =
 
     other : (o : Object) → is_at k o ≡ true → is_at p o ≡ false
     other o is = grind (arith, nat_tests)
+
+-- all others keep their paths, the parent too
+pub made-path : (scene : Scene) (k p : ℕ) (object : Object) → eqb k object.handle ≡ false → path_by (is_at k) [] (with_children_by (is_at p) (λ cs. and_then cs (leaf object)) scene.trees) ≡ path_at scene k
+made-path scene k p object new = elim (cases_Bool (eqb k p)) [
+  | inl is ↦
+      let new_leaf : IsTreeAt object.handle (leaf object) = record { object = object; children = Empty; tree = refl; named = eq-eqb object.handle object.handle refl } in
+      let own = own-path object.handle p (leaf object) put (puts-last object.handle (leaf object) new_leaf) [] scene.trees in
+      subst (λ j. path_by (is_at j) [] (with_children_by (is_at p) put scene.trees) ≡ path_by (is_at j) [] scene.trees) (sym (eqb-true k p is)) own
+  | inr isnt ↦
+      let off : there (leaf object) k ≡ false = let same = new in grind (arith, nat_tests) in
+      path-with (is_at k) (is_at p) put (spares-last (is_at k) (leaf object) off) (λ o at. let other = isnt in grind (arith, nat_tests)) [] scene.trees
+]
+  where
+    put : Forest Object → Forest Object
+    put cs = and_then cs (leaf object)
 
 pub screen-same : (scene : Scene) (k : ℕ) (object : Object) → eqb k object.handle ≡ false → IsAlike scene (record scene { trees = and_then scene.trees (leaf object) }) k
 screen-same scene k object new =

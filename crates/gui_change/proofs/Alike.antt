@@ -58,9 +58,6 @@ alike t hs ks these once same known = record {
   len = sym same;
 }
 
-pub alike_self : (hs ks : List Handle) → hs ≡ ks → AreAlike hs ks
-alike_self hs ks same = rw same (record { each = λ h. refl; len = refl })
-
 -- a table has values for one as for the other
 pub these_alike : {T : Type 0} (objects : ℕ) (t : Table T) (hs ks : List Handle) → AreAlike hs ks → HasThese objects t hs → HasThese objects t ks
 these_alike objects t hs ks same these =

@@ -14,5 +14,8 @@ pub mod Trees
 pub mod Subtrees
 pub mod Unchanged
 pub mod Setting
+pub mod Moves
+pub mod Comings
+pub mod Reordering
 pub mod ShownTrees
 pub mod Settlement

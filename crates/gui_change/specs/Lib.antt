@@ -2,9 +2,11 @@ pub mod Again
 pub mod Canvas
 pub mod Concerned
 pub mod Differing
+pub mod Edits
 pub mod Handles
 pub mod Looks
 pub mod Owed
+pub mod Reordered
 pub mod Seen
 pub mod Sightings
 pub mod Sights

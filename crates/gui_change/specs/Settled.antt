@@ -1,12 +1,14 @@
 -- Changes that set one object, and scenes that differ in it and in what lies below it alone.
 use Rattle.std.specs.Prelude.{◌≡◌, ℕ, false, Some, None}
 use Rattle.std.specs.declared.option.Option.{Option}
-use Rattle.gui_base.specs.Forest.{has, tree_at}
+use Rattle.gui_base.specs.Forest.{has, parent_of, tree_at}
+use Rattle.gui_base.specs.declared.words.Part.TheVariants.{Main}
 use Rattle.scene_defs.specs.declared.Change.{Change}
 use Rattle.scene_defs.specs.declared.Change.TheVariants as change
-use Rattle.scene_defs.specs.Scene.{Scene, handles_of}
+use Rattle.scene_defs.specs.Place.{place}
+use Rattle.scene_defs.specs.Scene.{Scene, handles_of, row_at, value}
 use Rattle.scene_defs.specs.Valid.{IsValid}
-use Rattle.debt_defs.specs.Concerns.{IsSame}
+use Rattle.debt_defs.specs.Concerns.{IsSame, look_at}
 use Rattle.gui_layout.specs.declared.places.Places.{Places}
 use Rattle.gui_layout.specs.Solved.{AreSettled}
 use Rattle.gui_change.specs.declared.look.Look.{Look}
@@ -62,3 +64,24 @@ pub record WasSeen (places : Places) (look : Look) (after : Scene) (h : ℕ) : T
   pub settled : AreSettled places before
   pub shows : Shows after.limits.objects look before
   pub differs : DiffersBelow before after h
+
+-- what places and items go by of k is the same
+pub record LooksSame (before after : Scene) (k : ℕ) : Type 0 where
+  pub row : row_at after k ≡ row_at before k
+  pub look : look_at after k ≡ look_at before k
+  pub values : value after k Main ≡ value before k Main
+
+-- the scenes differ in the order of siblings alone, and each object stands where it stood
+pub record DiffersInOrder (before after : Scene) : Type 0 where
+  pub parents : (k : ℕ) → parent_of (handles_of after.trees) k ≡ parent_of (handles_of before.trees) k
+  pub limits : after.limits ≡ before.limits
+  pub active : after.active ≡ before.active
+  pub same : (k : ℕ) → LooksSame before after k
+  pub stands : (k : ℕ) → place after k ≡ place before k
+
+-- what is known is what was seen of such a scene
+pub record WasSeenInOrder (look : Look) (after : Scene) : Type 0 where
+  pub before : Scene
+  pub valid : IsValid before
+  pub shows : Shows after.limits.objects look before
+  pub differs : DiffersInOrder before after

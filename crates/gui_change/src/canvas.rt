@@ -15,9 +15,9 @@ ghost use Rattle.gui_change.specs.Looks.{IsBlank, Shows};
 ghost use Rattle.gui_change.specs.SettledProps.{props};
 
 use crate::concerned::{Concerned, concerned_by};
+use crate::edits::{edit_of, see_edited};
 use crate::look::Look;
 use crate::named::named_by;
-use crate::renew::renew;
 use crate::sets::set_by;
 use crate::settle::settle;
 use gui_base::{Limits, NoMemory, Refusal};
@@ -84,6 +84,7 @@ impl Canvas {
         let _areas = damage.areas();
         let _tree = self.store.tree();
         let concerned = concerned_by(&self.store, change);
+        let edit = edit_of(&self.store, change);
         match self.store.apply(change) {
             Ok(()) => match set_by(change) {
                 Some(h) if self.store.tree().has(h) => {
@@ -99,15 +100,15 @@ impl Canvas {
                     Ok(())
                 }
                 _ => {
-                    self.places.solve_all(&self.store);
-                    renew(
+                    see_edited(
+                        &mut self.places,
                         &mut self.look,
                         &mut self.spare,
                         damage,
                         named_by(change),
                         &self.store,
-                        &self.places,
                         concerned,
+                        edit,
                     );
                     Ok(())
                 }

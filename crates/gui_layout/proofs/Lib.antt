@@ -3,6 +3,8 @@ pub mod Entering
 pub mod SceneBoxes
 pub mod Naturals
 pub mod These
+pub mod Leaving
+pub mod Joining
 pub mod Renewing
 pub mod Listed
 pub mod Parts
@@ -20,6 +22,7 @@ pub mod OwnHeights
 pub mod Solves
 pub mod Fitting
 pub mod Settling
+pub mod Moving
 pub mod Alone
 pub mod Climbing
 pub mod Renewals

@@ -40,10 +40,10 @@ module _ (b c : Box) (same : but_height b ≡ but_height c) where
   steady-but : IsSteady (but_height c) → (h : ℕ) → IsSteady (record c { handle = h })
   steady-but s h = record { free = s.free; wide = s.wide; high = s.high }
 
-  steady-same : (h : ℕ) → IsSteady b → IsSteady (record c { handle = h })
+  pub steady-same : (h : ℕ) → IsSteady b → IsSteady (record c { handle = h })
   steady-same h s = steady-but (subst (λ (x : Box). IsSteady x) same (but-steady s)) h
 
-  room-same : (h w n : ℕ) (slot : Slot) → room_of (record { box = b; width = w; natural_height = n }) slot ≡ room_of (record { box = record c { handle = h }; width = w; natural_height = n }) slot
+  pub room-same : (h w n : ℕ) (slot : Slot) → room_of (record { box = b; width = w; natural_height = n }) slot ≡ room_of (record { box = record c { handle = h }; width = w; natural_height = n }) slot
   room-same h w n slot = ap (λ (x : Box). room_of (record { box = x; width = w; natural_height = n }) slot) same
 
 -- the same handles have values

@@ -202,7 +202,7 @@ free-slots tall slot kids free =
     ap (dealt tall_box (own_slot room) kids) none ∙ dealt-none tall_box (own_slot room) kids
 
 -- children that all stand by themselves
-abbrev AllFree : Known → List Known → Type 0
+abbrev pub AllFree : Known → List Known → Type 0
 AllFree p [] = Unit {0}
 AllFree p (k ∷ ks) = StandsFree p k × AllFree p ks
 
@@ -223,12 +223,12 @@ free-stand : (p : Known) (ks : List Known) → AllFree p ks → map slot_of ks �
 free-stand p [] all = refl
 free-stand p (k ∷ ks) all = ap (λ n. n ∷ map slot_of ks) all.0.stands ∙ ap (λ ns. own_slot (room_of (tall_of p) p.slot) (tall_of k) ∷ ns) (free-stand p ks all.1)
 
-fits-free : (p : Known) (ks : List Known) → IsSteady p.box → Fits p ks → AllFree p ks
+pub fits-free : (p : Known) (ks : List Known) → IsSteady p.box → Fits p ks → AllFree p ks
 fits-free p ks steady fits =
     all-free p ks (fits.widths ∙ free-widths p.box p.width (map wide_of ks) steady.free) (fits.slots ∙ free-slots (tall_of p) p.slot (map tall_of ks) steady.free)
 
 -- it still fits where other children stand by themselves
-free-fits : (p : Known) (some others : List Known) → IsSteady p.box → Fits p some → AllFree p others → Fits p others
+pub free-fits : (p : Known) (some others : List Known) → IsSteady p.box → Fits p some → AllFree p others → Fits p others
 free-fits p some others steady fits all = record {
   natural_width = fits.natural_width ∙ width-steady p.box (map wide_of some) (map wide_of others) steady.wide;
   widths = free-wide p others all ∙ sym (free-widths p.box p.width (map wide_of others) steady.free);

@@ -22,7 +22,7 @@ module _ {T : Type 0} where
   value-set vs h k o within = grind (arith, nat_tests, get_or-set_same vs h o None within, get_or-set_other vs h k o None)
 
   module _ (t : Table T) (h k : ℕ) where
-    inserted-count : (v : T) → h < length t.values → value_at t h ≡ None → value_count (value_inserted t h v) k ≡ cond (eqb h k) 1 0 + value_count t k
+    pub inserted-count : (v : T) → h < length t.values → value_at t h ≡ None → value_count (value_inserted t h v) k ≡ cond (eqb h k) 1 0 + value_count t k
     inserted-count v within vacant = grind (arith, nat_tests, value-set t.values h k (Some v) within, vacant)
 
     removed-count : IsSome (value_at t h) → value_count (value_removed t h) k + cond (eqb h k) 1 0 ≡ value_count t k
@@ -63,7 +63,7 @@ module _ {T : Type 0} where
       let room = but.room in
       record { keys = but.keys; room = omega arith; each = λ k. let a = but.each k in omega arith }
 
-  none_of : (o : Option T) (n : ℕ) → cond (is_some o) 1 0 ≡ n → n ≡ 0 → o ≡ None
+  pub none_of : (o : Option T) (n : ℕ) → cond (is_some o) 1 0 ≡ n → n ≡ 0 → o ≡ None
   none_of None n e zero = refl
   none_of (Some v) n e zero = absurd (omega arith)
 
@@ -99,19 +99,19 @@ module _ {T : Type 0} where
       })
 
 -- Listed handles of a forest.
-abbrev times_of : List ℕ → ℕ → ℕ
+abbrev pub times_of : List ℕ → ℕ → ℕ
 times_of [] k = 0
 times_of (h ∷ hs) k = cond (eqb h k) 1 0 + times_of hs k
 
-times-append : (xs ys : List ℕ) (k : ℕ) → times_of (xs ++ ys) k ≡ times_of xs k + times_of ys k
+pub times-append : (xs ys : List ℕ) (k : ℕ) → times_of (xs ++ ys) k ≡ times_of xs k + times_of ys k
 times-append [] ys k = omega arith
 times-append (x ∷ xs) ys k = let a = times-append xs ys k in omega arith
 
-times-preorder : (f : Forest ℕ) (k : ℕ) → times_of (preorder f) k ≡ count f k
+pub times-preorder : (f : Forest ℕ) (k : ℕ) → times_of (preorder f) k ≡ count f k
 times-preorder Empty k = refl
 times-preorder (Tree h cs rest) k = let a = times-append (preorder cs) (preorder rest) k in omega (arith, a, times-preorder cs k, times-preorder rest k)
 
-length-preorder : (f : Forest ℕ) → length (preorder f) ≡ size f
+pub length-preorder : (f : Forest ℕ) → length (preorder f) ≡ size f
 length-preorder Empty = refl
 length-preorder (Tree h cs rest) = let a = length-append (preorder cs) (preorder rest) in omega (arith, a, length-preorder cs, length-preorder rest)
 

@@ -14,6 +14,7 @@ pub mod Scenes
 pub mod OwnHeights
 pub mod Kept
 pub mod Kids
+pub mod Moved
 pub mod Solved
 pub mod Settled
 pub mod Frames

@@ -1,9 +1,11 @@
 -- Places object by object: what is known of an object fits what is known of its children.
-use Rattle.std.specs.Prelude.{◌≡◌, ℕ, Bool, true, false, List, [], ◌∷◌, map, slice_index, slice_index_or, pos}
+use Rattle.std.specs.Prelude.{◌≡◌, ℕ, Bool, true, false, not, ◌&&◌, List, [], ◌∷◌, map}
+use Rattle.std.specs.Prelude.{slice_index, slice_index_or, pos}
 use Rattle.gui_base.specs.Forest.{Forest, Empty, Tree, roots, map_forest}
 use Rattle.gui_base.specs.declared.words.Length.{Length}
 use Rattle.gui_base.specs.declared.words.Length.TheVariants.{Pixels, Percent, Content}
-use Rattle.layout_defs.specs.declared.Course.TheVariants.{Free}
+use Rattle.layout_defs.specs.declared.Course.{Course}
+use Rattle.layout_defs.specs.declared.Course.TheVariants.{Free, Across, Down}
 use Rattle.layout_defs.specs.Boxes.{Box, course_of, inner}
 use Rattle.layout_defs.specs.Solving.{Wide, Tall, Slot, nowhere, width_in, own_slot, room_of}
 use Rattle.layout_defs.specs.Solving.{natural_width, kid_widths, natural_height, kid_slots}
@@ -83,7 +85,18 @@ is_content (Pixels n) = false
 is_content (Percent n) = false
 is_content Content = true
 
--- an object whose natural sizes do not go by its children, and which lets them stand by themselves
+-- whether children stand by themselves
+abbrev pub is_free : Course → Bool
+is_free Free = true
+is_free Across = false
+is_free Down = false
+
+-- whether an object's natural sizes do not go by its children, and it lets them stand by themselves
+abbrev pub is_steady : Box → Bool
+is_steady box =
+    is_free (course_of box.flow) && (not (is_content box.across.size) && not (is_content box.down.size))
+
+-- such an object
 pub record IsSteady (box : Box) : Type 0 where
   pub free : course_of box.flow ≡ Free
   pub wide : is_content box.across.size ≡ false

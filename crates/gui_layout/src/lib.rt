@@ -7,7 +7,8 @@
 //!
 //! Where one object has changed, or what lies below it, the places are settled: the passes go through the
 //! tree of the nearest object, from that one upward, that stands by itself in a parent whose place does not
-//! go by its children. All else stays.
+//! go by its children. All else stays. Where an object has come, is gone or has gone elsewhere among its
+//! siblings, and these stand by themselves in such a parent, all others stay as they are.
 //!
 //! All memory is taken at [`Places::open`].
 #![tactic(auto)]
@@ -16,6 +17,7 @@ mod all;
 mod boxes;
 mod frame;
 mod framed;
+mod gone;
 mod heights;
 mod inside;
 mod layout_box;

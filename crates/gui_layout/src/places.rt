@@ -1,11 +1,13 @@
 //! The places of the objects of a store.
 ghost use Rattle.std.specs.Prelude.{◌≡◌, ◌≤◌, ◌+ℤ◌, ◌-ℤ◌, pos, ℕ, [], true, false, None, Some, IfOk};
 ghost use Rattle.std.specs.Prelude.{IfSome, option_map};
-ghost use Rattle.std.specs.Prelude.{length, vec_capacity};
+ghost use Rattle.std.specs.Prelude.{◌<◌, ◌+◌, length, vec_capacity};
+ghost use Rattle.std.specs.Option.{ForSome};
 ghost use Rattle.gui_base.specs.Area.{area_at, is_empty, width_of};
 ghost use Rattle.gui_base.specs.Bounded.{bounds_of};
 ghost use Rattle.gui_base.specs.Corners.{rect_of};
 ghost use Rattle.gui_base.specs.Forest.{StandsOnce, has, parent_of, preorder, tree_at};
+ghost use Rattle.gui_base.specs.declared.intervals.TheConstants.{HANDLE};
 ghost use Rattle.gui_tree.specs.Handles.{numbers};
 ghost use Rattle.layout_defs.specs.Solving.{room_of};
 ghost use Rattle.layout_defs.specs.Reach.{IsNear, IsPlaced as IsPlaceNumber};
@@ -14,26 +16,28 @@ ghost use Rattle.scene_defs.specs.Scene.{handles_of, is_there, object_at};
 ghost use Rattle.gui_widgets.specs.Looks.{IsLook, widget_of};
 ghost use Rattle.gui_store.specs.Views.{scene_of};
 ghost use Rattle.gui_layout.specs.Painted.{PaintsLike};
-ghost use Rattle.gui_layout.specs.Kept.{AreEntries};
+ghost use Rattle.gui_layout.specs.Kept.{AddsEntries, AreEntries, KeepEntries};
 ghost use Rattle.scene_defs.specs.Visible.{some_area, met, visible};
 ghost use Rattle.gui_layout.specs.Frames.{FrameIsNearby, IsFrameOf, Encloses};
 ghost use Rattle.gui_layout.specs.declared.frame.Frame.TheVariants.{Content};
-ghost use Rattle.gui_layout.specs.Settled.{known_at, tall_of, IsSteady};
+ghost use Rattle.gui_layout.specs.Settled.{known_at, tall_of, is_steady, IsSteady};
 ghost use Rattle.gui_layout.specs.Slots.{room_in};
 ghost use Rattle.gui_layout.specs.Views.{box_at};
 ghost use Rattle.gui_layout.specs.Reaches.{IsPlaced};
-ghost use Rattle.gui_layout.specs.Scenes.{HoldsBoxes, shown_panel};
-ghost use Rattle.gui_layout.specs.Listing.{AreProper, HasThese};
+ghost use Rattle.gui_layout.specs.Renewed.{IsRenewed};
+ghost use Rattle.gui_layout.specs.Scenes.{HoldsBoxes, scene_box, shown_panel};
+ghost use Rattle.gui_layout.specs.Listing.{AreProper, HasThese, times};
 ghost use Rattle.gui_layout.specs.Tables.{AreListed, IsListed, listing_of};
 
 use crate::all::solve_trees;
 use crate::boxes::{empty_box, known_box};
 use crate::frame::Frame;
+use crate::gone::take_gone;
 use crate::inside::Inside;
 use crate::layout_box::LayoutBox;
-use crate::listing::{are_same, clear, fill, list_trees};
+use crate::listing::{are_same, clear, fill, list_trees, put};
 use crate::looks::{look_in, paint_look_in};
-use crate::objects::set_boxes;
+use crate::objects::{box_in, set_boxes};
 use crate::position::{CORNER, Position};
 use crate::positions::inside_of;
 use crate::renewal::renew_boxes;
@@ -158,7 +162,8 @@ fn shown_panel(store: &Store, root: Handle) -> Option<Area>
 
 impl Places {
     ghost use Rattle.gui_layout.specs.Solved.{limits_of, layout_of, place_at, AreSolved, AreSettled};
-    ghost use Rattle.gui_layout.specs.Solved.{AreSettledBut};
+    ghost use Rattle.gui_layout.specs.Solved.{entries_of, AreSettledBefore, AreSettledBut, AreSettledElse};
+    ghost use Rattle.gui_layout.specs.Solved.{AreSettledWithout};
 
     /// No object has a place. It takes all the memory that solving will need, or answers NoMemory where there
     /// is too little.
@@ -231,6 +236,65 @@ impl Places {
             frame,
         );
         top
+    }
+
+    /// Whether the places stay settled for a store in which a child of an object went elsewhere among its
+    /// siblings since they were settled, and all else is the same: where these stand by themselves, and the
+    /// object's sizes are not those of its content.
+    pub fn stay_settled(&self, store: &Store, parent: Handle) -> bool
+        requires { AreSettledElse self.now (scene_of store.now) parent.0 }
+        ensures value { result ≡ is_steady (scene_box (scene_of store.now) parent.0) }
+        ensures settled { result ≡ true → AreSettled self.now (scene_of store.now) }
+    {
+        // Lending the tree tells that the scene is in order.
+        let _tree = store.tree();
+        is_steady(known_box(&self.boxes, parent))
+    }
+
+    /// Settles the places of a store from which an object and all below it are gone since they were settled,
+    /// and all else is the same. It was a child of `parent`, or a root where that is None. The places of the
+    /// others stay as they are for a root, and where the parent's children stand by themselves and its sizes
+    /// are not those of its content.
+    pub fn settle_without(&mut self, store: &Store, parent: Option<Handle>)
+        requires gone { AreSettledWithout self.old (scene_of store.now) (option_map (λ h. h.0) parent) }
+        requires limits { limits_of self.old ≡ (scene_of store.now).limits }
+        ensures settled { AreSettled self.new (scene_of store.now) }
+        ensures limits { limits_of self.new ≡ limits_of self.old }
+    {
+        if self.lets_go(parent) {
+            self.leave(store.tree());
+        } else {
+            self.solve_all(store);
+        }
+    }
+
+    /// Settles the places of a store in which an object without children has come since they were settled,
+    /// the last child of `parent`, and all else is the same. It alone is solved where the parent's children
+    /// stand by themselves, and the parent's sizes are not those of its content.
+    pub fn settle_with(&mut self, store: &Store, h: Handle, parent: Handle)
+        requires before { AreSettledBefore self.old (scene_of store.now) h.0 parent.0 }
+        requires limits { limits_of self.old ≡ (scene_of store.now).limits }
+        ensures settled { AreSettled self.new (scene_of store.now) }
+        ensures limits { limits_of self.new ≡ limits_of self.old }
+    {
+        let Some(inside) = self.steady_inside(parent) else {
+            self.solve_all(store);
+            return;
+        };
+        let tree = store.tree();
+        self.add_entries(store, h);
+        solve_tree(
+            tree,
+            &mut self.boxes,
+            store,
+            &mut self.natural_widths,
+            &mut self.widths,
+            &mut self.natural_heights,
+            &mut self.positions,
+            &mut self.items,
+            h,
+            Frame::Content(inside),
+        );
     }
 
     /// The place of an object, or None exactly where it was not there when the places were solved. It lies
@@ -314,6 +378,17 @@ impl Places {
         }
     }
 
+    /// Whether nothing goes by a child of an object, or by a root where that is None.
+    fn lets_go(&self, parent: Option<Handle>) -> bool
+        requires { ForSome parent (λ h. IsListed (listing_of self.now.boxes) h.0) }
+        ensures { result ≡ true → ForSome parent (λ h. IsSteady (box_at self.now.boxes h.0)) }
+    {
+        match parent {
+            Some(parent) => is_steady(known_box(&self.boxes, parent)),
+            None => true,
+        }
+    }
+
     /// The content area of an object whose place does not go by its children, and in which these stand by
     /// themselves.
     fn steady_inside(&self, h: Handle) -> Option<Inside>
@@ -381,6 +456,44 @@ impl Places {
         clear(&mut self.natural_heights, listed);
         clear(&mut self.positions, listed);
         self.listed.clear();
+    }
+
+    /// Takes out the entries of the objects that a tree does not have.
+    fn leave(&mut self, tree: &Tree)
+        ensures kept { KeepEntries tree.now.forest self.old.listed.items
+            (entries_of self.old) (entries_of self.new) }
+        ensures limits { limits_of self.new ≡ limits_of self.old }
+    {
+        self.found.clear();
+        take_gone(
+            tree,
+            self.listed.as_slice(),
+            &mut self.found,
+            &mut self.boxes,
+            &mut self.natural_widths,
+            &mut self.widths,
+            &mut self.natural_heights,
+            &mut self.positions,
+        );
+        mem::swap(&mut self.listed, &mut self.found);
+    }
+
+    /// Gives entries to an object that has none, with its box in a store, before its own height is known.
+    fn add_entries(&mut self, store: &Store, h: Handle)
+        requires low { h.0 < HANDLE.high + 1 }
+        requires new { times self.old.listed.items h.0 ≡ 0 }
+        requires room { length self.old.listed.items < self.old.limits.objects }
+        ensures own { IsRenewed (scene_of store.now) self.new.boxes h.0 }
+        ensures added { AddsEntries h.0 (entries_of self.old) (entries_of self.new) }
+        ensures limits { limits_of self.new ≡ limits_of self.old }
+    {
+        let none = Size { pixels: 0 };
+        put(&mut self.boxes, h, box_in(store, h));
+        put(&mut self.natural_widths, h, none);
+        put(&mut self.widths, h, none);
+        put(&mut self.natural_heights, h, none);
+        put(&mut self.positions, h, CORNER);
+        self.listed.push_reserved(h);
     }
 
     /// Gives entries to the objects that were found, and to no others.

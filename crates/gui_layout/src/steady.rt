@@ -1,10 +1,9 @@
 //! Objects whose place does not go by what stands in them.
 ghost use Rattle.std.specs.Prelude.{◌≡◌, ℕ, true};
 ghost use Rattle.gui_layout.specs.Frames.{StandsNearby};
-ghost use Rattle.gui_layout.specs.Settled.{is_content, IsSteady};
+ghost use Rattle.gui_layout.specs.Settled.{is_content, is_free, is_steady, IsSteady};
 ghost use Rattle.gui_layout.specs.Slots.{slot_of};
 ghost use Rattle.gui_layout.specs.Views.{box_of};
-ghost use Rattle.layout_defs.specs.declared.Course.TheVariants.{Free};
 
 use crate::boxes::course_of;
 use crate::layout_box::LayoutBox;
@@ -24,14 +23,15 @@ fn is_content(size: Length) -> bool
 
 /// Whether children stand by themselves.
 fn is_free(course: Course) -> bool
-    ensures { result ≡ true → course ≡ Free }
+    ensures { result ≡ is_free course }
 {
     matches!(course, Course::Free)
 }
 
 /// Whether the natural sizes of an object do not go by its children, which stand by themselves.
 pub(crate) fn is_steady(own: &LayoutBox) -> bool
-    ensures { result ≡ true → (h : ℕ) → IsSteady (box_of h own.now) }
+    ensures value { (h : ℕ) → result ≡ is_steady (box_of h own.now) }
+    ensures steady { result ≡ true → (h : ℕ) → IsSteady (box_of h own.now) }
 {
     is_free(course_of(own.flow)) && (!is_content(own.width) && !is_content(own.height))
 }

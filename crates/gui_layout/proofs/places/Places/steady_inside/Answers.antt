@@ -8,7 +8,7 @@ use Rattle.gui_layout.specs.Views.{box_at}
 use Rattle.gui_layout.proofs.places.Places.steady_inside.Goals as goal
 
 pub returns-then-is_nearby-clause-steady : goal.returns-then-is_nearby-clause-steady
-returns-then-is_nearby-clause-steady c = subst (λ (b : Box). IsSteady b) c.known_box-own.ensures (c.is_steady.ensures c.if-is_steady.true c.args.h.0)
+returns-then-is_nearby-clause-steady c = subst (λ (b : Box). IsSteady b) c.known_box-own.ensures (c.is_steady.ensures.steady c.if-is_steady.true c.args.h.0)
 
 pub returns-then-is_nearby-clause-room : goal.returns-then-is_nearby-clause-room
 returns-then-is_nearby-clause-room c =

@@ -1,0 +1,19 @@
+use Rattle.std.proofs.Common.{◌≡◌, ◌≤◌, ◌++◌, drop, vec_len, vec_capacity}
+use Rattle.gui_layout.specs.Listing.{those_in}
+use Rattle.gui_layout.proofs.Leaving.{KeepsLeft}
+use Rattle.gui_layout.proofs.gone.take_gone.Given as goal
+
+abbrev pub invariant-loop-h : goal.invariant-loop-h
+invariant-loop-h l =
+    let f = l.tree.forest in
+    let left = l.found.items ++ drop l.h-index l.listed in
+    record {
+      found : l.found.items ++ those_in f (drop l.h-index l.listed) ≡ those_in f l.listed;
+      few : vec_len l.found ≤ l.h-index;
+      capacity : vec_capacity l.found ≡ vec_capacity l.fn.found;
+      boxes : KeepsLeft f l.listed left l.fn.boxes l.boxes;
+      natural_widths : KeepsLeft f l.listed left l.fn.natural_widths l.natural_widths;
+      widths : KeepsLeft f l.listed left l.fn.widths l.widths;
+      natural_heights : KeepsLeft f l.listed left l.fn.natural_heights l.natural_heights;
+      positions : KeepsLeft f l.listed left l.fn.positions l.positions;
+    }

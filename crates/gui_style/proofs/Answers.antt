@@ -1,9 +1,10 @@
 -- What calls answer and leave, by the place at which a walk found what it looked for.
 use Rattle.std.proofs.Common.{◌≡◌, ℕ, suc, ◌+◌, ◌-◌, Bool, true, false, cond, not, is_some, List, [], ◌∷◌, ◌++◌, map, set, option_map, Option, Some, None, ℤ, Ok, Err, inl, inr, refl, sym, ap, ◌∙◌, arith}
 use Rattle.std.specs.List.{remove}
-use Rattle.std.proofs.lemmas.Bool.{cases_Bool}
+use Rattle.std.proofs.lemmas.Bool.{cases_Bool, ne_eqb}
+use Rattle.gui_base.specs.declared.limits.Pool.{Pool}
 use Rattle.gui_base.specs.declared.limits.Pool.TheVariants.{Entries, Uses}
-use Rattle.gui_base.specs.declared.refusal.Refusal.TheVariants.{Unknown, Taken}
+use Rattle.gui_base.specs.declared.refusal.Refusal.TheVariants.{Unknown, Taken, Full}
 use Rattle.gui_base.specs.declared.props.Prop.{Prop}
 use Rattle.gui_base.specs.declared.words.Selector.{Selector}
 use Rattle.style_defs.specs.declared.Entry.{Entry}
@@ -27,6 +28,13 @@ place_is test (x ∷ xs) =
       | inl same ↦ rw same refl
       | inr other ↦ rw other (shifted (place_by test xs) ∙ place_is test xs)
     ]
+
+-- one more fits, or none
+pub has_room : (spare : ℕ) (pool : Pool) → (spare ≡ 0 → ⊥) → full_answer spare pool ≡ Ok tt
+has_room spare pool some = let other = ne_eqb spare 0 some in rw other refl
+
+pub no_room : (spare : ℕ) (pool : Pool) → spare ≡ 0 → full_answer spare pool ≡ Err (Full pool)
+no_room spare pool none = rw none refl
 
 less_none : (n : ℕ) → n - 0 ≡ n
 less_none n = omega arith

@@ -1,5 +1,5 @@
 -- What a contract sees once a list of `Styles` has changed.
-use Rattle.std.proofs.Common.{◌≡◌, ◌≢◌, ℕ, zero, suc, ◌+◌, ◌-◌, ◌<◌, ◌≤◌, true, false, eqb, is_some, List, [], ◌∷◌, ◌++◌, length, map, set, take, drop, Some, None, ℤ, inl, inr, refl, sym, ap, ◌∙◌, subst, arith, length-set}
+use Rattle.std.proofs.Common.{◌≡◌, ◌≢◌, ℕ, zero, suc, ◌+◌, ◌-◌, ◌<◌, ◌≤◌, true, false, eqb, is_some, List, [], ◌∷◌, ◌++◌, length, map, set, slice_get, IfSome, take, drop, Some, None, ℤ, inl, inr, refl, sym, ap, ◌∙◌, subst, arith, length-set}
 use Rattle.std.specs.List.{remove}
 use Rattle.std.proofs.lemmas.Bool.{cases_Bool, eqb-true, eqb-false}
 use Rattle.std.proofs.lemmas.List.{get_or-take, get_or-set_same, get_or-set_other, take-set-le, map-set, map-append, take-map, drop-map, length-map}
@@ -7,14 +7,17 @@ use Rattle.gui_pool.specs.Lists.{Lists, list_of, pushed, replaced, removed}
 use Rattle.gui_pool.specs.Table.{Table, value_at, value_inserted}
 use Rattle.gui_base.specs.declared.props.Prop.{Prop}
 use Rattle.gui_base.specs.declared.words.Selector.{Selector}
+use Rattle.gui_base.specs.Words.{same_selector}
 use Rattle.style_defs.specs.declared.Entry.{Entry}
 use Rattle.style_defs.specs.declared.Setting.{Setting}
 use Rattle.style_defs.specs.declared.Use.{Use}
-use Rattle.style_defs.specs.Cascade.{has_style, sets, settings_of}
+use Rattle.style_defs.specs.Cascade.{has_style, sets, settings_of, selector_of}
 use Rattle.style_defs.specs.Firsts.{place_by, put_by, drop_by}
 use Rattle.style_defs.specs.Book.{locals_of, uses_of, is_for, is_use, an_entry, a_setting, inserted, with_settings}
 use Rattle.gui_style.specs.Styles.{Styles, with_style, with_prop, without_prop, without_use, with_local, without_local, forgotten}
 use Rattle.gui_style.specs.Kept.{first_style, setting_in, style_in, keys_from, styles_of, AreStyles}
+use Rattle.gui_style.specs.Filed.{has_prop}
+use Rattle.gui_style.proofs.OfProp.{placed, place_mapped, and_first}
 use Rattle.gui_style.proofs.Answers.{local_at, with_there, with_more, without_there, setting_at, no_setting, with_prop_there, with_prop_more, use_at, without_use_there}
 use Rattle.gui_style.proofs.Shared.{nothing_there, has_made, settings_made, styles_more}
 
@@ -37,7 +40,7 @@ module _ (made : Table (Unit {0})) (entries : Lists Entry) (uses : Lists Use) (k
 
   -- Another list of an object.
   module _ (h : ℕ) (within : h < 65536) where
-    here : locals_of view.book h ≡ list_of entries h
+    pub here : locals_of view.book h ≡ list_of entries h
     here = get_or-take (length uses.lists) entries.lists h [] (let long = kept.handles in omega arith)
 
     module _ (ys : List Entry) (spare : ℕ) where
@@ -65,6 +68,10 @@ module _ (made : Table (Unit {0})) (entries : Lists Entry) (uses : Lists Use) (k
 
         pub local_there : k < length (list_of entries h)
         local_there = subst (λ es. k < length es) here ((local_at view h selector prop k at_view).within)
+
+        -- what stands there is of the property
+        pub local_placed : IfSome (slice_get (list_of entries h) k) (λ e. has_prop prop e ≡ true)
+        local_placed = placed (is_for selector prop) (has_prop prop) (λ e is. and_first (has_prop prop e) (same_selector (selector_of e) selector) is) (list_of entries h) k (ap (place_by (is_for selector prop)) (sym here) ∙ sym at_view)
 
         pub local_replaced : (value : ℤ) → styles_of made (replaced entries h k (an_entry selector prop value)) uses ≡ with_local now h (an_entry selector prop value)
         local_replaced value =
@@ -155,6 +162,9 @@ module _ (made : Table (Unit {0})) (entries : Lists Entry) (uses : Lists Use) (k
         setting_there =
             let lt = subst (λ ss. k < length ss) settings ((setting_at view number prop k setting_at_view).within) in
             omega (arith, length-map mine setting_in)
+
+        pub setting_placed : IfSome (slice_get mine k) (λ e. has_prop prop e ≡ true)
+        setting_placed = placed (has_prop prop) (has_prop prop) (λ e is. is) mine k (sym (place_mapped (sets prop) setting_in mine) ∙ ap (place_by (sets prop)) (sym settings) ∙ sym setting_at_view)
 
         pub prop_replaced : (selector : Selector) (value : ℤ) → styles_of made (replaced entries (first_style + number) k (an_entry selector prop value)) uses ≡ with_prop now number (a_setting prop value)
         prop_replaced selector value =

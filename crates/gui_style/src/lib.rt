@@ -3,6 +3,7 @@
 //! All memory is taken at [`Styles::open`]. A call that is refused leaves all as it was.
 #![tactic(auto)]
 
+mod entries;
 mod styles;
 
 pub use gui_base::{Part, Prop, Selector};

@@ -11,6 +11,7 @@ ghost use Rattle.gui_style.specs.Styles.{unset_prop_answer, without_prop, add_st
 ghost use Rattle.gui_style.specs.Styles.{remove_style_answer, without_use, set_local_answer, with_local};
 ghost use Rattle.gui_style.specs.Styles.{unset_local_answer, without_local, forgotten, all_forgotten};
 
+use crate::entries::Entries;
 use gui_base::{Handle, NoMemory, Part, Pool, Prop, Refusal, Selector};
 use gui_pool::{Lists, Table};
 use std::alloc::Global;
@@ -40,16 +41,17 @@ const NO_SELECTOR: Selector = Selector {
 /// and how many more of each fit. Any handle and any number of a style may be given: what nothing was done to
 /// has no entries and uses no style.
 ///
-/// A style takes 20 to 24 bytes, an entry 28 to 32 and a use 28 to 32. Handles and numbers take no memory.
+/// A style takes 20 to 24 bytes, an entry 56 to 64 and a use 28 to 32. Handles and numbers take no memory.
 ///
-/// A call takes time by the number of entries or uses of the object or the style that it names, and a look-up
-/// by those of the object and of the styles that it uses. Others are passed over where they share a bucket.
+/// A call takes time by the number of entries or uses of the object or the style that it names. A look-up
+/// takes time by the uses of the object, and by the entries of the property alone: those of the object and of
+/// the styles that it uses. Others are passed over where they share a bucket.
 #[derive(Drop)]
 pub struct Styles {
     // The styles that are there, by number.
     made: Table<()>,
     // What is set locally at each object, and then what each shared style sets.
-    entries: Lists<Entry>,
+    entries: Entries,
     // By handle.
     uses: Lists<Use>,
 }
@@ -86,19 +88,6 @@ fn entry_of(selector: Selector, prop: Prop, value: i32) -> Entry
     }
 }
 
-/// Puts a value last in an owner's list, or answers `Full` of the pool where no slot is spare.
-fn push_into<T: Drop>(lists: &mut Lists<T>, owner: u32, value: T, pool: Pool) -> Result<(), Refusal>
-    requires { owner < length lists.old.lists }
-    ensures answer { result ≡ full_answer lists.old.spare pool }
-    ensures ok { OnOk result (lists.new ≡ pushed lists.old owner value) }
-    ensures refused { OnErr result (lists.new ≡ lists.old) }
-{
-    match lists.push(owner, value) {
-        Ok(()) => Ok(()),
-        Err(_) => Err(Refusal::Full(pool)),
-    }
-}
-
 impl Styles {
     /// No styles, and room for so many styles, entries and uses. `NoMemory` where there is no memory for
     /// them. No later call takes memory.
@@ -115,7 +104,7 @@ impl Styles {
         let Ok(made) = Table::open(alloc, NUMBERS, styles) else {
             return Err(NoMemory);
         };
-        let Ok(entries) = Lists::open(alloc, FIRST_STYLE + NUMBERS, entries) else {
+        let Ok(entries) = Entries::open(alloc, FIRST_STYLE + NUMBERS, entries) else {
             return Err(NoMemory);
         };
         let Ok(uses) = Lists::open(alloc, NUMBERS, uses) else {
@@ -180,13 +169,9 @@ impl Styles {
     fn setting(&self, style: u16, prop: Prop) -> Option<i32>
         ensures { result ≡ setting_of (settings_of self.now.book.styles style) prop }
     {
-        let mut entries = self.entries.of(style_owner(style));
-        while let Some(entry) = entries.next() {
-            if entry.prop == prop {
-                return Some(entry.value);
-            }
-        }
-        None
+        let mut entries = self.entries.of_prop(style_owner(style), prop);
+        let entry = entries.next()?;
+        Some(entry.value)
     }
 
     /// Where the property of a style stands among those that it sets.
@@ -224,7 +209,7 @@ impl Styles {
                 self.entries.replace(style_owner(id), place, entry);
                 Ok(())
             }
-            None => push_into(&mut self.entries, style_owner(id), entry, Pool::Entries),
+            None => self.entries.push(style_owner(id), entry),
         }
     }
 
@@ -283,7 +268,10 @@ impl Styles {
         if self.use_place(h, used).is_some() {
             return Err(Refusal::Taken);
         }
-        push_into(&mut self.uses, h.0 as u32, used, Pool::Uses)
+        match self.uses.push(h.0 as u32, used) {
+            Ok(()) => Ok(()),
+            Err(_) => Err(Refusal::Full(Pool::Uses)),
+        }
     }
 
     /// Takes a style from an object that uses it for this selector.
@@ -359,7 +347,7 @@ impl Styles {
                 self.entries.replace(h.0 as u32, place, entry);
                 Ok(())
             }
-            None => push_into(&mut self.entries, h.0 as u32, entry, Pool::Entries),
+            None => self.entries.push(h.0 as u32, entry),
         }
     }
 
@@ -440,7 +428,7 @@ impl Styles {
         ensures { result ≡ fold stronger shared (local_at self.now.book h.0 part states prop) }
     {
         let mut best = shared;
-        let mut entries = self.entries.of(h.0 as u32);
+        let mut entries = self.entries.of_prop(h.0 as u32, prop);
         while let Some(entry) = entries.next() {
             if let Some(local) = given_by(entry, part, states, prop) {
                 best = Some(stronger(best, local));
@@ -450,7 +438,8 @@ impl Styles {
     }
 
     /// The value of a property of a part that wins, for an object in these states: `None` exactly where none
-    /// applies. It reads the entries of the object and of the styles that it uses.
+    /// applies. Of what is set at the object and in the styles that it uses, it reads the entries of this
+    /// property alone.
     pub fn lookup(&self, h: Handle, part: Part, states: u16, prop: Prop) -> Option<i32>
         ensures { result ≡ winning_at self.now.book h.0 part states prop }
     {

@@ -16,7 +16,7 @@ returns-in-Some-clause-answer c =
 pub returns-in-Some-clause-ok : goal.returns-in-Some-clause-ok
 returns-in-Some-clause-ok c =
     let s = c.self.inside in let h = c.args.h.0 in let within : c.args.h.0 < 65536 = search rules in
-    ap (λ e. styles_of s.made e s.uses) c.remove.ensures.removed
+    ap (λ e. styles_of s.made e s.uses) c.remove.ensures
     ∙ local_removed s.made s.entries s.uses c.self.invariant h within c.args.self.now c.self.view_is c.args.selector c.args.prop c.in-Some.place c.in-Some.ensures
 
 pub returns-in-None-clause-answer : goal.returns-in-None-clause-answer

@@ -18,7 +18,7 @@ returns-in-Some-clause-answer c =
 pub returns-in-Some-clause-ok : goal.returns-in-Some-clause-ok
 returns-in-Some-clause-ok c =
     let s = c.self.inside in
-    ap (λ e. styles_of s.made e s.uses) (c.remove.ensures.removed ∙ ap (λ o. removed s.entries o c.in-Some.place) c.style_owner.ensures.value)
+    ap (λ e. styles_of s.made e s.uses) (c.remove.ensures ∙ ap (λ o. removed s.entries o c.in-Some.place) c.style_owner.ensures.value)
     ∙ prop_removed s.made s.entries s.uses c.self.invariant c.args.id c.ranges.id.fits c.args.self.now c.self.view_is c.args.prop c.in-Some.place c.in-Some.ensures
 
 pub returns-in-None-clause-answer : goal.returns-in-None-clause-answer

@@ -1,12 +1,11 @@
-use Rattle.std.proofs.Common.{slice_index_or, arith}
-use Rattle.std.proofs.lemmas.List.{get_or_default}
-use Rattle.std.proofs.lemmas.List.Edits.{map_over_more}
-use Rattle.gui_base.specs.declared.color.Rgb565.{Rgb565}
-use Rattle.gui_base.specs.Color.{mix, black}
+use Rattle.std.proofs.Common.{◌∙◌, arith, ◌*◌, ◌/◌, ◌-◌, length}
+use Rattle.gui_base.specs.Color.{mix}
+use Rattle.gui_color.proofs.Rows.{map_last}
 use Rattle.gui_color.proofs.row.blend_row.Goals as goal
 
-pub loop-pixel-preserved : goal.loop-pixel-preserved
-loop-pixel-preserved c =
-    let bg : Rgb565 = slice_index_or c.loop-pixel.row c.loop-pixel.pixel-index black in
-    rw (c.over.ensures, c.new-veil.ensures.fg, c.new-veil.ensures.opa) (map_over_more (λ p. mix c.args.fg p c.args.opa) c.args.row.now c.loop-pixel.row c.loop-pixel.pixel-index bg c.loop-pixel-test.true c.loop-pixel.invariant
-    (get_or_default c.loop-pixel.row c.loop-pixel.pixel-index black bg (omega arith)))
+pub returns-in-Some : goal.returns-in-Some
+returns-in-Some c =
+    let whole = length c.args.row.now / 8 * 8 in
+    let all = map_last (λ bg. mix c.args.fg bg c.args.opa) c.args.row.now (length c.args.row.now - 8) whole (omega arith) (omega arith) in
+    c.write_last.ensures
+    ∙ grind (arith, all, c.blend_each.ensures, c.blended-last.ensures, c.new-veil.ensures.fg, c.new-veil.ensures.opa, c.in-Some.ensures.cases)

@@ -1,6 +1,0 @@
-use Rattle.std.proofs.Common.{◌≡◌, map, take, drop, ◌++◌}
-use Rattle.gui_base.specs.Color.{mix}
-use Rattle.gui_color.proofs.row.blend_row.Given as goal
-
-abbrev pub invariant-loop-pixel : goal.invariant-loop-pixel
-invariant-loop-pixel l = l.row ≡ map (λ bg. mix l.fn.fg bg l.opa) (take l.pixel-index l.fn.row) ++ drop l.pixel-index l.fn.row

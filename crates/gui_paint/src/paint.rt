@@ -43,17 +43,20 @@ fn paint<L: Ledger>(shown: &Shown, buf: &mut DrawBuf, steps: &mut Steps<L>)
     let limits = shown.store.limits();
     let panel = Area::at(0, 0, limits.width, limits.height);
     let clip = panel.meet(buf.area());
-    paint_tree(shown, buf, clip, shown.store.active(), steps);
-    paint_tree(shown, buf, clip, TOP_LAYER, steps);
-    paint_tree(shown, buf, clip, SYSTEM_LAYER, steps);
+    let mut text = ArrayVec::new();
+    paint_tree(shown, buf, clip, shown.store.active(), &mut text, steps);
+    paint_tree(shown, buf, clip, TOP_LAYER, &mut text, steps);
+    paint_tree(shown, buf, clip, SYSTEM_LAYER, &mut text, steps);
 }
 
-/// Paints an object, and then all below it. The clip is what is seen of its parent.
+/// Paints an object, and then all below it. The clip is what is seen of its parent, and `text` is room for a
+/// text.
 fn paint_tree<L: Ledger>(
     shown: &Shown,
     buf: &mut DrawBuf,
     clip: Area,
     h: Handle,
+    text: &mut ArrayVec<u8, 1000>,
     steps: &mut Steps<L>,
 )
     ensures { Paints buf.old buf.new (painted_tree (scene_of shown.now.store.now) (rect_of clip) h.0) }
@@ -69,13 +72,13 @@ fn paint_tree<L: Ledger>(
     let Some(visible) = seen_part(row, clip, place) else {
         return;
     };
-    paint_object(shown, buf, visible, place, h, steps);
+    paint_object(shown, buf, visible, place, h, text, steps);
     let Some(first) = tree.first_child(h) else {
         return;
     };
     let mut next = Some(first);
     while let Some(child) = next {
-        paint_tree(shown, buf, visible, child, steps);
+        paint_tree(shown, buf, visible, child, text, steps);
         next = tree.next(child);
     }
 }
@@ -92,13 +95,14 @@ fn seen_part(row: &Row, clip: Area, place: Area) -> Option<Area>
     if part.is_empty() { None } else { Some(part) }
 }
 
-/// Paints the items of an object where they are seen.
+/// Paints the items of an object where they are seen. Its text is put into `text`.
 fn paint_object<L: Ledger>(
     shown: &Shown,
     buf: &mut DrawBuf,
     visible: Area,
     place: Area,
     h: Handle,
+    text: &mut ArrayVec<u8, 1000>,
     steps: &mut Steps<L>,
 )
     requires valid { IsValid (scene_of shown.now.store.now) }
@@ -110,8 +114,7 @@ fn paint_object<L: Ledger>(
         (painted_object (scene_of shown.now.store.now) (rect_of visible) h.0) }
 {
     let store = shown.store;
-    let mut text = ArrayVec::new();
-    let look = shown.places.paint_look(store, h, &mut text);
+    let look = shown.places.paint_look(store, h, text);
     let items = items(&look, place);
     paint_items(
         buf,

@@ -39,3 +39,15 @@ masked_all false fg bg opa h = refl
 pub masked_none : (set : Bool) (fg bg : Rgb565) (opa : ℕ) → parts opa ≡ 0 → bg ≡ masked set fg opa bg
 masked_none true fg bg opa h = sym (mix_none fg bg opa h)
 masked_none false fg bg opa h = refl
+
+-- the same where red and green are multiplied in their places in a pixel
+red_high : (r left share : ℕ) → (r * 2048 * (left * 2048) / 65536 + share * 64) / 2048 * 2048 ≡ (r * left + share) / 32 * 2048
+red_high r left share = omega arith
+
+green_high : (g left share : ℕ) → (g * 32 * (left * 2048) / 65536 + share) / 32 * 32 ≡ (g * left + share) / 32 * 32
+green_high g left share = omega arith
+
+pub mix_high : (fg bg : Rgb565) (opa left high red_share green_share blue_share : ℕ) → left + parts opa ≡ 32 → high ≡ left * 2048 → red_share ≡ red fg * parts opa * 64 → green_share ≡ green fg * parts opa → blue_share ≡ blue fg * parts opa
+    → record { 0 = (red bg * 2048 * high / 65536 + red_share) / 2048 * 2048 + (green bg * 32 * high / 65536 + green_share) / 32 * 32 + (blue bg * left + blue_share) / 32 } ≡ mix fg bg opa
+mix_high fg bg opa left high red_share green_share blue_share all high_is red_is green_is blue_is =
+    rw (mix_is fg bg opa left all, high_is, red_is, green_is, blue_is, red_high (red bg) left (red fg * parts opa), green_high (green bg) left (green fg * parts opa)) refl

@@ -3,6 +3,7 @@ pub mod Below
 pub mod Changes
 pub mod Covering
 pub mod Within
+pub mod Lending
 pub mod Listing
 pub mod Orders
 pub mod Owing

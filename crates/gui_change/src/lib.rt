@@ -7,6 +7,8 @@
 //! Most changes set one object. Then the places are settled there alone, and of what is shown only the
 //! objects are looked at again that may stand elsewhere: such a change takes time by their number. Any other
 //! takes time by the number of all objects. All memory is taken at [`Canvas::open`].
+//!
+//! What is known of the objects is lent, in paint order, so that a painter need not look it up.
 #![tactic(auto)]
 
 mod again;
@@ -27,3 +29,4 @@ mod shown;
 mod sighting;
 
 pub use canvas::Canvas;
+pub use seen::ShownObject;

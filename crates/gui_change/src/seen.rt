@@ -29,6 +29,16 @@ pub(crate) struct Seen {
     pub(crate) items: ArrayVec<Item, 6>,
 }
 
+/// An object of the trees that are shown.
+#[derive(Clone, Copy)]
+pub struct ShownObject<'a> {
+    pub h: Handle,
+    /// Where it is seen, if something is seen of it.
+    pub visible: Option<Area>,
+    /// All that it paints, from back to front.
+    pub items: &'a [Item],
+}
+
 impl Seen {
     /// Nothing.
     pub(crate) fn nothing() -> Seen

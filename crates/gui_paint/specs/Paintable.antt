@@ -1,5 +1,5 @@
 -- The items that can be painted.
-use Rattle.std.specs.Prelude.{◌≡◌, ℕ, true, List, Some}
+use Rattle.std.specs.Prelude.{◌≡◌, ℕ, Bool, true, false, List, Some}
 use Rattle.gui_base.specs.Area.{Rect}
 use Rattle.text_defs.specs.Fonts.{Font, finished}
 use Rattle.text_defs.specs.declared.TextLook.{TextLook}
@@ -26,3 +26,13 @@ IsPaintableIn fonts area (Picture image recolor opa) = Unit {0}
 -- the text of an item, if it has one, can be drawn
 abbrev pub IsPaintable : List Font → Item → Type 0
 IsPaintable fonts item = IsPaintableIn fonts item.area item.paint
+
+-- whether an item has no text
+abbrev pub is_plain_paint : ItemPaint → Bool
+is_plain_paint (Ink look color opa) = false
+is_plain_paint (Fill color opa) = true
+is_plain_paint (Ring width color opa) = true
+is_plain_paint (Picture image recolor opa) = true
+
+abbrev pub is_plain : Item → Bool
+is_plain item = is_plain_paint item.paint

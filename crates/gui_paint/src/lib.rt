@@ -2,6 +2,7 @@
 #![tactic(auto)]
 
 mod items;
+mod known;
 mod paint;
 mod shown;
 

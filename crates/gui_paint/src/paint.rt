@@ -96,7 +96,7 @@ fn seen_part(row: &Row, clip: Area, place: Area) -> Option<Area>
 }
 
 /// Paints the items of an object where they are seen. Its text is put into `text`.
-fn paint_object<L: Ledger>(
+pub(crate) fn paint_object<L: Ledger>(
     shown: &Shown,
     buf: &mut DrawBuf,
     visible: Area,

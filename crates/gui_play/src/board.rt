@@ -30,9 +30,9 @@ use gui_damage::Damage;
 use gui_edge::{Failed, Panel};
 use gui_event::{Groups, Handlers};
 use gui_layout::Places;
-use gui_paint::Shown;
 use gui_refresh::{Refreshed, Refresher};
 use gui_store::Store;
+use gui_view::View;
 use run_defs::Reply;
 use scene_defs::Change;
 use std::alloc::Global;
@@ -169,9 +169,10 @@ impl Board {
             (pending_of self.new) (machine_of self.old).scene result }
         ensures refresher { refresher.new.sizes ≡ refresher.old.sizes }
     {
-        let (store, places) = self.canvas.shown();
-        let shown = Shown { store, places };
-        refresher.refresh(&shown, &mut self.damage, panel, steps)
+        let view = View {
+            canvas: &self.canvas,
+        };
+        refresher.refresh(&view, &mut self.damage, panel, steps)
     }
 }
 

@@ -1,0 +1,70 @@
+//! Painting objects whose items are known.
+ghost use Rattle.std.specs.Prelude.{◌≡◌, true};
+ghost use Rattle.std.specs.List.{list_all};
+ghost use Rattle.gui_base.specs.Corners.{rect_of};
+ghost use Rattle.gui_store.specs.Views.{scene_of};
+ghost use Rattle.gui_widgets.specs.Looks.{item_of, items_of};
+ghost use Rattle.gui_paint.specs.Paintable.{is_plain};
+
+use crate::items::paint_items;
+use crate::paint::paint_object;
+use crate::shown::Shown;
+use arrayvec::ArrayVec;
+use gui_base::{Area, Handle, Steps};
+use gui_color::DrawBuf;
+use gui_widgets::{Item, ItemPaint};
+use std::sync::ledger::Ledger;
+
+/// Whether an item has no text.
+fn is_plain(item: &Item) -> bool
+    ensures { result ≡ is_plain (item_of item.now) }
+{
+    match item.paint {
+        ItemPaint::Ink { .. } => false,
+        ItemPaint::Fill { .. } | ItemPaint::Ring { .. } | ItemPaint::Picture { .. } => true,
+    }
+}
+
+/// Whether no item has a text.
+fn are_plain(items: &[Item]) -> bool
+    ensures { result ≡ list_all is_plain (items_of items.now) }
+{
+    let mut are_plain = true;
+    for item in items {
+        are_plain = are_plain && is_plain(item);
+    }
+    are_plain
+}
+
+impl<'a> Shown<'a> {
+    ghost use Rattle.scene_defs.specs.Items.{items};
+    ghost use Rattle.scene_defs.specs.Scene.{is_there};
+    ghost use Rattle.gui_paint.specs.Painting.{Paints, painted_object};
+
+    /// Paints an object by itself over the pixels of the buffer that are in `visible`. It is there, and
+    /// `known` is all that it paints: where no text is among that, nothing of it is looked up. `text` is room
+    /// for a text.
+    pub fn paint_known<L: Ledger>(
+        &self,
+        buf: &mut DrawBuf,
+        visible: Area,
+        h: Handle,
+        known: &[Item],
+        text: &mut ArrayVec<u8, 1000>,
+        steps: &mut Steps<L>,
+    )
+        requires there { is_there (scene_of self.now.store.now) h.0 ≡ true }
+        requires known { items_of known.now ≡ items (scene_of self.now.store.now) h.0 }
+        ensures { Paints buf.old buf.new
+            (painted_object (scene_of self.now.store.now) (rect_of visible) h.0) }
+    {
+        let store = self.store;
+        let _tree = store.tree();
+        if are_plain(known) {
+            let (fonts, images) = (store.fonts(), store.images());
+            paint_items(buf, visible, known, fonts, images, "", steps);
+        } else if let Some(place) = self.places.place(h) {
+            paint_object(self, buf, visible, place, h, text, steps);
+        }
+    }
+}

@@ -261,8 +261,17 @@ impl Display {
         Ok(())
     }
 
-    fn sum(&self) -> u16 {
-        self.pixels.iter().fold(0, |sum, &pixel| sum.wrapping_add(pixel))
+    /// The sum of a scene's picture, which is painted anew for it in slices, as the program does.
+    fn sum(&mut self, scene: &Scene) -> u16 {
+        let lines = self.buffer.len() / self.area.width();
+        let mut sum = 0_u16;
+        for top in (0..self.area.bottom).step_by(lines) {
+            let slice = Area { top, bottom: self.area.bottom.min(top + lines), ..self.area };
+            let painted = &mut self.buffer[..slice.size()];
+            scene.paint(slice, painted);
+            sum = painted.iter().fold(sum, |sum, &pixel| sum.wrapping_add(pixel));
+        }
+        sum
     }
 }
 
@@ -354,8 +363,9 @@ impl<W: Write> Run<W> {
         self.display.present(&mut self.out)
     }
 
-    fn summary(&self, start: u32) -> String {
-        let (lines, frames, sum) = (self.lines, self.display.frames, self.display.sum());
+    fn summary(&mut self, start: u32) -> String {
+        let sum = self.display.sum(&self.scene);
+        let (lines, frames) = (self.lines, self.display.frames);
         format!("made {start} lines {lines} refused 0 frames {frames} faults 0 sum {sum}\n")
     }
 }

@@ -58,6 +58,21 @@ alike t hs ks these once same known = record {
   len = sym same;
 }
 
+-- lists that have each handle as often are as long
+same-length : (hs ks : List Handle) → ((h : ℕ) → times ks h ≡ times hs h) → length ks ≡ length hs
+same-length [] [] each = refl
+same-length [] (k ∷ ks) each = absurd (let some = each k.0 in grind (arith, nat_tests, some))
+same-length (h ∷ hs) ks each =
+    let some : 0 < times ks h.0 = grind (arith, nat_tests, each h.0) in
+    let less = λ (j : ℕ). let a = times-without h.0 j ks some in let b = each j in let e : times (without h.0 ks) j ≡ times hs j = omega (arith, a, b) in e in
+    let n = length-without h.0 ks some in
+    let m = same-length hs (without h.0 ks) less in
+    omega arith
+
+-- so are lists that have each handle as often
+pub alike-each : (hs ks : List Handle) → ((h : ℕ) → times ks h ≡ times hs h) → AreAlike hs ks
+alike-each hs ks each = record { each = each; len = same-length hs ks each }
+
 -- a table has values for one as for the other
 pub these_alike : {T : Type 0} (objects : ℕ) (t : Table T) (hs ks : List Handle) → AreAlike hs ks → HasThese objects t hs → HasThese objects t ks
 these_alike objects t hs ks same these =

@@ -18,5 +18,6 @@ pub mod Setting
 pub mod Moves
 pub mod Comings
 pub mod Reordering
+pub mod Rooted
 pub mod ShownTrees
 pub mod Settlement

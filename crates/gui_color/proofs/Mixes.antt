@@ -40,14 +40,14 @@ pub masked_none : (set : Bool) (fg bg : Rgb565) (opa : ℕ) → parts opa ≡ 0 
 masked_none true fg bg opa h = sym (mix_none fg bg opa h)
 masked_none false fg bg opa h = refl
 
--- the same where red and green are multiplied in their places in a pixel
-red_high : (r left share : ℕ) → (r * 2048 * (left * 2048) / 65536 + share * 64) / 2048 * 2048 ≡ (r * left + share) / 32 * 2048
+-- the same where red stands 64 times as high, and green 32 times
+red_high : (r left share : ℕ) → (r * (left * 64) + share * 64) / 2048 * 2048 ≡ (r * left + share) / 32 * 2048
 red_high r left share = omega arith
 
-green_high : (g left share : ℕ) → (g * 32 * (left * 2048) / 65536 + share) / 32 * 32 ≡ (g * left + share) / 32 * 32
-green_high g left share = omega arith
+green_high : (g left share b : ℕ) → ((g * 32 * left + share * 32) / 1024 * 1024 + b) / 32 ≡ (g * left + share) / 32 * 32 + b / 32
+green_high g left share b = omega arith
 
-pub mix_high : (fg bg : Rgb565) (opa left high red_share green_share blue_share : ℕ) → left + parts opa ≡ 32 → high ≡ left * 2048 → red_share ≡ red fg * parts opa * 64 → green_share ≡ green fg * parts opa → blue_share ≡ blue fg * parts opa
-    → record { 0 = (red bg * 2048 * high / 65536 + red_share) / 2048 * 2048 + (green bg * 32 * high / 65536 + green_share) / 32 * 32 + (blue bg * left + blue_share) / 32 } ≡ mix fg bg opa
-mix_high fg bg opa left high red_share green_share blue_share all high_is red_is green_is blue_is =
-    rw (mix_is fg bg opa left all, high_is, red_is, green_is, blue_is, red_high (red bg) left (red fg * parts opa), green_high (green bg) left (green fg * parts opa)) refl
+pub mix_high : (fg bg : Rgb565) (opa left red_left red_share green_share blue_share : ℕ) → left + parts opa ≡ 32 → red_left ≡ left * 64 → red_share ≡ red fg * parts opa * 64 → green_share ≡ green fg * parts opa * 32 → blue_share ≡ blue fg * parts opa
+    → record { 0 = (red bg * red_left + red_share) / 2048 * 2048 + ((green bg * 32 * left + green_share) / 1024 * 1024 + (blue bg * left + blue_share)) / 32 } ≡ mix fg bg opa
+mix_high fg bg opa left red_left red_share green_share blue_share all red_left_is red_is green_is blue_is =
+    rw (mix_is fg bg opa left all, red_left_is, red_is, green_is, blue_is, red_high (red bg) left (red fg * parts opa), green_high (green bg) left (green fg * parts opa) (blue bg * left + blue fg * parts opa)) (ap (λ (n : ℕ). record { 0 = n }) (omega arith))

@@ -1,7 +1,7 @@
 //! Colours mixed over rows of pixels, each pixel with its own.
 ghost use Rattle.std.specs.Prelude.{◌≡◌, ℕ, ◌+◌, ◌*◌, ◌<◌, ◌≤◌, length, slice_index, slice_index_or};
 ghost use Rattle.std.specs.Prelude.{if◌then◌else◌};
-ghost use Rattle.gui_base.specs.Color.{mix, black, parts};
+ghost use Rattle.gui_base.specs.Color.{mix, black};
 ghost use Rattle.gui_color.specs.Masks.{mask_bit, masked};
 
 use crate::mixing::{ALL_PARTS, Veil, mix, parts_of};
@@ -54,8 +54,7 @@ fn chosen(test: bool, fg: Rgb565, bg: Rgb565) -> Rgb565
 
 /// Mixes `fg` over each pixel whose bit is 1, with its part of the products taken once.
 fn blend_masked(row: &mut [Rgb565], bits: &[u8], first: u32, fg: Rgb565, opa: u8)
-    requires some { 1 ≤ parts opa }
-    requires bits { first + length row.old ≤ 8 * length bits.now }
+    requires { first + length row.old ≤ 8 * length bits.now }
     ensures { (k : ℕ) → k < length row.old → slice_index_or row.new k black
         ≡ masked (mask_bit bits.now (first + k)) fg opa (slice_index_or row.old k black) }
 {

@@ -32,31 +32,30 @@ pub fn combine(a: u8, b: u8) -> u8
 }
 
 /// A colour that takes some of the thirty-seconds, made ready to be mixed over many others. Its numbers have
-/// sixteen bits, as a pixel has, so that a processor mixes as many pixels at once as a register holds. Red
-/// and green are multiplied where they stand in a pixel, and the upper half of the product is taken: so they
-/// need not be shifted there and back.
+/// sixteen bits, as a pixel has, so that a processor mixes as many pixels at once as a register holds. What
+/// each channel comes to stands where its whole thirty-seconds need no shift of their own: red 64 times and
+/// green 32 times what it is.
 #[derive(Clone, Copy)]
 pub(crate) struct Veil {
     fg: Rgb565,
     opa: u8,
     /// What each channel of `fg` adds: the channel times the thirty-seconds that it takes, of red 64 times
-    /// that.
+    /// that, and of green 32 times.
     red_share: u16,
     green_share: u16,
     blue_share: u16,
-    /// The thirty-seconds that are left to the colour below, and 2,048 times these.
+    /// The thirty-seconds that are left to the colour below, and 64 times these.
     parts_left: u16,
-    high_parts_left: u16,
+    red_parts_left: u16,
     ghost red_is: { red_share ≡ red fg * parts opa * 64 },
-    ghost green_is: { green_share ≡ green fg * parts opa },
+    ghost green_is: { green_share ≡ green fg * parts opa * 32 },
     ghost blue_is: { blue_share ≡ blue fg * parts opa },
     ghost all_parts: { parts_left + parts opa ≡ 32 },
-    ghost high_is: { high_parts_left ≡ parts_left * 2048 },
+    ghost red_parts_are: { red_parts_left ≡ parts_left * 64 },
 }
 
 impl Veil {
     pub(crate) fn new(fg: Rgb565, opa: u8) -> Veil
-        requires some { 1 ≤ parts opa }
         ensures fg { result.fg ≡ fg }
         ensures opa { result.opa ≡ opa }
     {
@@ -66,10 +65,10 @@ impl Veil {
             fg,
             opa,
             red_share: red_of(fg) * parts * 64,
-            green_share: green_of(fg) * parts,
+            green_share: green_of(fg) * parts * 32,
             blue_share: blue_of(fg) * parts,
             parts_left,
-            high_parts_left: parts_left * 2048,
+            red_parts_left: parts_left * 64,
         }
     }
 
@@ -78,10 +77,10 @@ impl Veil {
     pub(crate) fn over(self, bg: Rgb565) -> Rgb565
         ensures { result ≡ mix self.fg bg self.opa }
     {
-        let red = upper_product(bg.0 / 2048 * 2048, self.high_parts_left) + self.red_share;
-        let green = upper_product(bg.0 / 32 % 64 * 32, self.high_parts_left) + self.green_share;
-        let blue = bg.0 % 32 * self.parts_left + self.blue_share;
-        Rgb565(red / 2048 * 2048 + green / 32 * 32 + blue / 32)
+        let red = red_of(bg) * self.red_parts_left + self.red_share;
+        let green = green_of(bg) * 32 * self.parts_left + self.green_share;
+        let blue = blue_of(bg) * self.parts_left + self.blue_share;
+        Rgb565(red / 2048 * 2048 + (green / 1024 * 1024 + blue) / 32)
     }
 
     /// The same where a test holds.
@@ -98,14 +97,6 @@ pub(crate) fn parts_of(opa: u8) -> u16
     ensures { result ≡ parts opa }
 {
     (u16::from(opa) + 4) / 8
-}
-
-/// The upper sixteen bits of a product.
-#[inline(always)]
-fn upper_product(a: u16, b: u16) -> u16
-    ensures { result ≡ a * b / 65536 }
-{
-    (u32::from(a) * u32::from(b) / 65536) as u16
 }
 
 /// A channel of two colours mixed: what is left of the lower one, and the share of the upper one. No sum is

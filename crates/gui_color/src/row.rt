@@ -1,6 +1,6 @@
 //! Mixing a colour over rows of pixels.
 ghost use Rattle.std.specs.Prelude.{◌≡◌, ◌≤◌, ◌-◌, ◌++◌, length, map, take};
-ghost use Rattle.gui_base.specs.Color.{mix, parts};
+ghost use Rattle.gui_base.specs.Color.{mix};
 
 use crate::mixing::{ALL_PARTS, Veil, parts_of};
 use gui_base::Rgb565;
@@ -33,7 +33,6 @@ fn cover_row(row: &mut [Rgb565], fg: Rgb565)
 /// together with some before them, as the row's last group: from what the row was, and written when the whole
 /// groups are mixed.
 fn blend_row(row: &mut [Rgb565], fg: Rgb565, opa: u8)
-    requires some { 1 ≤ parts opa }
     ensures { row.new ≡ map (λ bg. mix fg bg opa) row.old }
 {
     let veil = Veil::new(fg, opa);

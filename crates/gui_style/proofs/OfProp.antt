@@ -1,5 +1,5 @@
 -- What is read of the entries of one property alone.
-use Rattle.std.proofs.Common.{◌≡◌, ℕ, suc, Bool, true, false, ◌&&◌, cond, List, [], ◌∷◌, map, fold, slice_get, IfSome, option_map, Option, Some, None, inl, inr, refl, sym, ap, ◌∙◌, subst}
+use Rattle.std.proofs.Common.{◌≡◌, ℕ, suc, Bool, true, false, cond, List, [], ◌∷◌, map, fold, slice_get, IfSome, option_map, Option, Some, None, inl, inr, refl, sym, ap, ◌∙◌, subst}
 use Rattle.std.specs.List.{filter}
 use Rattle.std.proofs.lemmas.Bool.{cases_Bool}
 use Rattle.std.proofs.lemmas.Option.{same_Some}
@@ -11,10 +11,6 @@ use Rattle.style_defs.specs.Cascade.{setting_of, of_entry, stronger}
 use Rattle.style_defs.specs.Firsts.{place_by}
 use Rattle.gui_style.specs.Filed.{has_prop}
 use Rattle.gui_style.specs.Kept.{setting_in}
-
-pub and_first : (a b : Bool) → (a && b) ≡ true → a ≡ true
-and_first true b e = refl
-and_first false b e = e
 
 first_same : {A : Type 0} (x y : A) (xs ys : List A) → x ∷ xs ≡ y ∷ ys → x ≡ y
 first_same x y xs ys e = cc

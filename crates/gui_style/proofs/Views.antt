@@ -1,7 +1,7 @@
 -- What a contract sees once a list of `Styles` has changed.
 use Rattle.std.proofs.Common.{◌≡◌, ◌≢◌, ℕ, zero, suc, ◌+◌, ◌-◌, ◌<◌, ◌≤◌, true, false, eqb, is_some, List, [], ◌∷◌, ◌++◌, length, map, set, slice_get, IfSome, take, drop, Some, None, ℤ, inl, inr, refl, sym, ap, ◌∙◌, subst, arith, length-set}
 use Rattle.std.specs.List.{remove}
-use Rattle.std.proofs.lemmas.Bool.{cases_Bool, eqb-true, eqb-false}
+use Rattle.std.proofs.lemmas.Bool.{and_parts, cases_Bool, eqb-true, eqb-false}
 use Rattle.std.proofs.lemmas.List.{get_or-take, get_or-set_same, get_or-set_other, take-set-le, map-set, map-append, take-map, drop-map, length-map}
 use Rattle.gui_pool.specs.Lists.{Lists, list_of, pushed, replaced, removed}
 use Rattle.gui_pool.specs.Table.{Table, value_at, value_inserted}
@@ -17,7 +17,7 @@ use Rattle.style_defs.specs.Book.{locals_of, uses_of, is_for, is_use, an_entry, 
 use Rattle.gui_style.specs.Styles.{Styles, with_style, with_prop, without_prop, without_use, with_local, without_local, forgotten}
 use Rattle.gui_style.specs.Kept.{first_style, setting_in, style_in, keys_from, styles_of, AreStyles}
 use Rattle.gui_style.specs.Filed.{has_prop}
-use Rattle.gui_style.proofs.OfProp.{placed, place_mapped, and_first}
+use Rattle.gui_style.proofs.OfProp.{placed, place_mapped}
 use Rattle.gui_style.proofs.Answers.{local_at, with_there, with_more, without_there, setting_at, no_setting, with_prop_there, with_prop_more, use_at, without_use_there}
 use Rattle.gui_style.proofs.Shared.{nothing_there, has_made, settings_made, styles_more}
 
@@ -71,7 +71,7 @@ module _ (made : Table (Unit {0})) (entries : Lists Entry) (uses : Lists Use) (k
 
         -- what stands there is of the property
         pub local_placed : IfSome (slice_get (list_of entries h) k) (λ e. has_prop prop e ≡ true)
-        local_placed = placed (is_for selector prop) (has_prop prop) (λ e is. and_first (has_prop prop e) (same_selector (selector_of e) selector) is) (list_of entries h) k (ap (place_by (is_for selector prop)) (sym here) ∙ sym at_view)
+        local_placed = placed (is_for selector prop) (has_prop prop) (λ e is. (and_parts (has_prop prop e) (same_selector (selector_of e) selector) is).0) (list_of entries h) k (ap (place_by (is_for selector prop)) (sym here) ∙ sym at_view)
 
         pub local_replaced : (value : ℤ) → styles_of made (replaced entries h k (an_entry selector prop value)) uses ≡ with_local now h (an_entry selector prop value)
         local_replaced value =

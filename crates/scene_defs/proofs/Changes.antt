@@ -1,5 +1,5 @@
 -- The laws of changes: refusals, limits, and changes of one row.
-use Rattle.std.proofs.Common.{◌≡◌, ◌≢◌, ◌<◌, ◌≤◌, ◌⊎◌, ap, Bool, true, false, Option, Some, None, is_some, option_map, List, [], ◌∷◌, refl, arith, inl, inr}
+use Rattle.std.proofs.Common.{◌≡◌, ◌≢◌, ◌<◌, ◌≤◌, ◌⊎◌, ap, Bool, true, false, Option, Some, None, option_map, List, [], ◌∷◌, refl, arith, inl, inr}
 use Rattle.std.specs.Prelude.{if◌then◌else◌}
 use Rattle.std.proofs.lemmas.Bool.{cases_Bool}
 use Rattle.std.proofs.lemmas.Bool.Decides.{nat_tests}
@@ -9,22 +9,28 @@ use Rattle.gui_base.specs.declared.limits.Pool.TheVariants.{Objects}
 use Rattle.gui_base.specs.declared.refusal.Refusal.{Refusal}
 use Rattle.gui_base.specs.declared.refusal.Refusal.TheVariants.{Range, Full}
 use Rattle.gui_base.specs.Limits.{Bounds}
-use Rattle.gui_base.specs.Refusing.{Reason, Unknown, Test, refusal_of, first_of}
+use Rattle.gui_base.specs.Refusing.{Reason, Test, refusal_of, first_of}
 use Rattle.scene_defs.specs.declared.Change.{Change}
 use Rattle.scene_defs.specs.declared.Change.TheVariants as change
 use Rattle.scene_defs.specs.Scene.{Scene, spare}
 use Rattle.scene_defs.specs.Ranges.{is_in_range}
-use Rattle.scene_defs.specs.Change.{lacks, need_of, first_short, tests, answer_of, answer_in_range, scene_by, scene_after}
+use Rattle.scene_defs.specs.Change.{lacks, need_of, first_short, tests, answer_of, answer_in_range, scene_by, scene_after, changed}
 use Rattle.scene_defs.specs.Laws.{ChangeKeepsLimits, RefusedChangesNothing, RangeComesFirst, FullWithoutRoom, DoneWithRoom, RefusedWhateverLimits, SetsRowAlone, with_limits}
 
 pub after_keeps : (scene : Scene) (change : Change) → (scene_after scene change).limits ≡ scene.limits
 after_keeps scene (change.Screen n) = refl
 after_keeps scene change = refl
 
+-- what holds before a change, and after it where it is done
+pub changed-by : (scene : Scene) (change : Change) (P : Scene → Type 0) → P scene → (answer_of scene change ≡ None → P (scene_after scene change)) →
+    P (changed scene change)
+changed-by scene change P old new = by (answer_of scene change) refl where
+  by : (answer : Option Refusal) → answer_of scene change ≡ answer → P (scene_by answer scene change)
+  by None e = new e
+  by (Some why) e = old
+
 pub change_keeps_limits : ChangeKeepsLimits
-change_keeps_limits scene change =
-    elim (is_some (answer_of scene change)) as (λ b. (if b then scene else scene_after scene change).limits ≡ scene.limits)
-    [ true ↦ refl | false ↦ after_keeps scene change ]
+change_keeps_limits scene change = changed-by scene change (λ s. s.limits ≡ scene.limits) refl (λ e. after_keeps scene change)
 
 pub refused_changes_nothing : RefusedChangesNothing
 refused_changes_nothing scene change refusal e = ap (λ (r : Option Refusal). scene_by r scene change) e
@@ -33,15 +39,15 @@ pub range_comes_first : RangeComesFirst
 range_comes_first scene change out = ap (λ (b : Bool). if b then answer_in_range scene change else Some Range) out
 
 -- The test of the range comes first.
+range_past : (ok : Bool) (later answer : Option Refusal) → answer ≢ Some Range → (if ok then later else Some Range) ≡ answer → (ok ≡ true) × (later ≡ answer)
+range_past ok later answer other e = grind (arith, other, e)
+
 pub range_done : (ok : Bool) (later : Option Refusal) → (if ok then later else Some Range) ≡ None → (ok ≡ true) × (later ≡ None)
-range_done true later e = (refl, e)
-range_done false later e = cc
+range_done ok later e = range_past ok later None (λ i. cc) e
 
 -- Then the tests, none of which answers Full.
 no_full : (short : Option Pool) (reason : Reason) → Some (refusal_of reason) ≢ option_map Full short
-no_full None reason e = cc
-no_full (Some pool) Unknown e = cc
-no_full (Some pool) reason e = cc
+no_full short reason e = grind arith
 
 first-short : (ts : List Test) (short other : Option Pool) → first_of ts (option_map Full short) ≡ option_map Full other → short ≡ other
 first-short [] None None e = refl
@@ -89,10 +95,8 @@ module _ (scene : Scene) (change : Change) where
     by (Some p) e = grind (arith, nat_tests, only p, short-is POOLS p e)
 
 pub full_without_room : FullWithoutRoom
-full_without_room scene change pool e = by (is_in_range change) e where
-  by : (ok : Bool) → (if ok then answer_in_range scene change else Some Range) ≡ Some (Full pool) → spare scene pool < need_of scene change pool
-  by true f = short-is scene change POOLS pool (first-short (tests scene change) _ (Some pool) f)
-  by false f = cc
+full_without_room scene change pool e =
+    short-is scene change POOLS pool (first-short (tests scene change) _ (Some pool) (range_past (is_in_range change) _ (Some (Full pool)) (λ i. cc) e).1)
 
 pub done_with_room : DoneWithRoom
 done_with_room scene change pool e = room_in_range scene change pool (range_done (is_in_range change) _ e).1
@@ -102,26 +106,26 @@ pub first-then : (ts : List Test) (later : Option Refusal) → first_of ts None 
 first-then [] later e = refl
 first-then (t ∷ ts) later e = grind (arith, e, first-then ts later)
 
+first-same : (ts : List Test) (a b : Option Refusal) (why : Refusal) → a ≢ Some why → first_of ts a ≡ Some why → first_of ts b ≡ Some why
+first-same [] a b why n e = absurd (n e)
+first-same (t ∷ ts) a b why n e = grind (arith, e, first-same ts a b why n)
+
 pub first-some : (ts : List Test) (later : Option Refusal) (why : Refusal) → first_of ts None ≡ Some why → first_of ts later ≡ Some why
-first-some [] later why e = cc
-first-some (t ∷ ts) later why e = grind (arith, e, first-some ts later why)
+first-some ts later why e = first-same ts None later why (λ i. cc) e
 
 -- The tests do not look at the limits.
 same_tests : (scene : Scene) (limits : Bounds) (change : Change) → tests (with_limits scene limits) change ≡ tests scene change
 same_tests scene limits (change.Screen n) = refl
 same_tests scene limits change = refl
 
-first-same : (ts : List Test) (short other : Option Pool) (why : Refusal) → ((pool : Pool) → why ≢ Full pool) →
-    first_of ts (option_map Full short) ≡ Some why → first_of ts (option_map Full other) ≡ Some why
-first-same [] (Some pool) other why n e = absurd (n pool (cc))
-first-same [] None other why n e = cc
-first-same (t ∷ ts) short other why n e = grind (arith, e, first-same ts short other why n)
+not_full : (short : Option Pool) (why : Refusal) → ((pool : Pool) → why ≢ Full pool) → option_map Full short ≢ Some why
+not_full short why n e = grind (arith, n)
 
 pub refused_whatever_limits : RefusedWhateverLimits
 refused_whatever_limits scene limits change why n e = by (is_in_range change) e where
   by : (ok : Bool) → (if ok then answer_in_range scene change else Some Range) ≡ Some why →
       (if ok then answer_in_range (with_limits scene limits) change else Some Range) ≡ Some why
-  by true f = rw (same_tests scene limits change) (first-same (tests scene change) (first_short scene change POOLS) _ why n f)
+  by true f = rw (same_tests scene limits change) (first-same (tests scene change) _ _ why (not_full (first_short scene change POOLS) why n) f)
   by false f = f
 
 -- none of these tests holds
@@ -132,6 +136,9 @@ Fail (t ∷ ts) = (t.0 ≡ false) × Fail ts
 pub tests-fail : (ts : List Test) (short : Option Pool) → first_of ts (option_map Full short) ≡ None → Fail ts
 tests-fail [] short e = tt
 tests-fail (t ∷ ts) short e = grind (arith, e, tests-fail ts short)
+
+pub passed : (scene : Scene) (change : Change) → answer_of scene change ≡ None → Fail (tests scene change)
+passed scene change e = tests-fail (tests scene change) (first_short scene change POOLS) (range_done (is_in_range change) _ e).1
 
 pub sets_row_alone : SetsRowAlone
 sets_row_alone scene (change.Screen n) h e = cc

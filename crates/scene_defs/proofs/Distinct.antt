@@ -1,5 +1,5 @@
 -- Rows whose handles stand once each.
-use Rattle.std.proofs.Common.{◌≡◌, ◌≢◌, ◌+◌, ◌≤◌, ℕ, Bool, true, false, ◌||◌, refl, arith}
+use Rattle.std.proofs.Common.{◌≡◌, ◌≢◌, ◌+◌, ◌≤◌, ℕ, Bool, true, ◌||◌, refl, arith}
 use Rattle.std.proofs.lemmas.Bool.Decides.{nat_tests}
 use Rattle.gui_base.specs.Forest.{Forest, Empty, Tree, and_then, has_by, count, StandsOnce}
 use Rattle.gui_base.proofs.Visits.{IsDistinct as NoTwo, distinct_once as no_two_once}
@@ -15,10 +15,6 @@ IsDistinct f = NoTwo handle_of f
 
 pub distinct_once : (f : Forest Object) → StandsOnce (handles_of f) → IsDistinct f
 distinct_once = no_two_once handle_of
-
-pub count-off : (f : Forest Object) (k : ℕ) → there f k ≡ false → count (handles_of f) k ≡ 0
-count-off Empty k off = refl
-count-off (Tree object cs rest) k off = grind (arith, nat_tests, count-off cs k, count-off rest k)
 
 pub there-and_then : (f g : Forest Object) (k : ℕ) → there (and_then f g) k ≡ (there f k || there g k)
 there-and_then Empty g k = refl

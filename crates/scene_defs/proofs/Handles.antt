@@ -1,13 +1,9 @@
 -- What is found by the handles of trees is found by their rows.
-use Rattle.std.proofs.Common.{◌≡◌, ◌∙◌, sym, ap, ℕ, eqb, None, is_some, option_map, Option, Some, refl}
+use Rattle.std.proofs.Common.{◌≡◌, ℕ, eqb, None, is_some, arith}
 use Rattle.gui_base.specs.Forest.{Forest, height, has, tree_at, tree_by, parent_of, parent_by, depth_of, depth_by}
 use Rattle.gui_base.proofs.Forests.{map-height, map-has_by, map-tree_by, map-depth_by, map-parent_by}
 use Rattle.scene_defs.specs.Scene.{Object, handle_of, handles_of, is_at}
 use Rattle.scene_defs.proofs.Distinct.{there}
-
-some-mapped : {A B : Type 0} (f : A → B) (o : Option A) → is_some (option_map f o) ≡ is_some o
-some-mapped f None = refl
-some-mapped f (Some a) = refl
 
 module _ (f : Forest Object) (h : ℕ) where
   pub has-handles : has (handles_of f) h ≡ there f h
@@ -17,13 +13,10 @@ module _ (f : Forest Object) (h : ℕ) where
   depth-handles = map-depth_by handle_of (λ k. eqb k h) f
 
   pub parent-handles : is_some (parent_of (handles_of f) h) ≡ is_some (parent_by (is_at h) None f)
-  parent-handles = ap is_some (sym (map-parent_by handle_of (λ k. eqb k h) None f)) ∙ some-mapped handle_of (parent_by (is_at h) None f)
-
-  tree-handles : tree_at (handles_of f) h ≡ handles_of (tree_by (is_at h) f)
-  tree-handles = sym (map-tree_by handle_of (λ k. eqb k h) f)
+  parent-handles = grind (arith, map-parent_by handle_of (λ k. eqb k h) None f)
 
   pub height-handles : height (tree_at (handles_of f) h) ≡ height (tree_by (is_at h) f)
-  height-handles = ap height tree-handles ∙ map-height handle_of (tree_by (is_at h) f)
+  height-handles = rw (← map-tree_by handle_of (λ k. eqb k h) f) (map-height handle_of (tree_by (is_at h) f))
 
   pub below-handles : (p : ℕ) → has (tree_at (handles_of f) h) p ≡ there (tree_by (is_at h) f) p
-  below-handles p = ap (λ (t : Forest ℕ). has t p) tree-handles ∙ map-has_by handle_of (λ k. eqb k p) (tree_by (is_at h) f)
+  below-handles p = rw (← map-tree_by handle_of (λ k. eqb k h) f) (map-has_by handle_of (λ k. eqb k p) (tree_by (is_at h) f))

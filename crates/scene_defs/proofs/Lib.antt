@@ -4,7 +4,6 @@ pub mod Distinct
 pub mod Finished
 pub mod Handles
 pub mod InRange
-pub mod Pictured
 pub mod Pictures
 pub mod Ready
 pub mod RowKinds

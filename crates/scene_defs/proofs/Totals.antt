@@ -35,11 +35,6 @@ module _ (w : Object → ℕ) where
   total-parts (Tree object cs rest) h d =
       grind (arith, nat_tests, d.0 h, d.2, cut-off cs h, cut-off rest h, total-parts cs h d.3, total-parts rest h d.4)
 
-  -- one object of all
-  pub total-object : (f : Forest Object) (h : ℕ) (r : Object) → object_by (is_at h) f ≡ Some r → w r ≤ total w f
-  total-object Empty h r e = cc
-  total-object (Tree object cs rest) h r e = grind (arith, nat_tests, e, total-object cs h r, total-object rest h r)
-
 abbrev pub one : Object → ℕ
 one object = 1
 

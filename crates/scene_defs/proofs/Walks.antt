@@ -1,22 +1,24 @@
 -- One walk down the trees meets what is shown.
-use Rattle.std.proofs.Common.{◌≡◌, ◌∙◌, sym, ℕ, if◌then◌else◌, Bool, true, false, Option, Some, None, is_some, List, [], ◌∷◌, ◌++◌, map, refl, inl, inr, arith}
+use Rattle.std.proofs.Common.{◌≡◌, ◌∙◌, sym, ℕ, Bool, true, false, Option, Some, None, is_some, List, ◌∷◌, ◌++◌, map, refl, arith}
 use Rattle.std.specs.List.{filter, All}
-use Rattle.std.specs.Option.{IfSome}
+use Rattle.std.specs.Option.{IfSome, IsSomeAnd}
 use Rattle.std.proofs.lemmas.List.{map-append}
-use Rattle.std.proofs.lemmas.List.Elements.{filter-append, All-append, All-nil, All-cons}
-use Rattle.std.proofs.lemmas.Bool.{cases_Bool, and_parts}
+use Rattle.std.proofs.lemmas.List.Elements.{filter-append, filter_passes, All-append, All-filter, All-map, All-nil, All-cons}
+use Rattle.std.proofs.lemmas.Option.{IfSome_then}
+use Rattle.std.proofs.lemmas.Bool.{cond_both, and_parts}
 use Rattle.std.proofs.lemmas.Bool.Decides.{nat_tests}
 use Rattle.gui_base.specs.declared.words.Flag.TheVariants.{Hidden}
 use Rattle.gui_base.specs.Area.{Rect, is_empty, common, Covers}
 use Rattle.gui_base.specs.Forest.{Forest, Empty, Tree, preorder}
 use Rattle.gui_base.proofs.Areas.{has-common}
 use Rattle.scene_defs.specs.Row.{is_on}
-use Rattle.scene_defs.specs.Scene.{Object, Scene, is_at, handles_of}
+use Rattle.scene_defs.specs.Scene.{Object, is_at, handles_of}
 use Rattle.scene_defs.specs.Place.{panel_of, place}
 use Rattle.scene_defs.specs.Visible.{met, seen_of, visible_in, visible, shown_trees}
 use Rattle.gui_base.specs.Coats.{Coat}
 use Rattle.scene_defs.specs.Items.{coats}
-use Rattle.scene_defs.specs.Shown.{Seen, order, seen}
+use Rattle.scene_defs.specs.Shown.{Seen, order, seen, shown}
+use Rattle.std.specs.Prelude.{slice_index_or}
 use Rattle.scene_defs.specs.Walk.{seen_alone, walked, ShownByWalk, NothingBelowNothing, IsSeenInside, WalkedInside, ShownInside}
 use Rattle.scene_defs.proofs.Distinct.{there, IsDistinct, distinct-three}
 
@@ -54,10 +56,6 @@ shown_by_walk scene showable =
     (distinct-three scene.trees scene.active showable.once showable.above_top showable.above_system) (λ k i. refl)
 
 -- What is seen lies inside the clip.
-pub either : {A : Type 0} (P : A → Type 0) (c : Bool) {a b : A} → P a → P b → P (if c then a else b)
-either P true this that = this
-either P false this that = that
-
 module _ (area : Rect) where
   abbrev LiesIn : Rect → Type 0
   LiesIn v = (is_empty v ≡ false) × Covers area v
@@ -68,54 +66,42 @@ module _ (area : Rect) where
   met_inside : (clip place : Option Rect) → IfSome clip (Covers area) → Inside (met clip place)
   met_inside None place covers = tt
   met_inside (Some clip) None covers = tt
-  met_inside (Some clip) (Some place) covers = elim (cases_Bool (is_empty (common clip place))) [
-    | inl none ↦ rw none tt
-    | inr some ↦ rw some (some, λ x y i. covers x y (and_parts _ _ (sym (has-common clip place x y) ∙ i)).0)
-  ]
-
-  covered : (v : Option Rect) → Inside v → IfSome v (Covers area)
-  covered None inside = tt
-  covered (Some v) inside = inside.1
-
-  -- lists of what is seen
-  abbrev AllInside : List Seen → Type 0
-  AllInside = All (IsSeenInside area)
-
-  object_inside : (items : ℕ → List Coat) (v : Option Rect) (h : ℕ) (more : List Seen) → Inside v → AllInside more → AllInside (seen_alone items v h ++ more)
-  object_inside items None h more inside later = later
-  object_inside items (Some v) h more inside later = All-cons (IsSeenInside area) _ more inside later
+  met_inside (Some clip) (Some place) covers =
+      cond_both (is_empty (common clip place)) None (Some (common clip place)) Inside (λ e. tt)
+      (λ some. (some, λ x y i. covers x y (and_parts _ _ (sym (has-common clip place x y) ∙ i)).0))
 
   seen_inside : (at : ℕ → Option Rect) (clip : Option Rect) (object : Object) → IfSome clip (Covers area) → Inside (seen_of at clip object)
-  seen_inside at clip object covers = either Inside (is_on object.row.flags Hidden) tt (met_inside clip (at object.handle) covers)
+  seen_inside at clip object covers = cond_both (is_on object.row.flags Hidden) _ _ Inside (λ e. tt) (λ e. met_inside clip (at object.handle) covers)
 
   visible_inside : (at : ℕ → Option Rect) (clip : Option Rect) (f : Forest Object) (k : ℕ) → IfSome clip (Covers area) → Inside (visible_in at clip f k)
   visible_inside at clip Empty k covers = tt
   visible_inside at clip (Tree object cs rest) k covers =
       let inside = seen_inside at clip object covers in
-      let below = visible_inside at (seen_of at clip object) cs k (covered _ inside) in
-      either Inside (is_at k object) inside (either Inside (there cs k) below (visible_inside at clip rest k covers))
+      let below = visible_inside at (seen_of at clip object) cs k (IfSome_then (seen_of at clip object) inside (λ v lies. lies.1)) in
+      cond_both (is_at k object) _ _ Inside (λ e. inside) (λ e. cond_both (there cs k) _ _ Inside (λ e. below) (λ e. visible_inside at clip rest k covers))
 
-  walk_inside : (at : ℕ → Option Rect) (items : ℕ → List Coat) (clip : Option Rect) (f : Forest Object) → IfSome clip (Covers area) → AllInside (walked at items clip f)
+  walk_inside : (at : ℕ → Option Rect) (items : ℕ → List Coat) (clip : Option Rect) (f : Forest Object) → IfSome clip (Covers area) →
+      All (IsSeenInside area) (walked at items clip f)
   walk_inside at items clip Empty covers = All-nil (IsSeenInside area)
   walk_inside at items clip (Tree object cs rest) covers =
       let v = seen_of at clip object in
       let inside = seen_inside at clip object covers in
-      object_inside items v object.handle _ inside (All-append (IsSeenInside area) (walked at items v cs) (walked at items clip rest)
-      (walk_inside at items v cs (covered v inside)) (walk_inside at items clip rest covers))
-
-  one_inside : (h : ℕ) (v : Option Rect) (is : List Coat) (more : List Seen) → Inside v → AllInside (filter is_seen more) →
-      AllInside (filter is_seen (record { handle = h; visible = v; coats = is } ∷ more))
-  one_inside h None is more inside later = later
-  one_inside h (Some v) is more inside later = All-cons (IsSeenInside area) _ (filter is_seen more) inside later
-
-  all_inside : (scene : Scene) (ks : List ℕ) → ((k : ℕ) → Inside (visible scene k)) → AllInside (filter is_seen (map (seen scene) ks))
-  all_inside scene [] each = All-nil (IsSeenInside area)
-  all_inside scene (k ∷ ks) each = one_inside k (visible scene k) (coats scene k) (map (seen scene) ks) (each k) (all_inside scene ks each)
+      let below = walk_inside at items v cs (IfSome_then v inside (λ v lies. lies.1)) in
+      by v inside _ (All-append (IsSeenInside area) (walked at items v cs) (walked at items clip rest) below (walk_inside at items clip rest covers)) where
+        by : (v : Option Rect) → Inside v → (more : List Seen) → All (IsSeenInside area) more → All (IsSeenInside area) (seen_alone items v object.handle ++ more)
+        by None inside more later = later
+        by (Some v) inside more later = All-cons (IsSeenInside area) _ more inside later
 
 pub walked_inside : WalkedInside
 walked_inside place items clip trees = walk_inside clip place items (Some clip) trees (λ x y i. i)
 
 pub shown_inside : ShownInside
-shown_inside scene =
+shown_inside scene k d lt =
     let panel = panel_of scene in
-    all_inside panel scene (order scene) (λ k. visible_inside panel (place scene) (Some panel) (shown_trees scene) k (λ x y i. i))
+    let all = map (seen scene) (order scene) in
+    let inside = λ (k : ℕ). visible_inside panel (place scene) (Some panel) (shown_trees scene) k (λ x y i. i) in
+    let lies = All-map (λ s. Inside panel s.visible) (seen scene) (order scene) (λ k d lt. inside (slice_index_or (order scene) k d)) in
+    by (slice_index_or (shown scene) k d).visible (filter_passes is_seen all k d lt) (All-filter is_seen (λ s. Inside panel s.visible) all lies k d lt) where
+      by : (v : Option Rect) → is_some v ≡ true → Inside (panel_of scene) v → IsSomeAnd v (LiesIn (panel_of scene))
+      by None some inside = cc
+      by (Some v) some inside = inside

@@ -1,5 +1,5 @@
 -- How a run goes on over bytes.
-use Rattle.std.proofs.Common.{◌≡◌, ◌∙◌, sym, ap, subst, ℕ, ◌+◌, List, [], ◌∷◌, ◌++◌, length, length-append, append_assoc, append-nil, arith}
+use Rattle.std.proofs.Common.{◌≡◌, ◌∙◌, sym, ap, subst, ℕ, ◌+◌, List, [], ◌∷◌, ◌++◌, length, length-append, append_assoc, append-nil, arith, rules}
 use Rattle.run_defs.specs.Script.{says_cut}
 use Rattle.run_defs.proofs.Lines.{says_cut-longer}
 use Rattle.scene_script.specs.Cutting.{Cutting, Takes, Finishes, cut_says}
@@ -8,10 +8,7 @@ use Rattle.scene_run.specs.Running.{Running, Reading, Answered, HasRead, GoesOn,
 use Rattle.scene_run.proofs.Going.{ready_less, halted_on}
 
 pub reads_none : (now : Reading) → Reads now now []
-reads_none now = record {
-  from = λ first start before h. subst (HasRead first start now) (sym (append-nil before)) h;
-  ready = λ room h. ready_less now.run _ room (omega arith) h;
-}
+reads_none now = record { from = λ first start before h. rw (append-nil before) h; ready = λ room h. search rules }
 
 pub reads_byte : (old new : Reading) (cutter : Cutting) (byte : ℕ) → Takes old.cutter cutter byte → new.cutter ≡ cutter → GoesOn old.run new.run (cut_says cutter) → Reads old new (byte ∷ [])
 reads_byte old new cutter byte takes same goes = record {

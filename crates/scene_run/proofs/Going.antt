@@ -1,7 +1,6 @@
 -- How a run goes on over a line.
-use Rattle.std.proofs.Common.{◌≡◌, ◌∙◌, sym, ap, subst, ℕ, ◌+◌, ◌≤◌, ◌||◌, Bool, List, [], ◌∷◌, ◌++◌, length, length-append, append_assoc, append-nil, arith, refl, inl, inr}
+use Rattle.std.proofs.Common.{◌≡◌, ◌∙◌, sym, ap, subst, ℕ, ◌+◌, ◌-◌, ◌≤◌, ◌||◌, Bool, List, [], ◌∷◌, ◌++◌, length, length-append, append_assoc, append-nil, arith, rules, refl, inl, inr, Option}
 use Rattle.std.specs.Prelude.{IfSome, None}
-use Rattle.std.specs.declared.option.Option.{Option}
 use Rattle.std.specs.Option.{option_to_list}
 use Rattle.std.proofs.lemmas.List.Folds.{list_any-append}
 use Rattle.scene_defs.specs.Scene.{Scene}
@@ -15,26 +14,21 @@ use Rattle.gui_damage.specs.Pending.{Pending}
 use Rattle.gui_refresh.specs.Owing.{standing_of}
 use Rattle.gui_play.specs.Panels.{ShowsScene, AgreesWith}
 use Rattle.run_debts.specs.Accounts.{LineCounts}
-use Rattle.scene_run.specs.Effects.{Output, Effects, LineBreaks, SendsAsOwed, WriteFailed, Halted}
+use Rattle.run_debts.proofs.Runs.{may_send_more}
+use Rattle.scene_run.specs.Effects.{Output, Effects, LineBreaks, WriteFailed, Halted}
 use Rattle.scene_run.specs.Running.{Running, IsReady, Answered, GoesOn, Halts}
 use Rattle.scene_run.proofs.Effects.{Effects-more}
-use Rattle.scene_run.proofs.Owing.{accounted_line, sends_as_owed, halted_as_owed, owed_more}
+use Rattle.scene_run.proofs.Owing.{accounted_line, sends_as_owed}
 
 -- a panel with the sizes of this moment has those of the first one, since no line changes the limits
 pub first_sizes : (first : Machine) (start new : Output) (now : Running) (lines : List Said) → Answered first start now lines → HasSizes new.panel now.moment.machine.scene.limits → HasSizes new.panel first.scene.limits
 first_sizes first start new now lines h sizes = subst (HasSizes new.panel) (ap (λ (m : Moment). m.machine.scene.limits) h.moment ∙ after_all-limits (first_moment first) lines) sizes
 
 pub ready_less : (now : Running) (room less : ℕ) → less ≤ room → IsReady now room → IsReady now less
-ready_less now room less le h = record { sizes = h.sizes; agrees = h.agrees; number = omega (arith, h.number); frame = omega (arith, h.frame) }
+ready_less now room less le h = search rules
 
 pub goes_on_none : (now : Running) → GoesOn now now []
-goes_on_none now = record {
-  from = λ first start before h. subst (Answered first start now) (sym (append-nil before)) h;
-  ready = λ room h. ready_less now (room + 1) room (omega arith) h;
-}
-
-pub same_moment : {m n : Machine} {a b c d : ℕ} → m ≡ n → a ≡ b → c ≡ d → moment m a c ≡ moment n b d
-same_moment e f h = rw (e, f, h) refl
+goes_on_none now = record { from = λ first start before h. rw (append-nil before) h; ready = λ room h. search rules }
 
 unfoldable pub goes_on_one : (old new : Running) (said : Said) (outcome : Option Outcome) (n : Bool) →
     ((seen : Option Scene) → IfSome seen (ShowsScene old.output.panel) → Effects old.output new.output seen (told (entry old.moment said ∷ []) (option_to_list outcome))) →
@@ -68,15 +62,8 @@ goes_on_one old new said outcome n effects asked notes_are machine number frame 
     frame = omega (arith, after_all-frame old.moment (said ∷ []), h.frame);
   };
 } where
-  next : new.moment ≡ after old.moment said
-  next = same_moment machine number (frame ∙ ap (λ (k : ℕ). old.moment.frame + k) asked)
-
--- the same, where the lines are said in another way
-pub goes_on_said : (old new : Running) (lines others : List Said) → lines ≡ others → GoesOn old new lines → GoesOn old new others
-goes_on_said old new lines others e h = subst (GoesOn old new) e h
-
-pub halts_said : (old : Running) (new : Output) (lines others : List Said) → lines ≡ others → Halts old new lines → Halts old new others
-halts_said old new lines others e h = subst (Halts old new) e h
+  next : moment new.moment.machine new.moment.number new.moment.frame ≡ after old.moment said
+  next = rw (machine, number, frame, asked) refl
 
 pub halts_at : (old : Running) (new : Output) (pending : Pending) (said : Said) → LineBreaks old.moment.machine old.moment.number old.moment.frame said old.output new old.pending pending →
     HasSizes new.panel old.moment.machine.scene.limits → Halts old new (said ∷ [])
@@ -85,6 +72,7 @@ halts_at old new pending said broke sizes = record {
       let now = after_all (first_moment first) before in
       let there : LineBreaks now.machine now.number now.frame said old.output new old.pending pending = subst (λ (m : Moment). LineBreaks m.machine m.number m.frame said old.output new old.pending pending) h.moment broke in
       let account = accounted_line first _ before h.answers.outcomes now said there.breaks.last _ _ refl h.answers.each there.counts h.accounted in
+      let many = frame_count_more (first_moment first) now before (said ∷ []) refl in
       record {
         answered = before;
         said = said;
@@ -94,34 +82,28 @@ halts_at old new pending said broke sizes = record {
         answers = h.answers;
         breaks = there.breaks;
         slices = first_sizes first start new old before h sizes;
-        owed = halted_as_owed first start.panel new.panel pending before said [] h.answers.outcomes there.breaks.last h.answers.each there.breaks.one account;
+        owed = sends_as_owed first start.panel new.panel pending (before ++ said ∷ []) (h.answers.outcomes ++ there.breaks.last) (omega (arith, length-append h.answers.outcomes there.breaks.last, h.answers.each, there.breaks.one, many)) account;
       };
 }
 
--- the outcomes of a halted run are those of its frames
-halted_few : (first : Machine) (start now : Output) (lines : List Said) (h : Halted first start now lines) → length (h.answers.outcomes ++ h.breaks.last) ≤ frame_count (entries (first_moment first) lines)
-halted_few first start now lines h =
-    let at = after_all (first_moment first) h.answered in
-    let many = frame_count_more (first_moment first) at h.answered (h.said ∷ h.unreached) refl in
-    let one = frame_count-cons (entry at h.said) (entries (after at h.said) h.unreached) in
-    let alone = frame_count-cons (entry at h.said) [] in
-    let all = ap (λ (ls : List Said). frame_count (entries (first_moment first) ls)) h.lines_are in
-    omega (arith, length-append h.answers.outcomes h.breaks.last, h.answers.each, h.breaks.one, many, one, alone, all)
-
 -- more lines, which were not reached, change nothing of it
 pub halted_on : (first : Machine) (start now : Output) (lines more all : List Said) → all ≡ lines ++ more → Halted first start now lines → Halted first start now all
-halted_on first start now lines more all e h = record {
-  answered = h.answered;
-  said = h.said;
-  unreached = h.unreached ++ more;
-  lines_are = sym (append_assoc h.answered (h.said ∷ h.unreached) more) ∙ (ap (λ (t : List Said). t ++ more) h.lines_are ∙ sym e);
-  between = h.between;
-  answers = h.answers;
-  breaks = h.breaks;
-  slices = h.slices;
-  owed = subst (λ (ls : List Said). SendsAsOwed first start.panel now.panel ls (h.answers.outcomes ++ h.breaks.last)) (sym e)
-      (owed_more first start.panel now.panel lines more (h.answers.outcomes ++ h.breaks.last) (halted_few first start now lines h) h.owed);
-}
+halted_on first start now lines more all e h =
+    let many = frame_count_more (first_moment first) (after_all (first_moment first) h.answered) h.answered (h.said ∷ h.unreached) refl in
+    let same = ap (λ (ls : List Said). frame_count (entries (first_moment first) ls)) h.lines_are in
+    let few : length (h.answers.outcomes ++ h.breaks.last) ≤ frame_count (entries (first_moment first) lines) =
+    omega (arith, length-append h.answers.outcomes h.breaks.last, h.answers.each, h.breaks.one, many, frame_count-cons, same) in
+    let raised = may_send_more first lines more (h.answers.outcomes ++ h.breaks.last) (now.panel.flush_faults - start.panel.flush_faults) few in record {
+      answered = h.answered;
+      said = h.said;
+      unreached = h.unreached ++ more;
+      lines_are = sym (append_assoc h.answered (h.said ∷ h.unreached) more) ∙ (ap (λ (t : List Said). t ++ more) h.lines_are ∙ sym e);
+      between = h.between;
+      answers = h.answers;
+      breaks = h.breaks;
+      slices = h.slices;
+      owed = rw e (omega (arith, h.owed, raised));
+    }
 
 -- the count of failed writes rose since the start
 pub halted_cause : (first : Machine) (start now : Output) (lines : List Said) → Halted first start now lines → WriteFailed start now

@@ -6,4 +6,3 @@ pub mod Gone
 pub mod Headlines
 pub mod MadeRuns
 pub mod Owing
-pub mod Sent

@@ -1,10 +1,7 @@
 use Rattle.std.proofs.Common.{◌≡◌, ◌∙◌, ap, sym, subst, ℕ, List, length}
-use Rattle.std.specs.Prelude.{OnOk, OnErr, Ok, Err}
-use Rattle.std.specs.declared.result.Result.{Result}
-use Rattle.std.specs.Io.KnownBytes.{Appends}
+use Rattle.std.proofs.lemmas.Result.{on_ok_weaker, on_err_weaker}
 use Rattle.gui_core.specs.Machines.{machine_of}
 use Rattle.gui_core.specs.Sums.{picture_sum}
-use Rattle.gui_edge.specs.Sink.{AppendsPrefix}
 use Rattle.run_defs.specs.Run.{Told}
 use Rattle.run_defs.specs.Script.{Said}
 use Rattle.scene_run.specs.Counting.{Counts}
@@ -13,14 +10,6 @@ use Rattle.scene_run.specs.declared.made.Making.{Making}
 use Rattle.scene_run.proofs.made.tell.Given.{Over}
 use Rattle.scene_run.proofs.made.tell.Goals as goal
 use Rattle.scene_run.proofs.made.tell.Goals.{After-put}
-
-map_ok : {T E P Q : Type 0} (r : Result T E) → (P → Q) → OnOk r P → OnOk r Q
-map_ok (Ok x) f p = f p
-map_ok (Err e) f p = tt
-
-map_err : {T E P Q : Type 0} (r : Result T E) → (P → Q) → OnErr r P → OnErr r Q
-map_err (Ok x) f p = tt
-map_err (Err e) f p = f p
 
 module _ (g : Over) (c : After-put g) where
   said : (lines : List Said) (ts : List Told) → Counts c.args.run.now lines ts → c.as_slice.result.now ≡ summary c.args.k (length lines) ts (picture_sum (machine_of c.args.run.now.gui).scene)
@@ -31,8 +20,8 @@ module _ (g : Over) (c : After-put g) where
 
 pub returns-clause-ok : goal.returns-clause-ok
 returns-clause-ok g c =
-    map_ok c.put.result (λ appends. λ lines ts counts. subst (Appends (g.L.Sink.state c.args.log.now).held (g.L.Sink.state c.put.new.self).held) (said g c lines ts counts) appends) c.put.ensures.ok
+    on_ok_weaker c.put.result (λ appends. λ lines ts counts. rw (said g c lines ts counts) at appends) c.put.ensures.ok
 
 pub returns-clause-err : goal.returns-clause-err
 returns-clause-err g c =
-    map_err c.put.result (λ appends. λ lines ts counts. subst (AppendsPrefix (g.L.Sink.state c.args.log.now).held (g.L.Sink.state c.put.new.self).held) (said g c lines ts counts) appends) c.put.ensures.err
+    on_err_weaker c.put.result (λ appends. λ lines ts counts. rw (said g c lines ts counts) at appends) c.put.ensures.err

@@ -6,62 +6,44 @@ use Rattle.scene_run.proofs.Going.{ready_less}
 use Rattle.scene_run.proofs.Gone.{gone_more, runs_unread, runs_whole, runs_broken_last, runs_broken, runs_long}
 use Rattle.scene_run.proofs.reading.read_pieces.Goals as goal
 
-pub loop-init : goal.loop-init
-loop-init g c = record {
-  gone = λ first start gone. gone;
-  ready = c.requires;
-  within = omega arith;
-  turns = omega arith;
-  source_faults = omega arith;
-}
-
 pub returns-in-Err-clause-runs : goal.returns-in-Err-clause-runs
 returns-in-Err-clause-runs g c = λ first start gone. runs_unread _ _ _ _ _ _ (c.loop.invariant.gone first start gone) c.in-Err.ensures.bytes
 
 pub returns-in-Ok-finish-clause-runs : goal.returns-in-Ok-finish-clause-runs
 returns-in-Ok-finish-clause-runs g c = λ first start gone.
     let none = c.in-Ok.ensures.bytes in
-    rw c.status.ensures (runs_whole _ _ _ _ _ _ _ (c.loop.invariant.gone first start gone) (rw c.if-count-eq0.true at none.0) (none.1 c.if-count-eq0.true (omega arith)) c.in-Ok-finish.ensures.ok)
+    rw c.status.ensures (runs_whole _ _ _ _ _ _ (c.loop.invariant.gone first start gone) (rw c.if-count-eq0.true at none.0) (none.1 c.if-count-eq0.true (omega arith)) _ c.in-Ok-finish.ensures.ok)
 
 -- a run that came to its end was started, and does not end by a fault
-module _ (noted : Bool) (status : Status) (is : status ≡ (if noted then Noted else Done)) where
-  was_started : IfUnstarted status ⊥
-  was_started = rw is (by noted) where
-    by : (noted : Bool) → IfUnstarted (if noted then Noted else Done) ⊥
-    by true = tt
-    by false = tt
-
-  no_fault : status ≢ ReadFault
-  no_fault = rw is (by noted) where
-    by : (noted : Bool) → (if noted then Noted else Done) ≢ ReadFault
-    by true = λ e. cc
-    by false = λ e. cc
+ended_well : (noted : Bool) (status : Status) → status ≡ (if noted then Noted else Done) → IfUnstarted status ⊥ × (status ≢ ReadFault)
+ended_well true status is = rw is (tt, λ e. cc)
+ended_well false status is = rw is (tt, λ e. cc)
 
 pub returns-in-Ok-finish-clause-started : goal.returns-in-Ok-finish-clause-started
-returns-in-Ok-finish-clause-started g c = was_started _ c.status.result c.status.ensures
+returns-in-Ok-finish-clause-started g c = (ended_well _ c.status.result c.status.ensures).0
 
 pub returns-in-Ok-finish-clause-read_fault : goal.returns-in-Ok-finish-clause-read_fault
-returns-in-Ok-finish-clause-read_fault g c = λ e. absurd (no_fault _ c.status.result c.status.ensures e)
+returns-in-Ok-finish-clause-read_fault g c = λ e. absurd ((ended_well _ c.status.result c.status.ensures).1 e)
 
 pub returns-in-Err-finish-clause-runs : goal.returns-in-Err-finish-clause-runs
 returns-in-Err-finish-clause-runs g c = λ first start gone.
     let none = c.in-Ok.ensures.bytes in
-    runs_broken_last _ _ _ _ _ _ _ (c.loop.invariant.gone first start gone) (rw c.if-count-eq0.true at none.0) (none.1 c.if-count-eq0.true (omega arith)) c.in-Err-finish.ensures.err
+    runs_broken_last _ _ _ _ _ _ (c.loop.invariant.gone first start gone) (rw c.if-count-eq0.true at none.0) (none.1 c.if-count-eq0.true (omega arith)) _ c.in-Err-finish.ensures.err
 
 pub returns-in-Err-take_piece-clause-runs : goal.returns-in-Err-take_piece-clause-runs
 returns-in-Err-take_piece-clause-runs g c = λ first start gone.
-    runs_broken _ _ _ _ _ _ c.read.new.buf _ c.in-Ok.count c.loop.room c.in-Ok.ensures.bound.0 (c.split_at.ensures.front ∙ ap (λ k. take k c.read.new.buf) c.min.ensures)
-    (c.loop.invariant.gone first start gone) c.in-Ok.ensures.bytes.0 c.in-Err-take_piece.ensures.err
+    runs_broken _ _ _ _ _ _ (c.loop.invariant.gone first start gone) c.read.new.buf _ c.in-Ok.count c.in-Ok.ensures.bound.0 (c.split_at.ensures.front ∙ ap (λ k. take k c.read.new.buf) c.min.ensures)
+    c.in-Ok.ensures.bytes.0 _ c.in-Err-take_piece.ensures.err
 
 pub returns-then-count-room-clause-runs : goal.returns-then-count-room-clause-runs
 returns-then-count-room-clause-runs g c = λ first start gone.
-    runs_long _ _ _ _ _ _ c.read.new.buf _ c.in-Ok.count c.loop.room c.in-Ok.ensures.bound.0 (c.split_at.ensures.front ∙ ap (λ k. take k c.read.new.buf) c.min.ensures) c.if-count-room.true
-    (c.loop.invariant.gone first start gone) c.in-Ok.ensures.bytes.0 c.in-Ok-take_piece.ensures.ok
+    runs_long _ _ _ _ _ _ (c.loop.invariant.gone first start gone) c.read.new.buf _ c.in-Ok.count c.in-Ok.ensures.bound.0 (c.split_at.ensures.front ∙ ap (λ k. take k c.read.new.buf) c.min.ensures)
+    c.in-Ok.ensures.bytes.0 _ c.if-count-room.true c.in-Ok-take_piece.ensures.ok
 
 pub loop-preserved : goal.loop-preserved
 loop-preserved g c = record {
-  gone = λ first start gone. gone_more _ _ _ _ _ _ c.read.new.buf _ c.in-Ok.count c.loop.room c.in-Ok.ensures.bound.0 (c.split_at.ensures.front ∙ ap (λ k. take k c.read.new.buf) c.min.ensures) c.if-count-room.false
-      (c.loop.invariant.gone first start gone) c.in-Ok.ensures.bytes.0 c.in-Ok-take_piece.ensures.ok;
+  gone = λ first start gone. gone_more _ _ _ _ _ _ (c.loop.invariant.gone first start gone) c.read.new.buf _ c.in-Ok.count c.in-Ok.ensures.bound.0 (c.split_at.ensures.front ∙ ap (λ k. take k c.read.new.buf) c.min.ensures)
+      c.in-Ok.ensures.bytes.0 _ c.if-count-room.false c.in-Ok-take_piece.ensures.ok;
   ready = c.in-Ok-take_piece.ensures.ok.ready _ (ready_less _ _ _ (omega (arith, c.split_at.ensures.front_len, c.min.ensures)) c.loop.invariant.ready);
   within = omega arith;
   turns = omega arith;

@@ -1,30 +1,42 @@
-use Rattle.std.proofs.Common.{◌∙◌, ap, sym, subst}
-use Rattle.std.specs.Option.{option_to_list}
+use Rattle.std.proofs.Common.{◌∙◌, ap, cond, [], ◌∷◌, length-append, arith, refl, option_to_list}
+use Rattle.std.proofs.lemmas.List.Sums.{sum_by-append}
 use Rattle.gui_edge.proofs.Prefixes.{on_err}
-use Rattle.gui_refresh.specs.Owing.{standing_of}
 use Rattle.gui_core.specs.Machines.{machine_of, pending_in}
-use Rattle.gui_core.specs.declared.gui.Gui.{Gui}
-use Rattle.gui_play.specs.Panels.{AgreesWith}
-use Rattle.run_debts.specs.Accounts.{LineCounts}
+use Rattle.run_defs.specs.Run.{first_moment, entry, entries, told}
+use Rattle.run_defs.proofs.Runs.{told_more, fault_count-append}
 use Rattle.scene_run.specs.Counting.{making}
-use Rattle.scene_run.proofs.Counting.{makes_on}
-use Rattle.scene_run.proofs.Going.{halts_at}
+use Rattle.scene_run.specs.Making.{panel_alone, is_refused}
+use Rattle.scene_run.proofs.Counting.{done-both, counts_one}
+use Rattle.scene_run.proofs.Going.{goes_on_one, halts_at}
 use Rattle.scene_run.proofs.made.Making.take_line.Goals as goal
 
 pub returns-clause-ok : goal.returns-clause-ok
+unfolding goes_on_one
 returns-clause-ok g c =
-    let first = c.args.self.now.gui in
-    let same = sym c.count.ensures.gui in
-    makes_on c.args.self.now c.count.new.self (g.P.Panel.state c.args.panel.now) (g.P.Panel.state c.answer.new.panel) c.args.said.now c.in_ok-end.end.outcome c.in_ok-end.end.refused c.in_ok-end.end.noted
-    c.in_ok-end.ensures.ok c.in_ok-end.ensures.asked c.in_ok-end.ensures.noted c.in_ok-end.ensures.refused
-    (ap machine_of c.count.ensures.gui ∙ c.in_ok-end.ensures.machine) c.count.ensures.lines c.count.ensures.refused c.count.ensures.frames c.count.ensures.faults c.count.ensures.noted
-    c.in_ok-end.ensures.sizes
-    (subst (λ (gui : Gui). AgreesWith (g.P.Panel.state c.answer.new.panel) (pending_in gui) (machine_of gui).scene) same c.in_ok-end.ensures.agrees)
-    (subst
-    (λ (gui : Gui).
-    LineCounts (machine_of first).scene.limits (machine_of first) c.args.said.now (option_to_list c.in_ok-end.end.outcome) (standing_of (g.P.Panel.state c.args.panel.now) (pending_in first))
-    (standing_of (g.P.Panel.state c.answer.new.panel) (pending_in gui)))
-    same c.in_ok-end.ensures.counts)
+    let old = making c.args.self.now (g.P.Panel.state c.args.panel.now) in
+    let new = making c.count.new.self (g.P.Panel.state c.answer.new.panel) in
+    let said = c.args.said.now in
+    let outcome = c.in_ok-end.end.outcome in
+    let e = c.in_ok-end.ensures in
+    let n = c.count.ensures in
+    let one = counts_one old.moment said outcome _ e.asked refl in
+    let on = goes_on_one old new said outcome c.in_ok-end.end.noted e.ok e.asked e.noted (ap machine_of n.gui ∙ e.machine) (omega (arith, n.lines)) (omega (arith, n.frames, n.faults, one.1.1)) n.noted
+    e.sizes (rw n.gui e.agrees) (rw n.gui e.counts) in record {
+      from = λ first start lines h.
+          let us = told (entry old.moment said ∷ []) (option_to_list outcome) in
+          let ts = told (entries (first_moment first) lines) h.answered.answers.outcomes in
+          let more = told_more (first_moment first) old.moment lines (said ∷ []) h.answered.answers.outcomes (option_to_list outcome) h.answered.moment h.answered.answers.each in
+          record {
+            answered = on.from first (panel_alone start) lines h.answered;
+            counts = rw more (record {
+              all = omega (arith, n.lines, h.counts.all, length-append lines (said ∷ []));
+              refused = omega (arith, n.refused, h.counts.refused, e.refused, sum_by-append (λ t. cond (is_refused t) 1 0) ts us);
+              frames = omega (arith, n.frames, h.counts.frames, one.0, done-both ts us);
+              faults = omega (arith, n.faults, h.counts.faults, one.1.0, fault_count-append ts us);
+            });
+          };
+      ready = on.ready;
+    }
 
 pub returns-in_err-end-clause-err : goal.returns-in_err-end-clause-err
 returns-in_err-end-clause-err g c =

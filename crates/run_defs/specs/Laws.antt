@@ -2,18 +2,20 @@
 use Rattle.std.specs.Prelude.{◌≡◌, ◌≤◌, ◌<◌, true, false, ℕ, List, ◌++◌, length, codes, Ok, Err, None, ⊤}
 use Rattle.std.specs.List.{flat_map, list_any, AllByRecursion}
 use Rattle.gui_base.specs.declared.refusal.Refusal.{Refusal}
+use Rattle.gui_base.specs.Limits.{Bounds}
 use Rattle.scene_defs.specs.Valid.{IsChange}
 use Rattle.run_defs.specs.declared.Command.{Command}
 use Rattle.run_defs.specs.declared.Outcome.{Outcome}
 use Rattle.run_defs.specs.declared.Line.TheVariants.{Blank, Frame, Make}
 use Rattle.run_defs.specs.declared.Reply.TheVariants.{Refused}
 use Rattle.run_defs.specs.Language.{words_of, is_comment, is_control}
+use Rattle.run_defs.specs.Made.{made_says}
 use Rattle.run_defs.specs.Fields.{Field, Progress, value, past, next_of}
 use Rattle.run_defs.specs.Machine.{Machine}
 use Rattle.run_defs.specs.Play.{after_changes}
 use Rattle.run_defs.specs.Step.{is_command_in_range, IsCommand, step, refused}
 use Rattle.run_defs.specs.Script.{Said, parse, max_line, is_newline, without_return, says_cut}
-use Rattle.run_defs.specs.Run.{Entry, frame_count, told, log_text}
+use Rattle.run_defs.specs.Run.{Moment, Entry, entries, frame_count, told, log_text}
 
 -- the log shows the outcomes: two lists with one outcome for each frame that give the same log are the same
 -- list
@@ -91,3 +93,11 @@ abbrev pub RefusedStepIsNone : Type 0
 RefusedStepIsNone =
     (machine : Machine) (command : Command) (refusal : Refusal) →
     (step machine command).reply ≡ Refused refusal → step machine command ≡ refused refusal machine
+
+-- the made script of each number has 1261 lines
+abbrev pub MadeHasLines : Type 0
+MadeHasLines = (k : ℕ) (limits : Bounds) → length (made_says k limits) ≡ 1261
+
+-- eleven of them ask for a frame, whatever its numbers are drawn to be
+abbrev pub MadeHasFrames : Type 0
+MadeHasFrames = (k : ℕ) (limits : Bounds) (now : Moment) → frame_count (entries now (made_says k limits)) ≡ 11

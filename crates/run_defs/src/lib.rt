@@ -14,7 +14,7 @@ mod names;
 mod refusals;
 
 use gui_base::{Action, EventKind, Handle, Key, Refusal, Var};
-pub use made::{MadeCommand, MadeLine, worked_made_script};
+pub use made::{MadeCommand, MadeLine, made_scripts_are_counted, worked_made_script};
 pub use names::{
     ACTIONS, ActionName, AnimName, AssetName, COMMANDS, DeviceName, Name, PlayName, RowName,
     StyleName, TreeName,

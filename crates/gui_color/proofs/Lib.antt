@@ -1,5 +1,7 @@
+pub mod Bits
 pub mod Changing
 pub mod Floor
+pub mod Kernel
 pub mod Mixes
 pub mod Places
 pub mod Runs

@@ -1,6 +1,8 @@
 -- What a loop over a row leaves.
-use Rattle.std.proofs.Common.{◌≡◌, List, [], ◌∷◌, map, refl, ap, ◌∙◌, sym, ℕ, ◌≤◌, length, take, drop, ◌++◌, arith}
-use Rattle.std.proofs.lemmas.List.{length-map, length-take-le, map-append, take-append-drop, take-append-le, take-map, take-take}
+use Rattle.std.proofs.Common.{◌≡◌, List, [], ◌∷◌, map, refl, ap, ◌∙◌, sym, ℕ, ◌<◌, ◌≤◌, ◌+◌, ◌-◌, ◌*◌, ◌/◌, length, take, drop, ◌++◌, slice_index_or, arith, inl, inr}
+use Rattle.std.proofs.lemmas.Bool.{cases_lt}
+use Rattle.std.proofs.lemmas.List.{ext_get_or, get_or-append_right, get_or-drop, get_or-map, get_or-take, get_or_append_left, length-map, length-take-le}
+use Rattle.gui_base.specs.Color.{black}
 use Rattle.gui_base.specs.declared.color.Rgb565.{Rgb565}
 
 -- maps that agree on each colour
@@ -12,15 +14,30 @@ pub map_self : (f : Rgb565 → Rgb565) → ((c : Rgb565) → f c ≡ c) → (xs 
 map_self f h [] = refl
 map_self f h (x ∷ xs) = ap (λ y. y ∷ map f xs) (h x) ∙ ap (λ ys. x ∷ ys) (map_self f h xs)
 
--- the elements from k on were mapped before those below w, some of which are the same
-pub map_last : (f : Rgb565 → Rgb565) (xs : List Rgb565) (k w : ℕ) → k ≤ w → w ≤ length xs
-    → take k (map f (take w xs) ++ drop w xs) ++ map f (drop k xs) ≡ map f xs
-map_last f xs k w h i =
-    let long : length (map f (take w xs)) ≡ w = length-map (take w xs) f ∙ length-take-le w xs i in
-    let seen : take k (map f (take w xs) ++ drop w xs) ≡ map f (take k xs) =
-    take-append-le k (map f (take w xs)) (drop w xs) (omega (arith, long))
-    ∙ take-map f k (take w xs)
-    ∙ ap (map f) (take-take k w xs h) in
-    ap (λ ys. ys ++ map f (drop k xs)) seen
-    ∙ sym (map-append f (take k xs) (drop k xs))
-    ∙ ap (map f) (take-append-drop k xs)
+-- what becomes of each pixel of a row whose last group is mixed from what the row was, and written over what whole groups have become
+pub last_mixed : (change : ℕ → Rgb565 → Rgb565) (old mid group : List Rgb565) → 8 ≤ length old → length mid ≡ length old → length group ≡ 8
+    → ((k : ℕ) → k < length old / 8 * 8 → slice_index_or mid k black ≡ change k (slice_index_or old k black))
+    → ((k : ℕ) → k < 8 → slice_index_or group k black ≡ change (length old - 8 + k) (slice_index_or (drop (length old - 8) old) k black))
+    → (k : ℕ) → k < length old → slice_index_or (take (length mid - 8) mid ++ group) k black ≡ change k (slice_index_or old k black)
+last_mixed change old mid group some same eight groups last k h =
+    let cut : ℕ = length mid - 8 in
+    let short : length (take cut mid) ≡ cut = length-take-le cut mid (omega arith) in
+    elim (cases_lt k cut) [
+      | inl below ↦
+          get_or_append_left (take cut mid) group black k (omega (arith, short))
+          ∙ (get_or-take cut mid k black below ∙ groups k (omega arith))
+      | inr above ↦
+          let at : cut + (k - cut) ≡ k = omega arith in
+          let from : cut ≡ length old - 8 = omega (arith, same) in
+          get_or-append_right (take cut mid) group cut k black short above
+          ∙ (last (k - cut) (omega arith)
+          ∙ (ap (change (length old - 8 + (k - cut))) (get_or-drop (length old - 8) old (k - cut) black)
+          ∙ rw (← from, at) refl))
+    ]
+
+-- a row whose pixels are those of another, each mapped
+pub mapped : (f : Rgb565 → Rgb565) (old new : List Rgb565) → length new ≡ length old
+    → ((k : ℕ) → k < length old → slice_index_or new k black ≡ f (slice_index_or old k black)) → new ≡ map f old
+mapped f old new same each =
+    ext_get_or black new (map f old) (same ∙ sym (length-map old f))
+    (λ k h. each k (omega (arith, same)) ∙ sym (get_or-map f old k black black (omega (arith, same))))

@@ -2,6 +2,7 @@
 #![tactic(auto)]
 
 pub mod buffer;
+mod lanes;
 pub mod masks;
 pub mod mixing;
 pub mod row;

@@ -1,12 +1,11 @@
 //! Mixing a colour over rows of pixels.
-ghost use Rattle.std.specs.Prelude.{◌≡◌, ◌≤◌, ◌-◌, ◌++◌, length, map, take};
-ghost use Rattle.gui_base.specs.Color.{mix};
+ghost use Rattle.std.specs.Prelude.{◌≡◌, ℕ, ◌≤◌, ◌<◌, ◌-◌, ◌*◌, ◌/◌, ◌++◌};
+ghost use Rattle.std.specs.Prelude.{length, map, take, slice_index_or};
+ghost use Rattle.gui_base.specs.Color.{mix, black};
 
-use crate::mixing::{ALL_PARTS, Veil, parts_of};
+use crate::lanes::{GROUP, mix_one};
+use crate::mixing::{ALL_PARTS, mix, parts_of};
 use gui_base::Rgb565;
-
-/// How many pixels a processor mixes at once: as many as a register of 128 bits holds.
-const GROUP: usize = 8;
 
 /// Mixes `fg` over each pixel with an opacity from 0 to 255.
 pub fn fill_row(row: &mut [Rgb565], fg: Rgb565, opa: u8)
@@ -28,47 +27,47 @@ fn cover_row(row: &mut [Rgb565], fg: Rgb565)
     }
 }
 
-/// Mixes `fg` over each pixel, with its part of the products taken once. A processor mixes a group of pixels
-/// at once, in the time that it takes for one alone. So where whole groups leave pixels over, those are mixed
-/// together with some before them, as the row's last group: from what the row was, and written when the whole
-/// groups are mixed.
+/// Mixes `fg` over each pixel, a group at a time. The last group is mixed first, from what the row was, and
+/// written last: so it may have pixels of the group before it, where groups leave pixels over.
 fn blend_row(row: &mut [Rgb565], fg: Rgb565, opa: u8)
     ensures { row.new ≡ map (λ bg. mix fg bg opa) row.old }
 {
-    let veil = Veil::new(fg, opa);
     match row.last_chunk::<GROUP>() {
-        Some(last) if row.len() % GROUP > 0 => {
-            let last = blended(*last, veil);
-            let whole = row.len() / GROUP * GROUP;
-            blend_each(&mut row[..whole], veil);
+        Some(last) => {
+            let mut last = *last;
+            mix_one(&mut last, fg, opa);
+            blend_groups(row, fg, opa);
             write_last(row, last);
         }
-        _ => blend_each(row, veil),
+        None => blend_each(row, fg, opa),
     }
 }
 
-/// Mixes a colour over each pixel.
+/// Mixes a colour over the pixels of whole groups.
 #[inline(always)]
-fn blend_each(row: &mut [Rgb565], veil: Veil)
-    ensures { row.new ≡ map (λ bg. mix veil.fg bg veil.opa) row.old }
+fn blend_groups(row: &mut [Rgb565], fg: Rgb565, opa: u8)
+    ensures { (k : ℕ) → k < length row.old / 8 * 8 → slice_index_or row.new k black
+        ≡ mix fg (slice_index_or row.old k black) opa }
+{
+    for i in 0..row.len() / GROUP {
+        let from = i * GROUP;
+        mix_one(&mut row[from..from + GROUP], fg, opa);
+    }
+}
+
+/// Mixes a colour over each pixel, one by one.
+#[inline(always)]
+fn blend_each(row: &mut [Rgb565], fg: Rgb565, opa: u8)
+    ensures { row.new ≡ map (λ bg. mix fg bg opa) row.old }
 {
     for pixel in row.iter_mut() {
-        *pixel = veil.over(*pixel);
+        *pixel = mix(fg, *pixel, opa);
     }
-}
-
-/// A group of pixels, each mixed.
-#[inline(always)]
-fn blended(mut group: [Rgb565; GROUP], veil: Veil) -> [Rgb565; GROUP]
-    ensures { result ≡ map (λ bg. mix veil.fg bg veil.opa) group }
-{
-    blend_each(&mut group, veil);
-    group
 }
 
 /// Writes a group over the last pixels of a row.
 #[inline(always)]
-fn write_last(row: &mut [Rgb565], group: [Rgb565; GROUP])
+pub(crate) fn write_last(row: &mut [Rgb565], group: [Rgb565; GROUP])
     requires { 8 ≤ length row.old }
     ensures { row.new ≡ take (length row.old - 8) row.old ++ group }
 {

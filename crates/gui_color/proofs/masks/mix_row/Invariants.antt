@@ -1,7 +1,15 @@
-use Rattle.std.proofs.Common.{get_or}
-use Rattle.gui_base.specs.Color.{black, mix}
-use Rattle.gui_color.proofs.Changing.{Changed}
+use Rattle.std.proofs.Common.{◌≡◌, ℕ, ◌<◌, ◌≤◌, ◌*◌, slice_index, slice_index_or}
+use Rattle.gui_base.specs.Color.{mix, black}
 use Rattle.gui_color.proofs.masks.mix_row.Given as goal
 
-abbrev pub invariant-loop-i : goal.invariant-loop-i
-invariant-loop-i l = Changed (λ k bg. mix (get_or l.src k black) bg (get_or l.opas k 0)) l.i l.initial.row l.row
+abbrev pub invariant-groups : goal.invariant-groups
+invariant-groups l = record {
+  done : (k : ℕ) → k < l.i * 8 → slice_index_or l.row k black ≡ mix (slice_index_or l.src k black) (slice_index_or l.fn.row k black) (slice_index l.opas k);
+  left : (k : ℕ) → l.i * 8 ≤ k → slice_index_or l.row k black ≡ slice_index_or l.fn.row k black;
+}
+
+abbrev pub invariant-rest : goal.invariant-rest
+invariant-rest l = record {
+  done : (k : ℕ) → k < l.i → slice_index_or l.row k black ≡ mix (slice_index_or l.src k black) (slice_index_or l.fn.row k black) (slice_index l.opas k);
+  left : (k : ℕ) → l.i ≤ k → slice_index_or l.row k black ≡ slice_index_or l.fn.row k black;
+}

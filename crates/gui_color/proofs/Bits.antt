@@ -1,0 +1,62 @@
+-- Eight bits of a row of bits, and the lanes that they choose.
+use Rattle.std.proofs.Common.{◌≡◌, ℕ, zero, suc, ◌<◌, ◌+◌, ◌-◌, ◌*◌, ◌/◌, ◌%◌, ◌^◌, ◌==◌, false, not, cond, nat_eq, List, slice_index, bit_and, refl, sym, ap, ◌∙◌, arith, inl, inr}
+use lib.Lanes.{top}
+use Rattle.std.specs.Int.{bit_at}
+use Rattle.std.proofs.lemmas.Nat.{and_mask, pow_pos, shr-shr}
+use Rattle.std.proofs.lemmas.Nat.Bits.{and_pow, bit_at-lt, bit_at_cat_low, bit_at_cat_high}
+use Rattle.std.proofs.lemmas.Bool.{cases_lt}
+use Rattle.std.proofs.lemmas.Bool.Decides.{nat_tests}
+
+-- what holds of each of eight lanes
+pub below_eight : (P : ℕ → Type 0) → P 0 → P 1 → P 2 → P 3 → P 4 → P 5 → P 6 → P 7 → (k : ℕ) → k < 8 → P k
+below_eight P a b c d e f g i zero h = a
+below_eight P a b c d e f g i (suc zero) h = b
+below_eight P a b c d e f g i (suc (suc zero)) h = c
+below_eight P a b c d e f g i (suc (suc (suc zero))) h = d
+below_eight P a b c d e f g i (suc (suc (suc (suc zero)))) h = e
+below_eight P a b c d e f g i (suc (suc (suc (suc (suc zero))))) h = f
+below_eight P a b c d e f g i (suc (suc (suc (suc (suc (suc zero)))))) h = g
+below_eight P a b c d e f g i (suc (suc (suc (suc (suc (suc (suc zero))))))) h = i
+below_eight P a b c d e f g i (suc (suc (suc (suc (suc (suc (suc (suc k)))))))) h = absurd (omega arith)
+
+by_bit : (x w t o : ℕ) → 0 < w → x ≡ t * w → t < 2 → cond (top 15 (cond (not (nat_eq x 0)) 65535 0)) o 0 ≡ cond (t == 1) o 0
+by_bit x w zero o p e h =
+    let z : x ≡ 0 = omega arith in
+    rw z refl
+by_bit x w (suc zero) o p e h =
+    let z : nat_eq x 0 ≡ false = grind (arith, nat_tests) in
+    rw z refl
+by_bit x w (suc (suc t)) o p e h = absurd (omega arith)
+
+pub mask_lane : (b o k : ℕ) → cond (top 15 (cond (not (nat_eq (bit_and b (2 ^ k)) 0)) 65535 0)) o 0 ≡ cond (b / 2 ^ k % 2 == 1) o 0
+mask_lane b o k = by_bit (bit_and b (2 ^ k)) (2 ^ k) (bit_at b k) o (pow_pos k) (and_pow b k) (bit_at-lt b k)
+
+low_bit : (x i : ℕ) → i < 8 → bit_at (bit_and x 255) i ≡ bit_at x i
+low_bit x i h =
+    let split : x / 256 * 256 + x % 256 ≡ x = omega arith in
+    ap (λ z. bit_at z i) (and_mask x 8) ∙ sym (bit_at_cat_low (x / 256) 8 (x % 256) i h) ∙ ap (λ z. bit_at z i) split
+
+-- bit i of eight bits that begin at bit t of two bytes
+pub two_bytes : (hi lo t k : ℕ) → lo < 256 → t < 8 → k < 8
+    → bit_at (bit_and ((hi * 256 + lo) / 2 ^ (8 - t)) 255) (7 - k) ≡ bit_at (hi * 256 + lo) (15 - (t + k))
+two_bytes hi lo t k l q h =
+    let e : 8 - t + (7 - k) ≡ 15 - (t + k) = omega arith in
+    low_bit ((hi * 256 + lo) / 2 ^ (8 - t)) (7 - k) (omega arith) ∙ ap (λ z. z % 2) (shr-shr (hi * 256 + lo) (8 - t) (7 - k) ∙ ap (λ z. (hi * 256 + lo) / 2 ^ z) e)
+
+-- as `is_set` reads it
+pub bit_of_row : (bits : List ℕ) (at k : ℕ) → ((j : ℕ) → slice_index bits j < 256) → k < 8
+    → bit_at (bit_and ((slice_index bits (at / 8) * 256 + slice_index bits (at / 8 + 1)) / 2 ^ (8 - at % 8)) 255) (7 - k) ≡ bit_at (slice_index bits ((at + k) / 8)) (7 - (at + k) % 8)
+bit_of_row bits at k small h =
+    let hi : ℕ = slice_index bits (at / 8) in
+    let lo : ℕ = slice_index bits (at / 8 + 1) in
+    two_bytes hi lo (at % 8) k (small (at / 8 + 1)) (omega arith) h
+    ∙ (elim (cases_lt (at % 8 + k) 8) [
+      | inl below ↦
+          let i : (at + k) / 8 ≡ at / 8 = omega arith in
+          let j : 15 - (at % 8 + k) - 8 ≡ 7 - (at + k) % 8 = omega arith in
+          bit_at_cat_high hi 8 lo (15 - (at % 8 + k)) (small (at / 8 + 1)) (omega arith) ∙ rw (i, j) refl
+      | inr above ↦
+          let i : (at + k) / 8 ≡ at / 8 + 1 = omega arith in
+          let j : 15 - (at % 8 + k) ≡ 7 - (at + k) % 8 = omega arith in
+          bit_at_cat_low hi 8 lo (15 - (at % 8 + k)) (omega arith) ∙ rw (i, j) refl
+    ])

@@ -11,3 +11,4 @@ pub mod Lettering
 pub mod Stamping
 pub mod Lining
 pub mod Picturing
+pub mod Turning

@@ -22,14 +22,16 @@ pub(crate) fn mix_colors(row: &mut [Rgb565], bytes: &[u8], first: usize, opa: u8
     }
 }
 
-/// Puts colours of two bytes over a row of pixels.
+/// Puts colours of two bytes over a row of pixels. The two are read and turned as one, so that a processor turns
+/// those of many pixels at once.
 fn cover_colors(row: &mut [Rgb565], bytes: &[u8], first: usize)
     requires { (first + length row.old) * 2 ≤ length bytes.now }
     ensures { (k : ℕ) → k < length row.old →
         slice_index_or row.new k black ≡ color_at bytes.now ((first + k) * 2) }
 {
+    let (pairs, _) = bytes.as_chunks::<2>();
     for (i, pixel) in row.iter_mut().enumerate() {
-        *pixel = color_at(bytes, (first + i) * 2);
+        *pixel = Rgb565(u16::from_be_bytes(pairs[first + i]));
     }
 }
 

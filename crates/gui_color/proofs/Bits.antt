@@ -1,9 +1,10 @@
 -- Eight bits of a row of bits, and the lanes that they choose.
-use Rattle.std.proofs.Common.{◌≡◌, ℕ, zero, suc, ◌<◌, ◌+◌, ◌-◌, ◌*◌, ◌/◌, ◌%◌, ◌^◌, ◌==◌, false, not, cond, nat_eq, List, slice_index, bit_and, refl, sym, ap, ◌∙◌, arith, inl, inr}
-use lib.Lanes.{top}
+use Rattle.std.proofs.Common.{◌≡◌, ℕ, zero, suc, ◌<◌, ◌+◌, ◌-◌, ◌*◌, ◌/◌, ◌%◌, ◌^◌, ◌==◌, false, not, cond, nat_eq, List, slice_index, bit_and, refl, sym, ap, ◌∙◌, arith, inl, inr, Bool, true, [], ◌∷◌, get_or, length}
+use lib.Lanes.{top, sel_l}
 use Rattle.std.specs.Int.{bit_at}
 use Rattle.std.proofs.lemmas.Nat.{and_mask, pow_pos, shr-shr}
 use Rattle.std.proofs.lemmas.Nat.Bits.{and_pow, bit_at-lt, bit_at_cat_low, bit_at_cat_high}
+use Rattle.std.proofs.lemmas.Simd.{get_or-sel_l}
 use Rattle.std.proofs.lemmas.Bool.{cases_lt}
 use Rattle.std.proofs.lemmas.Bool.Decides.{nat_tests}
 
@@ -19,17 +20,32 @@ below_eight P a b c d e f g i (suc (suc (suc (suc (suc (suc zero)))))) h = g
 below_eight P a b c d e f g i (suc (suc (suc (suc (suc (suc (suc zero))))))) h = i
 below_eight P a b c d e f g i (suc (suc (suc (suc (suc (suc (suc (suc k)))))))) h = absurd (omega arith)
 
-by_bit : (x w t o : ℕ) → 0 < w → x ≡ t * w → t < 2 → cond (top 15 (cond (not (nat_eq x 0)) 65535 0)) o 0 ≡ cond (t == 1) o 0
-by_bit x w zero o p e h =
+by_bit : (x w t a b : ℕ) → 0 < w → x ≡ t * w → t < 2 → cond (top 15 (cond (not (nat_eq x 0)) 65535 0)) a b ≡ cond (t == 1) a b
+by_bit x w zero a b p e h =
     let z : x ≡ 0 = omega arith in
     rw z refl
-by_bit x w (suc zero) o p e h =
+by_bit x w (suc zero) a b p e h =
     let z : nat_eq x 0 ≡ false = grind (arith, nat_tests) in
     rw z refl
-by_bit x w (suc (suc t)) o p e h = absurd (omega arith)
+by_bit x w (suc (suc t)) a b p e h = absurd (omega arith)
 
-pub mask_lane : (b o k : ℕ) → cond (top 15 (cond (not (nat_eq (bit_and b (2 ^ k)) 0)) 65535 0)) o 0 ≡ cond (b / 2 ^ k % 2 == 1) o 0
-mask_lane b o k = by_bit (bit_and b (2 ^ k)) (2 ^ k) (bit_at b k) o (pow_pos k) (and_pow b k) (bit_at-lt b k)
+-- a lane that is chosen by one bit of a byte
+bit_chooses : (byte i a b : ℕ) → cond (top 15 (cond (not (nat_eq (bit_and byte (2 ^ i)) 0)) 65535 0)) a b ≡ cond (byte / 2 ^ i % 2 == 1) a b
+bit_chooses byte i a b = by_bit (bit_and byte (2 ^ i)) (2 ^ i) (bit_at byte i) a b (pow_pos i) (and_pow byte i) (bit_at-lt byte i)
+
+abbrev is_set : ℕ → ℕ → Bool
+is_set byte i = top 15 (cond (not (nat_eq (bit_and byte (2 ^ i)) 0)) 65535 0)
+
+-- whether each of eight bits is set, the highest first
+abbrev pub tests_of : ℕ → List Bool
+tests_of byte = is_set byte 7 ∷ is_set byte 6 ∷ is_set byte 5 ∷ is_set byte 4 ∷ is_set byte 3 ∷ is_set byte 2 ∷ is_set byte 1 ∷ is_set byte 0 ∷ []
+
+pub lanes_choose : (byte : ℕ) (xs ys : List ℕ) → length xs ≡ 8 → length ys ≡ 8 → (k : ℕ) → k < 8
+    → slice_index (sel_l (tests_of byte) xs ys) k ≡ cond (byte / 2 ^ (7 - k) % 2 == 1) (slice_index xs k) (slice_index ys k)
+lanes_choose byte xs ys p q k h =
+    get_or-sel_l (tests_of byte) xs ys k 0 h (omega (arith, p)) (omega (arith, q))
+    ∙ below_eight (λ i. cond (get_or (tests_of byte) i false) (slice_index xs i) (slice_index ys i) ≡ cond (byte / 2 ^ (7 - i) % 2 == 1) (slice_index xs i) (slice_index ys i))
+    (bit_chooses byte 7 _ _) (bit_chooses byte 6 _ _) (bit_chooses byte 5 _ _) (bit_chooses byte 4 _ _) (bit_chooses byte 3 _ _) (bit_chooses byte 2 _ _) (bit_chooses byte 1 _ _) (bit_chooses byte 0 _ _) k h
 
 low_bit : (x i : ℕ) → i < 8 → bit_at (bit_and x 255) i ≡ bit_at x i
 low_bit x i h =

@@ -4,6 +4,7 @@ ghost use Rattle.std.specs.Prelude.{slice_index, slice_index_or, if◌then◌els
 ghost use Rattle.gui_base.specs.Color.{mix, black};
 ghost use Rattle.gui_color.specs.Masks.{mask_bit, masked};
 
+use crate::mixing::{ALL_PARTS, parts_of};
 use gui_base::Rgb565;
 use std::simd::prelude::*;
 
@@ -47,6 +48,18 @@ fn lanes_of(group: &[Rgb565]) -> u16x8
     u16x8::from_array(numbers)
 }
 
+/// Writes colours over a group of pixels.
+#[inline(always)]
+fn write_lanes(group: &mut [Rgb565], lanes: u16x8)
+    requires { length group.old ≡ 8 }
+    ensures { (k : ℕ) → k < 8 → slice_index_or group.new k black ≡ record { 0 = slice_index lanes k } }
+{
+    let numbers = lanes.to_array();
+    for k in 0..8 {
+        group[k] = Rgb565(numbers[k]);
+    }
+}
+
 /// Mixes colours over a group of pixels, each with its own opacity.
 #[inline(always)]
 fn mix_group(group: &mut [Rgb565], fg: u16x8, opas: u16x8)
@@ -55,10 +68,7 @@ fn mix_group(group: &mut [Rgb565], fg: u16x8, opas: u16x8)
     ensures { (k : ℕ) → k < 8 → slice_index_or group.new k black
         ≡ mix (record { 0 = slice_index fg k }) (slice_index_or group.old k black) (slice_index opas k) }
 {
-    let mixed = mix_lanes(fg, lanes_of(group), opas).to_array();
-    for k in 0..8 {
-        group[k] = Rgb565(mixed[k]);
-    }
+    write_lanes(group, mix_lanes(fg, lanes_of(group), opas));
 }
 
 /// The opacities of a group.
@@ -93,16 +103,17 @@ pub(crate) fn mix_one(group: &mut [Rgb565], fg: Rgb565, opa: u8)
     mix_group(group, u16x8::splat(fg.0), u16x8::splat(opa as u16));
 }
 
-/// The opacity of each pixel of a group: `opa` where its bit of `byte` is 1, the highest first, and else 0.
+/// Of each pixel of a group one of two numbers: that of `yes` where its bit of `byte` is 1, the highest first,
+/// and else that of `no`.
 #[inline(always)]
-fn opacities_by(byte: u16, opa: u8) -> u16x8
+fn choose_by(byte: u16, yes: u16x8, no: u16x8) -> u16x8
     requires { byte < 256 }
-    ensures { (k : ℕ) → k < 8 → slice_index result k ≡ (if byte / 2 ^ (7 - k) % 2 == 1 then opa else 0) }
+    ensures { (k : ℕ) → k < 8 → slice_index result k
+        ≡ (if byte / 2 ^ (7 - k) % 2 == 1 then slice_index yes k else slice_index no k) }
 {
     let places = u16x8::from_array([128, 64, 32, 16, 8, 4, 2, 1]);
     let set = u16x8::splat(byte) & places;
-    set.simd_ne(u16x8::splat(0))
-        .select(u16x8::splat(opa as u16), u16x8::splat(0))
+    set.simd_ne(u16x8::splat(0)).select(yes, no)
 }
 
 /// Eight bits from bit `at` on, as a byte: some of its byte and some of the next, of which none are 1 where
@@ -127,7 +138,8 @@ fn byte_at(bytes: &[u8], i: usize) -> u16
     if i < bytes.len() { bytes[i] as u16 } else { 0 }
 }
 
-/// Mixes `fg` over each pixel of a group whose bit is 1: pixel i has bit `at + i`.
+/// Mixes `fg` over each pixel of a group whose bit is 1: pixel i has bit `at + i`. Where it is opaque, there is
+/// nothing to mix.
 #[inline(always)]
 pub(crate) fn mix_masked(group: &mut [Rgb565], bits: &[u8], at: usize, fg: Rgb565, opa: u8)
     requires len { length group.old ≡ 8 }
@@ -135,6 +147,15 @@ pub(crate) fn mix_masked(group: &mut [Rgb565], bits: &[u8], at: usize, fg: Rgb56
     ensures { (k : ℕ) → k < 8 → slice_index_or group.new k black
         ≡ masked (mask_bit bits.now (at + k)) fg opa (slice_index_or group.old k black) }
 {
-    let opas = opacities_by(bits_from(bits, at), opa);
-    mix_group(group, u16x8::splat(fg.0), opas);
+    let byte = bits_from(bits, at);
+    let colors = u16x8::splat(fg.0);
+    if parts_of(opa) == ALL_PARTS {
+        write_lanes(group, choose_by(byte, colors, lanes_of(group)));
+    } else {
+        mix_group(
+            group,
+            colors,
+            choose_by(byte, u16x8::splat(opa as u16), u16x8::splat(0)),
+        );
+    }
 }

@@ -37,12 +37,13 @@ pub fn mask_row(row: &mut [Rgb565], bits: &[u8], first: u32, fg: Rgb565, opa: u8
         return;
     }
     match row.last_chunk::<GROUP>() {
-        Some(last) => {
+        Some(last) if row.len() % GROUP > 0 => {
             let mut last = *last;
             mix_masked(&mut last, bits, first as usize + row.len() - GROUP, fg, opa);
             mask_groups(row, bits, first, fg, opa);
             write_last(row, last);
         }
+        Some(_) => mask_groups(row, bits, first, fg, opa),
         None if row.is_empty() => {}
         None => mask_short(row, bits, first, fg, opa),
     }

@@ -27,18 +27,20 @@ fn cover_row(row: &mut [Rgb565], fg: Rgb565)
     }
 }
 
-/// Mixes `fg` over each pixel, a group at a time. The last group is mixed first, from what the row was, and
-/// written last: so it may have pixels of the group before it, where groups leave pixels over.
+/// Mixes `fg` over each pixel, a group at a time. Where whole groups leave pixels over, those are mixed
+/// together with some before them, as the row's last group: from what the row was, and written when the whole
+/// groups are mixed.
 fn blend_row(row: &mut [Rgb565], fg: Rgb565, opa: u8)
     ensures { row.new ≡ map (λ bg. mix fg bg opa) row.old }
 {
     match row.last_chunk::<GROUP>() {
-        Some(last) => {
+        Some(last) if row.len() % GROUP > 0 => {
             let mut last = *last;
             mix_one(&mut last, fg, opa);
             blend_groups(row, fg, opa);
             write_last(row, last);
         }
+        Some(_) => blend_groups(row, fg, opa),
         None => blend_each(row, fg, opa),
     }
 }

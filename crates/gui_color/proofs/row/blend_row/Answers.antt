@@ -13,3 +13,8 @@ returns-in-Some c =
     (λ k h. ap (λ (colors : List Rgb565). slice_index_or colors k black) c.write_last.ensures
     ∙ last_mixed (λ (i : ℕ). over) row c.blend_groups.new.row c.mix_one.new.group c.in-Some.ensures.cases.0 c.blend_groups.auto.row (omega (arith, c.mix_one.auto.group, c.in-Some.ensures.cases.1.long, ap (λ (colors : List Rgb565). length colors) was)) c.blend_groups.ensures
     (λ j i. c.mix_one.ensures j i ∙ ap (λ (colors : List Rgb565). over (slice_index_or colors j black)) was) k h)
+
+pub returns-in-Some-2 : goal.returns-in-Some-2
+returns-in-Some-2 c =
+    mapped (λ (bg : Rgb565). mix c.args.fg bg c.args.opa) c.args.row.now c.blend_groups-in-Some-2.new.row c.blend_groups-in-Some-2.auto.row
+    (λ k h. c.blend_groups-in-Some-2.ensures k (omega arith))

@@ -29,7 +29,7 @@ fn mix_lanes(fg: u16x8, bg: u16x8, opas: u16x8) -> u16x8
     let parts = (opas + u16x8::splat(4)) >> u16x8::splat(3);
     let left = u16x8::splat(32) - parts;
     let red = (bg >> eleven) * (left << six) + (fg >> eleven) * (parts << six);
-    let green = ((bg >> five) & low_six) * (left << five)
+    let green = (((bg >> five) & low_six) << five) * left
         + ((fg >> five) & low_six) * (parts << five);
     let blue = (bg & low_five) * left + (fg & low_five) * parts;
     ((red >> eleven) << eleven) + ((((green >> ten) << ten) + blue) >> five)

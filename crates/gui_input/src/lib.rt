@@ -9,6 +9,7 @@ mod press;
 
 use arrayvec::ArrayVec;
 pub use encoder::Encoder;
+pub use gui_base::Key;
 pub use keypad::Keypad;
 pub use play_defs::{EncoderReading, InputEvent, KeyReading, PointerReading};
 pub use pointer::Pointer;

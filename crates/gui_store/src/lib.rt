@@ -11,5 +11,6 @@ mod setter;
 mod store;
 mod styling;
 
+pub use gui_base::{Align, Flow, Kind, Length, Part, Placing, Prop};
 pub use scene_defs::{Change, Row, Text};
 pub use store::Store;

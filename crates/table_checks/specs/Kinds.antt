@@ -1,0 +1,125 @@
+-- What a new object of each kind has, and what each kind sets by itself.
+use Rattle.std.specs.Prelude.{◌≡◌, ℕ, List, [], ◌∷◌, ◌++◌, map, codes, pos, Some, None, Ok}
+use Rattle.std.specs.declared.option.Option.{Option}
+use Rattle.gui_base.specs.declared.words.Align.TheVariants.{TopLeft}
+use Rattle.gui_base.specs.declared.words.Flow.{Flow}
+use Rattle.gui_base.specs.declared.words.Flow.TheVariants.{Free, Column}
+use Rattle.gui_base.specs.declared.words.Kind.{Kind}
+use Rattle.gui_base.specs.declared.words.Kind.TheVariants as kind
+use Rattle.gui_base.specs.declared.words.Length.{Length}
+use Rattle.gui_base.specs.declared.words.Length.TheVariants.{Pixels, Content}
+use Rattle.gui_base.specs.declared.words.Placing.TheVariants.{Start}
+use Rattle.style_defs.specs.Kinds.{KindRow, kind_rows}
+use Rattle.scene_defs.specs.Row.{new_row, no_name}
+use Rattle.scene_defs.specs.declared.Change.TheVariants as change
+use Rattle.scene_defs.specs.declared.Row.{Row}
+use Rattle.run_defs.specs.declared.Command.TheVariants.{Change as CommandOf}
+use Rattle.run_defs.specs.declared.Line.TheVariants.{Make}
+use Rattle.run_defs.specs.Script.{Said, parse}
+
+-- a new object: its flags, wanted sizes and flow are its kind's, and all else is the same for each
+abbrev pub fresh : Kind → ℕ → Length → Length → Flow → Row
+fresh kind flags width height flow = record {
+  kind = kind;
+  flags = flags;
+  states = 0;
+  x = pos 0;
+  y = pos 0;
+  align = TopLeft;
+  width = width;
+  height = height;
+  flow = flow;
+  places = (Start, Start, Start);
+  grow = 0;
+  value = pos 0;
+  min = pos 0;
+  max = pos 100;
+  image = None;
+  text = no_name;
+}
+
+-- Clickable is 2 and checkable 4. Roots have the size of the panel, whatever theirs is.
+pub record NewRowsAreThese : Type 0 where
+  pub screen : new_row kind.Screen ≡ fresh kind.Screen 2 (Pixels 100) (Pixels 50) Free
+  pub layer : new_row kind.Layer ≡ fresh kind.Layer 0 (Pixels 100) (Pixels 50) Free
+  pub object : new_row kind.Obj ≡ fresh kind.Obj 2 (Pixels 100) (Pixels 50) Free
+  pub label : new_row kind.Label ≡ fresh kind.Label 0 Content Content Free
+  pub button : new_row kind.Button ≡ fresh kind.Button 2 Content Content Free
+  pub image : new_row kind.Image ≡ fresh kind.Image 0 Content Content Free
+  pub bar : new_row kind.Bar ≡ fresh kind.Bar 0 (Pixels 100) (Pixels 10) Free
+  pub slider : new_row kind.Slider ≡ fresh kind.Slider 2 (Pixels 100) (Pixels 10) Free
+  pub checkbox : new_row kind.Checkbox ≡ fresh kind.Checkbox 6 Content Content Free
+  pub list : new_row kind.List ≡ fresh kind.List 2 (Pixels 100) (Pixels 100) Column
+
+-- what a line sets locally
+abbrev pub set_by : Said → Option KindRow
+set_by (Ok (Make (CommandOf (change.Local h selector prop value)))) =
+    Some (selector.part, selector.states, prop, value)
+set_by said = None
+
+-- what lines set, of which each begins with a part
+abbrev pub set_locally : List (List ℕ) → List (Option KindRow)
+set_locally lines = map (λ line. set_by (parse (codes "local 10 " ++ line))) lines
+
+abbrev pub set_by_kind : Kind → List (Option KindRow)
+set_by_kind kind = map (λ row. Some row) (kind_rows kind)
+
+-- A kind sets by itself what these lines would set for one object, and no more.
+pub record KindsSetThese : Type 0 where
+  pub screen :
+      set_by_kind kind.Screen
+      ≡ set_locally (
+      codes "main bg_opa 255"
+      ∷ [])
+  pub layer : kind_rows kind.Layer ≡ []
+  pub object : kind_rows kind.Obj ≡ []
+  pub label : kind_rows kind.Label ≡ []
+  pub button :
+      set_by_kind kind.Button
+      ≡ set_locally (
+      codes "main bg_opa 255"
+      ∷ codes "main bg_color #2196F3"
+      ∷ codes "main:pressed bg_color #1976D2"
+      ∷ codes "main pad_top 4"
+      ∷ codes "main pad_bottom 4"
+      ∷ codes "main pad_left 4"
+      ∷ codes "main pad_right 4"
+      ∷ [])
+  pub image : kind_rows kind.Image ≡ []
+  pub bar :
+      set_by_kind kind.Bar
+      ≡ set_locally (
+      codes "main bg_opa 255"
+      ∷ codes "main bg_color #E0E0E0"
+      ∷ codes "indicator bg_opa 255"
+      ∷ codes "indicator bg_color #2196F3"
+      ∷ [])
+  pub slider :
+      set_by_kind kind.Slider
+      ≡ set_locally (
+      codes "main bg_opa 255"
+      ∷ codes "main bg_color #E0E0E0"
+      ∷ codes "indicator bg_opa 255"
+      ∷ codes "indicator bg_color #2196F3"
+      ∷ codes "knob bg_opa 255"
+      ∷ codes "knob bg_color #1976D2"
+      ∷ [])
+  pub checkbox :
+      set_by_kind kind.Checkbox
+      ≡ set_locally (
+      codes "main pad_column 4"
+      ∷ codes "indicator border_width 1"
+      ∷ codes "indicator:checked bg_opa 255"
+      ∷ codes "indicator:checked bg_color #2196F3"
+      ∷ [])
+  pub list :
+      set_by_kind kind.List
+      ≡ set_locally (
+      codes "main bg_opa 255"
+      ∷ codes "main border_width 1"
+      ∷ codes "main pad_top 2"
+      ∷ codes "main pad_bottom 2"
+      ∷ codes "main pad_left 2"
+      ∷ codes "main pad_right 2"
+      ∷ codes "main pad_row 2"
+      ∷ [])

@@ -1,0 +1,6 @@
+pub mod Font
+pub mod Kinds
+pub mod Numbers
+pub mod Pools
+pub mod Properties
+pub mod Words

@@ -14,6 +14,7 @@ use Rattle.gui_damage.specs.Pending.{Pending, covered, total}
 use Rattle.gui_damage.specs.Adding.{AddsAll}
 use Rattle.gui_damage.specs.Joining.{JoinsAll}
 use Rattle.gui_damage.specs.Slices.{Takes}
+use Rattle.gui_damage.proofs.Joins.{keeps_pixels}
 use Rattle.gui_damage.proofs.Lines.{in_order}
 use Rattle.gui_damage.proofs.Listed.{within}
 use Rattle.gui_refresh.specs.Stages.{Sizes, Stage, IsSizes, CanRefresh, Agrees, AgreesAt}
@@ -33,13 +34,14 @@ pub record Progress (color : ℤ → ℤ → Rgb565) (old now : Stage) : Type 0 
 -- the pending areas were joined
 pub progress_joined : (color : ℤ → ℤ → Rgb565) (old : Stage) (joined : Pending) → CanRefresh old → JoinsAll old.pending joined → Progress color old (record old { pending = joined })
 progress_joined color old joined can joins =
-    let smaller = joins.joins.smaller in
+    let keeps = keeps_pixels _ _ joins.joins in
+    let smaller = keeps.smaller in
     record {
       can = record { width = can.width; height = can.height; limit = can.limit; area = joins.panel ∙ can.area };
       keeps = record { told = λ h. h; frames = refl; present_faults = refl; flush_faults = omega arith };
-      agrees = if_told old.panel.shows _ _ (λ colors. agrees_more (area_of old.panel) color old.pending.areas joined.areas colors joins.joins.covers);
+      agrees = if_told old.panel.shows _ _ (λ colors. agrees_more (area_of old.panel) color old.pending.areas joined.areas colors keeps.covers);
       sizes = omega arith;
-      counts = joins.joins.fewer;
+      counts = keeps.fewer;
       faults = refl;
     }
 

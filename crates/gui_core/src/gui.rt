@@ -1,11 +1,14 @@
 //! The machine.
 ghost use Rattle.std.specs.Prelude.{◌≡◌, ◌∷◌, [], IfOk, OnOk, OnErr};
+ghost use Rattle.gui_base.specs.declared.refusal.Refusal.{Refusal};
 ghost use Rattle.gui_edge.specs.Panel.{PanelState, HasSizes};
 ghost use Rattle.gui_store.specs.Views.{scene_of};
 ghost use Rattle.gui_layout.specs.Solved.{AreSolved};
 ghost use Rattle.gui_refresh.specs.Stages.{sizes_of};
 ghost use Rattle.gui_play.specs.Boards.{machine_of as machine_on};
 ghost use Rattle.gui_play.specs.Panels.{AgreesWith, GoesOnAgreeing, Refreshes};
+ghost use Rattle.gui_play.specs.Steps.{Refuses};
+ghost use Rattle.run_defs.specs.declared.Reply.TheVariants.{Refused};
 ghost use Rattle.run_laws.specs.Members.{AreJoined};
 
 use gui_base::{Handle, Limits, NoMemory, Steps};
@@ -60,9 +63,10 @@ impl Gui {
         Ok(Gui { board, refresher })
     }
 
-    /// Carries out a command, or answers its first refusal, which leaves all as it was. What its changes owe
-    /// becomes pending. What its events write goes to the log. `Failed` comes only where the log failed: the
-    /// machine is then as if the log had not failed, and the log holds a prefix of what the events write.
+    /// Carries out a command, or answers its first refusal, which leaves all as it was, what is pending and
+    /// the log too. What its changes owe becomes pending. What its events write goes to the log. `Failed`
+    /// comes only where the log failed: the machine is then as if the log had not failed, and the log holds a
+    /// prefix of what the events write.
     pub fn apply<S: Sink>(&mut self, command: &Command, log: &mut S) -> Result<Reply, Failed>
         requires { IsCommand command.now }
         ensures machine { machine_of self.new ≡ (step (machine_of self.old) command.now).machine }
@@ -72,6 +76,10 @@ impl Gui {
         ensures cut { OnErr result (AppendsPrefix (S.state log.old).held (S.state log.new).held
             (step (machine_of self.old) command.now).lines) }
         ensures cause { HasCause (S.state log.old).faults (S.state log.new).faults result }
+        ensures refused { (refusal : Refusal) →
+            (step (machine_of self.old) command.now).reply ≡ Refused refusal →
+            Refuses refusal result (pending_in self.old) (pending_in self.new) (S.state log.old)
+            (S.state log.new) }
         ensures damage { AddsAll (pending_in self.old) (pending_in self.new)
             (command_owes (machine_of self.old) command.now) }
         ensures agrees { GoesOnAgreeing (pending_in self.old) (pending_in self.new)

@@ -1,21 +1,22 @@
 -- Pairs of areas, and lists in which one was joined.
-use Rattle.std.proofs.Common.{◌≡◌, ◌∙◌, refl, sym, ap, subst, ℕ, zero, suc, ◌+◌, ◌<◌, ◌≤◌, ℤ, Bool, true, false, ◌||◌, List, [], ◌∷◌, ◌++◌, length, get_or, set, drop, take, remove, map, inl, inr, ◌⊎◌, arith}
+use Rattle.std.proofs.Common.{◌≡◌, ◌∙◌, refl, sym, ap, subst, ℕ, zero, suc, ◌+◌, ◌<◌, ◌≤◌, ℤ, Bool, true, false, not, ◌&&◌, ◌||◌, List, [], ◌∷◌, ◌++◌, length, get_or, set, drop, take, remove, map, arith}
 use Rattle.std.specs.List.{list_any, list_all}
+use Rattle.std.specs.List.Sorted.{IsPermutation}
 use Rattle.std.specs.Int.{int_max, int_min}
-use Rattle.std.proofs.lemmas.List.{get_or-map, length-set, get_or-set_other, map-append, take-map, drop-map, map-set}
-use Rattle.std.proofs.lemmas.List.Edits.{length-remove}
-use Rattle.std.proofs.lemmas.List.Sums.{sum_by-set, sum_by-remove}
+use Rattle.std.proofs.lemmas.List.{get_or-map, map-append, take-map, drop-map, map-set}
+use Rattle.std.proofs.lemmas.List.Sorted.{IsPermutation-refl, IsPermutation-sym, IsPermutation-trans, IsPermutation-cons, IsPermutation-middle, IsPermutation-remove, list_any-IsPermutation, length_permutation, sum_by-IsPermutation}
+use Rattle.std.proofs.lemmas.List.Sums.{sum_by-cons}
 use Rattle.std.proofs.lemmas.Bool.{ltb-true, or_right}
 use Rattle.std.proofs.lemmas.Int.{ints}
 use Rattle.gui_base.proofs.Areas.{hull_first, hull_second, hull_joined}
 use Rattle.gui_damage.proofs.Lines.{in_order, not_empty}
-use Rattle.gui_base.specs.Area.{Rect, has, size_of, joined, Covers, is_within}
+use Rattle.gui_base.specs.Area.{Rect, has, is_empty, size_of, common, joined, Covers, is_within}
 use Rattle.gui_damage.specs.Damage.{rects_of}
-use Rattle.gui_damage.specs.Joining.{Joins, IsPair}
+use Rattle.gui_damage.specs.Joining.{IsPair, JoinsPair, JoinsPairs, none, one_more, KeepsPixels}
 use Rattle.gui_damage.specs.Pending.{covered, total}
 use Rattle.gui_base.specs.declared.area.Area.{Area}
 use Rattle.gui_base.specs.Corners.{rect_of}
-use Rattle.gui_damage.proofs.Listed.{within, is_within-of, and_both, and_first, and_second}
+use Rattle.gui_damage.proofs.Listed.{within, is_within-of, and_both, and_first, and_second, not_true}
 
 -- an area that was read from the list, among their corners
 pub rect_at : (areas : List Area) (i : ℕ) (area : Area) (d : Rect) → i < length areas → area ≡ get_or areas i area → get_or (rects_of areas) i d ≡ rect_of area
@@ -25,44 +26,36 @@ rect_at areas i area d h e = get_or-map rect_of areas i area d h ∙ sym (ap rec
 abbrev pub joined_at : List Rect → ℕ → ℕ → Rect → List Rect
 joined_at areas i j area = remove (set areas i area) j
 
+-- A list with two elements a and b of which y takes the place: what else it has, before and after.
+record Replaces {X : Type 0} (xs : List X) (a b y : X) (ys : List X) : Type 0 where
+  others : List X
+  before : IsPermutation xs (a ∷ b ∷ others)
+  after : IsPermutation (y ∷ others) ys
+
+replaces : {X : Type 0} (xs : List X) (i j : ℕ) (a b y : X) → i < j → j < length xs → a ≡ get_or xs i a → b ≡ get_or xs j b → Replaces xs a b y (remove (set xs i y) j)
+replaces [] i j a b y later below first second = absurd (omega arith)
+replaces (x ∷ xs) i zero a b y later below first second = absurd (omega arith)
+replaces (x ∷ xs) zero (suc j) a b y later below first second = record {
+  others = remove xs j;
+  before = subst (λ z. IsPermutation (x ∷ xs) (z ∷ b ∷ remove xs j)) (sym first) (IsPermutation-cons x xs (b ∷ remove xs j) (IsPermutation-remove xs j b (omega arith) second));
+  after = IsPermutation-refl (y ∷ remove xs j);
+}
+replaces (x ∷ xs) (suc i) (suc j) a b y later below first second =
+    let rest = replaces xs i j a b y (omega arith) (omega arith) first second in
+    let ys = remove (set xs i y) j in
+    record {
+      others = x ∷ rest.others;
+      before = IsPermutation-trans _ _ _ (IsPermutation-cons x xs (a ∷ b ∷ rest.others) rest.before) (IsPermutation-sym _ _ (IsPermutation-middle (a ∷ b ∷ []) x rest.others));
+      after = IsPermutation-trans _ _ _ (IsPermutation-middle (y ∷ []) x rest.others) (IsPermutation-cons x (y ∷ rest.others) ys rest.after);
+    }
+
 module _ {X : Type 0} (p : X → Bool) where
-  any_removed : (xs : List X) (j : ℕ) (d : X) → list_any p xs ≡ true → (p (get_or xs j d) ≡ true) ⊎ (list_any p (remove xs j) ≡ true)
-  any_removed [] j d h = cc
-  any_removed (x ∷ xs) zero d h = elim (p x) as (λ b. (b || list_any p xs) ≡ true → (b ≡ true) ⊎ (list_any p xs ≡ true)) [ true ↦ λ k. inl refl | false ↦ λ k. inr k ] h
-  any_removed (x ∷ xs) (suc j) d h =
-      elim (p x) as (λ b. (b || list_any p xs) ≡ true → (p (get_or xs j d) ≡ true) ⊎ ((b || list_any p (remove xs j)) ≡ true)) [ true ↦ λ k. inr refl | false ↦ λ k. any_removed xs j d k ] h
+  all_as_any : (xs : List X) → list_all p xs ≡ not (list_any (λ x. not (p x)) xs)
+  all_as_any [] = refl
+  all_as_any (x ∷ xs) = elim (p x) as (λ b. (b && list_all p xs) ≡ not (not b || list_any (λ x. not (p x)) xs)) [ true ↦ all_as_any xs | false ↦ refl ]
 
-  -- what passed still passes, where what passed at i or at j leads to what stands for both
-  pub any_joined : (xs : List X) (i j : ℕ) (y d : X) → i < j → j < length xs → (p (get_or xs i d) ≡ true → p y ≡ true) → (p (get_or xs j d) ≡ true → p y ≡ true) →
-      list_any p xs ≡ true → list_any p (remove (set xs i y) j) ≡ true
-  any_joined [] i j y d later below a b h = cc
-  any_joined (x ∷ xs) i zero y d later below a b h = absurd (omega arith)
-  any_joined (x ∷ xs) zero (suc j) y d later below a b h =
-      elim (p x) as (λ t. (t ≡ true → p y ≡ true) → (t || list_any p xs) ≡ true → (p y || list_any p (remove xs j)) ≡ true) [
-        | true ↦ λ a k. rw (a refl) refl
-        | false ↦ λ a k. elim (any_removed xs j d k) [ inl e ↦ rw (b e) refl | inr e ↦ or_right (p y) _ e ]
-      ] a h
-  any_joined (x ∷ xs) (suc i) (suc j) y d later below a b h =
-      elim (p x) as (λ t. (t || list_any p xs) ≡ true → (t || list_any p (remove (set xs i y) j)) ≡ true) [
-        | true ↦ λ k. refl
-        | false ↦ λ k. any_joined xs i j y d (omega arith) (omega arith) a b k
-      ] h
-
-  pub all_set : (xs : List X) (i : ℕ) (y : X) → p y ≡ true → list_all p xs ≡ true → list_all p (set xs i y) ≡ true
-  all_set [] i y e h = refl
-  all_set (x ∷ xs) zero y e h = and_both _ _ e (and_second _ _ h)
-  all_set (x ∷ xs) (suc i) y e h = and_both _ _ (and_first _ _ h) (all_set xs i y e (and_second _ _ h))
-
-  pub all_removed : (xs : List X) (j : ℕ) → list_all p xs ≡ true → list_all p (remove xs j) ≡ true
-  all_removed [] zero h = refl
-  all_removed [] (suc j) h = refl
-  all_removed (x ∷ xs) zero h = and_second _ _ h
-  all_removed (x ∷ xs) (suc j) h = and_both _ _ (and_first _ _ h) (all_removed xs j (and_second _ _ h))
-
-  pub all_at : (xs : List X) (i : ℕ) (d : X) → i < length xs → list_all p xs ≡ true → p (get_or xs i d) ≡ true
-  all_at [] i d below h = absurd (omega arith)
-  all_at (x ∷ xs) zero d below h = and_first _ _ h
-  all_at (x ∷ xs) (suc i) d below h = all_at xs i d (omega arith) (and_second _ _ h)
+  all_permuted : (xs ys : List X) → IsPermutation xs ys → list_all p xs ≡ true → list_all p ys ≡ true
+  all_permuted xs ys h all = all_as_any ys ∙ (ap not (sym (list_any-IsPermutation (λ x. not (p x)) xs ys h)) ∙ (sym (all_as_any xs) ∙ all))
 
 -- the least area with the pixels of two that are not empty
 abbrev hull : Rect → Rect → Rect
@@ -84,12 +77,6 @@ within_joined panel a b h k =
       around = record { left = grind (arith, ints); right = grind (arith, ints); top = grind (arith, ints); bottom = grind (arith, ints) };
     }))
 
-pub joined_covers : (panel a b : Rect) → is_within panel a ≡ true → is_within panel b ≡ true → Covers (joined a b) a × Covers (joined a b) b
-joined_covers panel a b h k =
-    let p = (within panel a h).some in
-    let q = (within panel b k).some in
-    (subst (λ (area : Rect). Covers area a) (hull_joined a b p q) (hull_first a b), subst (λ (area : Rect). Covers area b) (hull_joined a b p q) (hull_second a b))
-
 pub rects-joined_at : (areas : List Area) (i j : ℕ) (area : Area) → rects_of (remove (set areas i area) j) ≡ joined_at (rects_of areas) i j (rect_of area)
 rects-joined_at areas i j area =
     map-append rect_of (take j (set areas i area)) (drop (suc j) (set areas i area))
@@ -97,53 +84,63 @@ rects-joined_at areas i j area =
     ∙ (ap (λ (back : List Rect). take j (map rect_of (set areas i area)) ++ back) (sym (drop-map rect_of (suc j) (set areas i area)))
     ∙ ap (λ (xs : List Rect). remove xs j) (map-set rect_of areas i area)))
 
-module _ (panel : Rect) (areas : List Rect) (i j : ℕ) (each : list_all (is_within panel) areas ≡ true) (pair : IsPair areas i j) where
+-- two areas of which one pixel is common have pixels
+pub both_some : (a b : Rect) → is_empty (common a b) ≡ false → (is_empty a ≡ false) × (is_empty b ≡ false)
+both_some a b h = (grind (arith, ints), grind (arith, ints))
+
+or_either : (a b c d e : Bool) → (a ≡ true → d ≡ true) → (b ≡ true → d ≡ true) → (a || (b || c)) ≡ true → c ≡ e → (d || e) ≡ true
+or_either true b c d e p q h k = rw (p refl) refl
+or_either false true c d e p q h k = rw (q refl) refl
+or_either false false c d e p q h k = or_right d e (sym k ∙ h)
+
+module _ (old new : List Rect) (h : JoinsPair old new) where
   -- one join
-  abbrev a : Rect
-  a = get_or areas i panel
+  abbrev join : Rect
+  join = joined h.first h.second
 
-  abbrev b : Rect
-  b = get_or areas j panel
+  some : (is_empty h.first ≡ false) × (is_empty h.second ≡ false)
+  some = both_some h.first h.second (not_true _ (and_first _ _ h.joins))
 
-  within_a : is_within panel a ≡ true
-  within_a = let l = pair.later in let w = pair.within in all_at (is_within panel) areas i panel (omega arith) each
+  smaller_join : size_of join < size_of h.first + size_of h.second
+  smaller_join = ltb-true (size_of join) (size_of h.first + size_of h.second) (and_second _ _ h.joins)
 
-  within_b : is_within panel b ≡ true
-  within_b = all_at (is_within panel) areas j panel pair.within each
+  pub pair_length : length new + 1 ≡ length old
+  pair_length = omega (arith, length_permutation _ _ h.listed, length_permutation _ _ h.replaced)
 
-  pub join_each : list_all (is_within panel) (joined_at areas i j (joined a b)) ≡ true
-  join_each = all_removed (is_within panel) (set areas i (joined a b)) j (all_set (is_within panel) areas i (joined a b) (within_joined panel a b within_a within_b) each)
+  pair_total : total new ≤ total old
+  pair_total =
+      let before = sum_by-IsPermutation size_of _ _ h.listed in
+      let after = sum_by-IsPermutation size_of _ _ h.replaced in
+      omega (arith, smaller_join, before, after, sum_by-cons size_of h.first (h.second ∷ h.others), sum_by-cons size_of h.second h.others, sum_by-cons size_of join h.others)
 
-  pub join_length : length (joined_at areas i j (joined a b)) + 1 ≡ length areas
-  join_length =
-      let same = length-set areas i (joined a b) in
-      let w = pair.within in
-      omega (arith, length-remove (set areas i (joined a b)) j (omega arith))
+  pair_covers : (x y : ℤ) → covered old x y ≡ true → covered new x y ≡ true
+  pair_covers x y t =
+      let test = λ (area : Rect). has area x y in
+      let is = hull_joined h.first h.second some.0 some.1 in
+      let first = subst (λ (area : Rect). Covers area h.first) is (hull_first h.first h.second) in
+      let second = subst (λ (area : Rect). Covers area h.second) is (hull_second h.first h.second) in
+      sym (list_any-IsPermutation test _ _ h.replaced)
+      ∙ or_either (test h.first) (test h.second) (list_any test h.others) (test join) (list_any test h.others) (first x y) (second x y) (sym (list_any-IsPermutation test _ _ h.listed) ∙ t) refl
 
-  pub join_total : total (joined_at areas i j (joined a b)) ≤ total areas
-  join_total =
-      let l = pair.later in
-      let w = pair.within in
-      let same = length-set areas i (joined a b) in
-      let put = sum_by-set size_of areas i (joined a b) panel (omega arith) in
-      let cut = sum_by-remove size_of (set areas i (joined a b)) j panel (omega arith) in
-      let kept = ap size_of (get_or-set_other areas i j (joined a b) panel (omega arith)) in
-      let less : size_of (joined a b) < size_of a + size_of b = ltb-true (size_of (joined a b)) (size_of a + size_of b) (and_second _ _ (pair.joins panel)) in
-      omega (arith, less, put, cut, kept)
+  pub pair_within : (panel : Rect) → list_all (is_within panel) old ≡ true → list_all (is_within panel) new ≡ true
+  pair_within panel each =
+      let all = all_permuted (is_within panel) _ _ h.listed each in
+      let others = and_second _ _ (and_second _ _ all) in
+      all_permuted (is_within panel) _ _ h.replaced (and_both _ _ (within_joined panel h.first h.second (and_first _ _ all) (and_first _ _ (and_second _ _ all))) others)
 
-  pub join_covers : (x y : ℤ) → covered areas x y ≡ true → covered (joined_at areas i j (joined a b)) x y ≡ true
-  join_covers x y =
-      let both = joined_covers panel a b within_a within_b in
-      any_joined (λ (area : Rect). has area x y) areas i j (joined a b) panel pair.later pair.within (both.0 x y) (both.1 x y)
+pub keeps_pixels : (old new : List Rect) → JoinsPairs old new → KeepsPixels old new
+keeps_pixels old _ none = record { covers = λ x y h. h; smaller = omega arith; fewer = omega arith; none_lost = λ h. h }
+keeps_pixels old new (one_more {between} pairs pair) =
+    let before = keeps_pixels old between pairs in
+    record {
+      covers = λ x y h. pair_covers between new pair x y (before.covers x y h);
+      smaller = let s = before.smaller in omega (arith, pair_total between new pair);
+      fewer = let f = before.fewer in omega (arith, pair_length between new pair);
+      none_lost = λ h. let l = length_permutation _ _ pair.replaced in omega arith;
+    }
 
-pub joins_self : (areas : List Rect) → Joins areas areas
-joins_self areas = record { covers = λ x y h. h; smaller = omega arith; fewer = omega arith; none_lost = λ h. h }
-
-pub joins_more : (panel : Rect) (old areas : List Rect) (i j : ℕ) → list_all (is_within panel) areas ≡ true → IsPair areas i j → Joins old areas →
-    Joins old (joined_at areas i j (joined (get_or areas i panel) (get_or areas j panel)))
-joins_more panel old areas i j each pair h = record {
-  covers = λ x y k. join_covers panel areas i j each pair x y (h.covers x y k);
-  smaller = let s = h.smaller in omega (arith, join_total panel areas i j each pair);
-  fewer = let f = h.fewer in omega (arith, join_length panel areas i j each pair);
-  none_lost = λ k. let l = pair.later in let w = pair.within in omega (arith, join_length panel areas i j each pair);
-}
+-- the areas at i and j, where they are to be joined, gave way to their join
+pub joins_pair : (areas : List Rect) (i j : ℕ) (a b : Rect) → IsPair areas i j → ((d : Rect) → get_or areas i d ≡ a) → ((d : Rect) → get_or areas j d ≡ b) → JoinsPair areas (joined_at areas i j (joined a b))
+joins_pair areas i j a b pair first second =
+    let r = replaces areas i j a b (joined a b) pair.later pair.within (sym (first a)) (sym (second b)) in
+    record { first = a; second = b; others = r.others; listed = r.before; joins = rw (first a, second a) at (pair.joins a); replaced = r.after }

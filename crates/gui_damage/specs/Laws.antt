@@ -4,6 +4,7 @@ use Rattle.std.specs.List.{list_all}
 use Rattle.gui_base.specs.Area.{Rect, width_of, is_within}
 use Rattle.gui_damage.specs.Pending.{Pending, IsPending}
 use Rattle.gui_damage.specs.Adding.{added_all, AddsAll}
+use Rattle.gui_damage.specs.Joining.{JoinsPairs, KeepsPixels}
 use Rattle.gui_damage.specs.Slices.{slice_of, left_after, Takes}
 
 -- a slice has pixels of the first area alone, and what is left has all others
@@ -21,3 +22,7 @@ abbrev pub AreasAreAdded : Type 0
 AreasAreAdded = (areas : List Rect) (pending : Pending) →
     IsPending pending → list_all (is_within pending.panel) areas ≡ true →
     AddsAll pending (added_all pending areas) areas
+
+-- where pairs are joined nothing that was covered is lost, and the list grows neither in pixels nor in areas
+abbrev pub JoinsKeepPixels : Type 0
+JoinsKeepPixels = (old new : List Rect) → JoinsPairs old new → KeepsPixels old new

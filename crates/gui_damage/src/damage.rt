@@ -79,7 +79,8 @@ impl Damage {
     }
 
     /// Replaces two listed areas that have a pixel in common, and whose join has fewer pixels than both
-    /// together, by their join, until there is no such pair.
+    /// together, by their join, until there is no such pair. What was covered stays covered, and the sum of
+    /// the sizes does not grow.
     pub fn join_all(&mut self)
         ensures { JoinsAll self.old self.new }
     {

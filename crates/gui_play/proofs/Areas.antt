@@ -18,3 +18,8 @@ adds_of_panel before after old new debt panel same adds =
     let next : new.panel ≡ panel_of after = adds.panel ∙ (panel ∙ sym (same_panel before after same)) in
     subst (λ (r : Rect). AddsAll (of_panel before old.areas) (record { panel = r; areas = new.areas }) debt) next
     (subst (λ (r : Rect). AddsAll (record { panel = r; areas = old.areas }) new debt) panel adds)
+
+-- where a list stays as it was
+pub stays_of_panel : (before after : Scene) (old new : Pending) → after.limits ≡ before.limits → new ≡ old → of_panel after new.areas ≡ of_panel before old.areas
+stays_of_panel before after old new same e =
+    ap (λ (r : Rect). record { panel = r; areas = new.areas }) (same_panel before after same) ∙ ap (λ (p : Pending). of_panel before p.areas) e

@@ -19,7 +19,7 @@ use Rattle.scene_defs.specs.Scene.{Scene}
 use Rattle.scene_defs.specs.Place.{panel_of}
 use Rattle.scene_defs.specs.Picture.{paint, picture}
 use Rattle.scene_defs.proofs.Pictures.{picture_from_pixels}
-use Rattle.gui_play.specs.Panels.{ShowsScene, Refreshes}
+use Rattle.gui_play.specs.Panels.{ShowsScene, Refreshes, stage_of}
 
 pub panel_is : (scene : Scene) (p : PanelState) → HasSizes p scene.limits → area_of p ≡ panel_of scene
 panel_is scene p sizes = rw (sizes.width_is, sizes.height_is) refl
@@ -79,18 +79,33 @@ sends_by scene old new answer sizes same r =
 abbrev pub of_panel : Scene → List Rect → Pending
 of_panel scene areas = record { panel = panel_of scene; areas = areas }
 
+-- the same refresh, by a refresher of the scene's sizes and areas of its panel
+by_scene : (scene : Scene) (before after : Refreshing) (old new : PanelState) (pending left : Pending) (answer : Refreshed) → before.sizes ≡ sizes_of scene.limits → after.sizes ≡ sizes_of scene.limits → pending.panel ≡ panel_of scene → left.panel ≡ panel_of scene →
+    RefreshesAt (paint scene) (stage before old pending) (stage after new left) answer →
+    RefreshesAt (paint scene) (stage_of scene old (of_panel scene pending.areas)) (stage_of scene new (of_panel scene left.areas)) answer
+by_scene scene before after old new pending left answer same kept panel stays r =
+    subst (λ (s : Sizes). RefreshesAt (paint scene) (stage (record { sizes = s }) old (of_panel scene pending.areas)) (stage_of scene new (of_panel scene left.areas)) answer) same
+    (subst (λ (s : Sizes). RefreshesAt (paint scene) (stage before old (of_panel scene pending.areas)) (stage (record { sizes = s }) new (of_panel scene left.areas)) answer) kept
+    (subst (λ (a : Rect). RefreshesAt (paint scene) (stage before old (record { panel = a; areas = pending.areas })) (stage after new (of_panel scene left.areas)) answer) panel
+    (subst (λ (a : Rect). RefreshesAt (paint scene) (stage before old pending) (stage after new (record { panel = a; areas = left.areas })) answer) stays r)))
+
 -- a refresh with the scene's picture is one of the scene
-pub refreshes_scene : (scene : Scene) (before after : Refreshing) (old new : PanelState) (pending left : Pending) (answer : Refreshed) → HasSizes old scene.limits → before.sizes ≡ sizes_of scene.limits → after ≡ before → TellsEach new →
+pub refreshes_scene : (scene : Scene) (before after : Refreshing) (old new : PanelState) (pending left : Pending) (answer : Refreshed) → HasSizes old scene.limits → before.sizes ≡ sizes_of scene.limits → after ≡ before → pending.panel ≡ panel_of scene → TellsEach new →
     RefreshesAt (paint scene) (stage before old pending) (stage after new left) answer →
     Refreshes old new (of_panel scene pending.areas) (of_panel scene left.areas) scene answer
-refreshes_scene scene before after old new pending left answer has same kept tells r =
-    let sizes = has_sizes scene old (stage after new left) has r.can (ap (λ (s : Refreshing). s.sizes) kept ∙ same) in
+refreshes_scene scene before after old new pending left answer has same kept panel tells r =
+    let kept_sizes = ap (λ (s : Refreshing). s.sizes) kept ∙ same in
+    let sizes = has_sizes scene old (stage after new left) has r.can kept_sizes in
+    let by = by_scene scene before after old new pending left answer same kept_sizes panel (r.can.area ∙ panel_is scene new sizes) r in
     record {
       keeps = r.keeps;
       sizes = sizes;
       agrees = r.agrees;
-      sends = sends_by scene (stage before old pending) (stage after new left) answer sizes same r;
+      sends = by.sends;
+      counts = sends_by scene (stage before old pending) (stage after new left) answer sizes same r;
+      flawless = λ e. (r.done e).faults;
       clear = λ e. (r.done e).none_pending;
       done = λ e agrees. shows_scene scene new sizes tells ((r.done e).shows agrees);
       fault = λ e. let stops = r.fault e in let failed = stops.failed.count in let faults = stops.faults in omega arith;
+      stops = by.fault;
     }

@@ -39,7 +39,7 @@ steps_done a b play result uncut unnoted p o =
     let lines = subst (λ (cut : Bool). WritesBy cut b.cut a.log b.log play.lines) uncut p.lines in
     let log : Logged a.log b.log result play.lines (Fine play.noted) =
     subst (λ (n : Bool). Logged a.log b.log result play.lines (Fine n)) noted (logged b.cut b.noted a.log b.log play.lines result o lines) in
-    record { machine = p.machine; owed = p.owed; reply = log.said; lines = log.lines_ok; cut = log.prefix; cause = log.cause }
+    record { machine = p.machine; owed = p.owed; reply = log.said; lines = log.lines_ok; cut = log.prefix; cause = log.cause; refused = λ refusal e. cc }
 
 -- the same of a command against which there may be a refusal
 pub steps_unless : (a b : Stage) (reason : Option Refusal) (rule : Rule) (result : Result Reply Failed) → reason ≡ None → a.cut ≡ false → a.noted ≡ false → Played a b (rule a.machine) → IsEnd b.cut b.noted result →
@@ -47,9 +47,9 @@ pub steps_unless : (a b : Stage) (reason : Option Refusal) (rule : Rule) (result
 steps_unless a b reason rule result e uncut unnoted p o = rw e (steps_done a b (rule a.machine) result uncut unnoted p o)
 
 -- where there is one, nothing is done
-pub steps_refused : (a b : Stage) (reason : Option Refusal) (refusal : Refusal) (rule : Rule) → reason ≡ Some refusal → Played a b (only a.machine) → b.log ≡ a.log →
+pub steps_refused : (a b : Stage) (reason : Option Refusal) (refusal : Refusal) (rule : Rule) → reason ≡ Some refusal → Played a b (only a.machine) → b.pending ≡ a.pending → b.log ≡ a.log →
     Steps a b (Ok (Refused refusal)) (unless reason rule a.machine)
-steps_refused a b reason refusal rule e p same =
+steps_refused a b reason refusal rule e p stays same =
     rw e (record {
       machine = p.machine;
       owed = p.owed;
@@ -57,6 +57,7 @@ steps_refused a b reason refusal rule e p same =
       lines = rw same (Appends-nil a.log.held);
       cut = tt;
       cause = rw same (record { later = omega arith; failed = tt });
+      refused = λ other e. record { answer = ap Ok e; pending = stays; log = same };
     })
 
 pub none_of_ok : (o : Option Refusal) → Ok tt ≡ result_of o → o ≡ None

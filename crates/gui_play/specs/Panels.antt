@@ -5,8 +5,8 @@ use Rattle.scene_defs.specs.Picture.{paint, picture}
 use Rattle.gui_edge.specs.Panel.{PanelState, HasSizes, area_of}
 use Rattle.gui_damage.specs.Pending.{Pending}
 use Rattle.gui_refresh.specs.Owing.{standing_of}
-use Rattle.gui_refresh.specs.Refreshes.{KeepsPanel}
-use Rattle.gui_refresh.specs.Stages.{Agrees}
+use Rattle.gui_refresh.specs.Refreshes.{KeepsPanel, Sends, StopsAtFault, failures}
+use Rattle.gui_refresh.specs.Stages.{Stage, Agrees, sizes_of, stage}
 use Rattle.gui_refresh.specs.declared.Refreshed.{Refreshed}
 use Rattle.gui_refresh.specs.declared.Refreshed.TheVariants.{Done, Fault}
 use Rattle.owed_defs.specs.Standings.{Refreshes as SendsPending}
@@ -27,6 +27,10 @@ GoesOnAgreeing before after old new =
     (panel : PanelState) → HasSizes panel old.limits → AgreesWith panel before old →
     AgreesWith panel after new
 
+-- a refresher of this scene's sizes, a panel, and the areas of it that are pending
+abbrev pub stage_of : Scene → PanelState → Pending → Stage
+stage_of scene panel pending = stage (record { sizes = sizes_of scene.limits }) panel pending
+
 -- a refresh of this scene, by what was pending before it and what is after it
 pub record Refreshes (old new : PanelState) (before after : Pending) (scene : Scene) (answer : Refreshed) :
     Type 0 where
@@ -34,11 +38,16 @@ pub record Refreshes (old new : PanelState) (before after : Pending) (scene : Sc
   pub sizes : HasSizes new scene.limits
   -- each pixel is still pending or right
   pub agrees : AgreesWith old before scene → AgreesWith new after scene
-  -- what was sent was pending, and what failed is pending again
-  pub sends : SendsPending (panel_size scene.limits) (slice_limit scene.limits)
+  -- what was sent was pending, and the slice that failed is pending again; where the list had no room for
+  -- that, it is the whole panel alone
+  pub sends : Sends (stage_of scene old before) (stage_of scene new after) (failures answer)
+  -- the same, as the accounts of a run tell it
+  pub counts : SendsPending (panel_size scene.limits) (slice_limit scene.limits)
       (standing_of old before) (standing_of new after)
-  -- Done: nothing is pending, and the panel shows the picture
+  -- Done: no flush failed, nothing is pending, and the panel shows the picture
+  pub flawless : answer ≡ Done → new.flush_faults ≡ old.flush_faults
   pub clear : answer ≡ Done → after.areas ≡ []
   pub done : answer ≡ Done → AgreesWith old before scene → ShowsScene new scene
-  -- Fault: only where a flush failed
+  -- Fault: a flush failed, after which none was asked for, and its slice is pending again
   pub fault : answer ≡ Fault → old.flush_faults < new.flush_faults
+  pub stops : answer ≡ Fault → StopsAtFault (stage_of scene old before) (stage_of scene new after)

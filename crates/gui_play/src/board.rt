@@ -1,5 +1,5 @@
 //! The board on which the rules are played.
-ghost use Rattle.std.specs.Prelude.{◌≡◌, ◌∷◌, [], false, IfOk, pos};
+ghost use Rattle.std.specs.Prelude.{◌≡◌, ◌∷◌, [], false, IfOk, OnErr, pos};
 ghost use Rattle.gui_base.specs.Area.{area_at, is_empty};
 ghost use Rattle.gui_base.specs.Bounded.{bounds_of};
 ghost use Rattle.gui_base.specs.Corners.{rect_of};
@@ -146,6 +146,7 @@ impl Board {
         requires { IsChange change.now }
         ensures answer { result ≡ result_of (answer_of (machine_of self.old).scene change.now) }
         ensures done { Quiet self.old self.new (make change.now) }
+        ensures refused { OnErr result (pending_of self.new ≡ pending_of self.old) }
         ensures gone { removed_in self.new.canvas
             ≡ removed_by (answer_of (machine_of self.old).scene change.now) (removed_in self.old.canvas)
             (machine_of self.old).scene change.now }

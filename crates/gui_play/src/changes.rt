@@ -21,7 +21,7 @@ use gui_edge::Sink;
 use scene_defs::Change;
 
 impl Board {
-    ghost use Rattle.gui_play.specs.Boards.{machine_of, Plays, Quiet};
+    ghost use Rattle.gui_play.specs.Boards.{machine_of, pending_of, Plays, Quiet};
 
     /// Puts an object into a state, or takes it out; no change where it is so already.
     pub(crate) fn put_state(&mut self, state: State, on: bool, h: Handle)
@@ -156,6 +156,7 @@ impl Board {
         ensures answer { result ≡ result_of (answer_of (machine_of self.old).scene change.now) }
         ensures done { OnOk result (Quiet self.old self.new (made change.now)) }
         ensures refused { OnErr result (Quiet self.old self.new nothing) }
+        ensures unmarked { OnErr result (pending_of self.new ≡ pending_of self.old) }
     {
         // Lending the tree tells that the scene is in order.
         let _tree = self.canvas.store().tree();

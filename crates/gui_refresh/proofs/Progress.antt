@@ -11,9 +11,10 @@ use Rattle.gui_edge.specs.KeepsTelling.{KeepsTelling}
 use Rattle.gui_edge.specs.Panel.{PanelState, area_of, CanFlush, Flushes, FlushDone, FlushFailed}
 use Rattle.gui_edge.proofs.Telling.{keeps_telling-some}
 use Rattle.gui_damage.specs.Pending.{Pending, covered, total}
-use Rattle.gui_damage.specs.Adding.{AddsAll}
+use Rattle.gui_damage.specs.Adding.{added, AddsAll}
 use Rattle.gui_damage.specs.Joining.{JoinsAll}
 use Rattle.gui_damage.specs.Slices.{Takes}
+use Rattle.gui_damage.proofs.Joins.{keeps_pixels}
 use Rattle.gui_damage.proofs.Lines.{in_order}
 use Rattle.gui_damage.proofs.Listed.{within}
 use Rattle.gui_refresh.specs.Stages.{Sizes, Stage, IsSizes, CanRefresh, Agrees, AgreesAt}
@@ -33,13 +34,14 @@ pub record Progress (color : ℤ → ℤ → Rgb565) (old now : Stage) : Type 0 
 -- the pending areas were joined
 pub progress_joined : (color : ℤ → ℤ → Rgb565) (old : Stage) (joined : Pending) → CanRefresh old → JoinsAll old.pending joined → Progress color old (record old { pending = joined })
 progress_joined color old joined can joins =
-    let smaller = joins.joins.smaller in
+    let keeps = keeps_pixels _ _ joins.joins in
+    let smaller = keeps.smaller in
     record {
       can = record { width = can.width; height = can.height; limit = can.limit; area = joins.panel ∙ can.area };
       keeps = record { told = λ h. h; frames = refl; present_faults = refl; flush_faults = omega arith };
-      agrees = if_told old.panel.shows _ _ (λ colors. agrees_more (area_of old.panel) color old.pending.areas joined.areas colors joins.joins.covers);
+      agrees = if_told old.panel.shows _ _ (λ colors. agrees_more (area_of old.panel) color old.pending.areas joined.areas colors keeps.covers);
       sizes = omega arith;
-      counts = joins.joins.fewer;
+      counts = keeps.fewer;
       faults = refl;
     }
 
@@ -124,9 +126,9 @@ some_covered (area ∷ rest) x y h = omega arith
 
 -- the flush of a slice failed, and it was added again
 pub refresh_fault : (color : ℤ → ℤ → Rgb565) (old now : Stage) (panel : PanelState) (limit : ℕ) (left : List Rect) (slice : Rect) (after : Pending) → Progress color old now → limit ≡ old.refresher.sizes.limit →
-    Takes now.pending.panel limit now.pending.areas left slice → Flushes now.panel panel slice → FlushFailed now.panel panel slice → AddsAll (record now.pending { areas = left }) after (slice ∷ []) →
+    Takes now.pending.panel limit now.pending.areas left slice → Flushes now.panel panel slice → FlushFailed now.panel panel slice → AddsAll (record now.pending { areas = left }) after (slice ∷ []) → after ≡ added (record now.pending { areas = left }) slice →
     RefreshesAt color old (flushed now panel after) Fault
-refresh_fault color old now panel limit left slice after p is takes flushes failed adds =
+refresh_fault color old now panel limit left slice after p is takes flushes failed adds listed =
     let covers : (x y : ℤ) → has slice x y ≡ true → covered after.areas x y ≡ true = λ x y h. adds.covers x y (or_left (has slice x y) false h) in
     let sizes = p.sizes in
     let counts = p.counts in
@@ -152,10 +154,13 @@ refresh_fault color old now panel limit left slice after p is takes flushes fail
       fault = λ e. record {
         before = now.panel;
         slice = slice;
+        left = left;
         faults = p.faults;
         flushes = flushes;
         failed = failed;
         some = takes.some;
+        sent = omega arith;
+        listed = listed ∙ ap (λ (panel : Rect). added (record { panel = panel; areas = left }) slice) (sym adds.panel);
         pending = some_covered after.areas slice.x1 slice.y1 (covers slice.x1 slice.y1 (first_pixel now.pending.panel slice takes.inside));
         again = covers;
       };

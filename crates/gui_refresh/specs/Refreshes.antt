@@ -1,8 +1,9 @@
 -- What a refresh does to a panel and to the areas that are pending.
-use Rattle.std.specs.Prelude.{◌≡◌, ℕ, ◌+◌, ◌*◌, ◌<◌, ◌≤◌, true, [], ◌∷◌, length, ℤ, IsSome, ◌⊎◌}
+use Rattle.std.specs.Prelude.{◌≡◌, ℕ, ◌+◌, ◌*◌, ◌<◌, ◌≤◌, true, List, [], ◌∷◌, length, ℤ, IsSome, ◌⊎◌}
 use Rattle.gui_base.specs.declared.color.Rgb565.{Rgb565}
 use Rattle.gui_base.specs.Area.{Rect, has, size_of}
 use Rattle.gui_edge.specs.Panel.{PanelState, Flushes, FlushFailed}
+use Rattle.gui_damage.specs.Adding.{added}
 use Rattle.gui_damage.specs.Pending.{covered, total, most_areas}
 use Rattle.gui_refresh.specs.Stages.{Stage, CanRefresh, AgreesAt, ShowsPicture}
 use Rattle.gui_refresh.specs.declared.Refreshed.{Refreshed}
@@ -48,13 +49,17 @@ pub record SendsAll (color : ℤ → ℤ → Rgb565) (old new : Stage) : Type 0 
 
 -- one flush failed, after which none was asked for; its slice is pending again
 pub record StopsAtFault (old new : Stage) : Type 0 where
-  -- the panel before that flush
+  -- the panel before that flush, and what was listed beside its slice
   pub before : PanelState
   pub slice : Rect
+  pub left : List Rect
   pub faults : before.flush_faults ≡ old.panel.flush_faults
   pub flushes : Flushes before new.panel slice
   pub failed : FlushFailed before new.panel slice
   pub some : 0 < size_of slice
+  -- what was sent, that slice too, was pending, each pixel as often as it was listed
+  pub sent : new.panel.sent + total left ≤ old.panel.sent + total old.pending.areas
+  pub listed : new.pending ≡ added (record new.pending { areas = left }) slice
   pub pending : 0 < length new.pending.areas
   pub again : (x y : ℤ) → has slice x y ≡ true → covered new.pending.areas x y ≡ true
 

@@ -18,4 +18,4 @@ unfolding step
 returns-in-Err g c =
     let machine = machine_of c.args.self.now in
     let refused = some_of_err (answer_of machine.scene c.args.change.now) c.in-Err.refusal c.in-Err.ensures.answer in
-    steps_refused _ _ _ c.in-Err.refusal (made c.args.change.now) refused (c.in-Err.ensures.refused (g.S.Sink.state c.args.log.now)) refl
+    steps_refused _ _ _ c.in-Err.refusal (made c.args.change.now) refused (c.in-Err.ensures.refused (g.S.Sink.state c.args.log.now)) c.in-Err.ensures.unmarked refl

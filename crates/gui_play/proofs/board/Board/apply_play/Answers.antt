@@ -8,7 +8,7 @@ use Rattle.gui_play.proofs.board.Board.apply_play.Goals as goal
 pub returns-in-Some : goal.returns-in-Some
 unfolding step
 returns-in-Some g c =
-    steps_refused _ _ (answer (machine_of c.args.self.now) c.args.command.now) c.in-Some.refusal (rule_of c.args.command.now) (sym c.in-Some.ensures) (idle (stage c.args.self.now (g.S.Sink.state c.args.log.now))) refl
+    steps_refused _ _ (answer (machine_of c.args.self.now) c.args.command.now) c.in-Some.refusal (rule_of c.args.command.now) (sym c.in-Some.ensures) (idle (stage c.args.self.now (g.S.Sink.state c.args.log.now))) refl refl
 
 pub returns-in-None : goal.returns-in-None
 unfolding step

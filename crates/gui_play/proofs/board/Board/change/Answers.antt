@@ -1,10 +1,11 @@
 use Rattle.std.proofs.Common.{◌≡◌, ◌∙◌, sym, ap, refl}
+use Rattle.std.proofs.lemmas.Result.{on_err_weaker}
 use Rattle.scene_defs.proofs.Changes.{change_keeps_limits}
 use Rattle.scene_defs.specs.Scene.{Scene}
 use Rattle.gui_change.specs.Canvas.{scene_in}
 use Rattle.debt_defs.specs.Scenes.{debt_of}
 use Rattle.gui_play.specs.Boards.{machine_of, stage}
-use Rattle.gui_play.proofs.Areas.{adds_of_panel, same_panel}
+use Rattle.gui_play.proofs.Areas.{adds_of_panel, same_panel, stays_of_panel}
 use Rattle.gui_play.proofs.Boards.{played_change, sized_for}
 use Rattle.gui_play.proofs.Writes.{writes_nothing}
 use Rattle.gui_play.proofs.board.Board.change.Goals as goal
@@ -28,3 +29,8 @@ returns-clause-done c = λ log.
     (ap (λ (s : Scene). record (machine_of c.args.self.now) { scene = s }) c.change.ensures.after)
     (adds_of_panel old (scene_in c.change.new.self) c.args.self.now.damage c.change.new.damage (debt_of old c.args.change.now) c.args.self.now.panel limits c.change.ensures.debt)
     (writes_nothing c.args.self.now.scribe.cut log) refl
+
+pub returns-clause-refused : goal.returns-clause-refused
+returns-clause-refused c =
+    let limits = same_limits (goal.at.returns-clause-refused c).After-change in
+    on_err_weaker c.change.result (stays_of_panel (scene_in c.args.self.now.canvas) (scene_in c.change.new.self) c.args.self.now.damage c.change.new.damage limits) c.change.ensures.refused

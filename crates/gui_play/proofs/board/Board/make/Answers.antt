@@ -9,6 +9,9 @@ returns-in_err-change-clause-refused c =
     let answer = answer_some (answer_of (scene_in now.canvas) c.args.change.now) c.change.result _ c.change.ensures.answer c.in_err-change.was in
     on_err_any c.from_residual.result (refused_make now c.change.new.self c.args.change.now _ answer c.change.ensures.done)
 
+pub returns-in_err-change-clause-unmarked : goal.returns-in_err-change-clause-unmarked
+returns-in_err-change-clause-unmarked c = on_err_any c.from_residual.result c.in_err-change.ensures.refused
+
 pub returns-in-Delete-clause-done : goal.returns-in-Delete-clause-done
 returns-in-Delete-clause-done c =
     let now = c.args.self.now in
@@ -21,4 +24,5 @@ returns-in_default c = record {
   answer = c.in_ok-change.ensures.answer;
   done = made_plain c.args.self.now c.change.new.self c.args.change.now (not_deleted c.args.change.now c.in_default.not-Delete) c.change.ensures.done;
   refused = tt;
+  unmarked = tt;
 }

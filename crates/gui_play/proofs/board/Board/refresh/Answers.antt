@@ -10,4 +10,4 @@ refresh-requires g c =
 pub returns-clause-refreshes : goal.returns-clause-refreshes
 returns-clause-refreshes g c =
     refreshes_scene (scene_in c.args.self.now.canvas) c.args.refresher.now c.refresh.new.self (g.P.Panel.state c.args.panel.now) (g.P.Panel.state c.refresh.new.panel) c.args.self.now.damage c.refresh.new.damage
-    c.refresh.result c.requires.sizes c.requires.refresher c.refresh.ensures.same (g.met.P.Panel.each c.refresh.new.panel) c.refresh.ensures.refreshes
+    c.refresh.result c.requires.sizes c.requires.refresher c.refresh.ensures.same c.args.self.now.panel (g.met.P.Panel.each c.refresh.new.panel) c.refresh.ensures.refreshes

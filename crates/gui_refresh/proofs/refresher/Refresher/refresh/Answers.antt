@@ -83,7 +83,7 @@ returns-in-Err-clause-refreshes g c =
     subst (λ (r : Refreshing). RefreshesAt color old (stage r (g.P.Panel.state c.show.new.panel) c.add.new.self) Fault) (sym inv.same)
     (subst (λ (p : Pending). RefreshesAt color old (stage c.args.self.now (g.P.Panel.state c.show.new.panel) p) Fault) now_is
     (refresh_fault color old (now g d) (g.P.Panel.state c.show.new.panel) _ left.areas slice (added left slice) inv.progress (same_limit g d) t c.in-Err.ensures.same c.in-Err.ensures.err
-    (adds_all (slice ∷ []) left t.pending (and_both _ _ t.inside refl))))
+    (adds_all (slice ∷ []) left t.pending (and_both _ _ t.inside refl)) refl))
 
 pub returns-clause-refreshes : goal.returns-clause-refreshes
 returns-clause-refreshes g c =

@@ -349,7 +349,7 @@ leaves_book scene (change.Set s prop value) v fits t l =
 leaves_book scene (change.Unset s prop) v fits t l =
     book_becomes scene (change.Unset s prop) _ nobody v (unset_becomes scene.book v.book s prop (not-false _ t.0)) refl (λ k off. refl)
 leaves_book scene (change.Use h s selector) v fits t l =
-    let b = use_becomes scene.book v.book h.0 (a_use s selector) (grind (arith, nat_tests, fits)) in
+    let b = use_becomes scene.book v.book h.0 (a_use s selector) (grind (arith, nat_tests, fits)) (not-false _ t.1.0) in
     book_becomes scene (change.Use h s selector) _ (λ k. eqb k h.0) v b refl (λ k off. another scene h k t.0 off)
 leaves_book scene (change.Unuse h s selector) v fits t l =
     let b = unuse_becomes scene.book v.book h.0 (a_use s selector) (grind (arith, nat_tests, fits)) (not-false _ t.1.0) in

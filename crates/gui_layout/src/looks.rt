@@ -2,7 +2,7 @@
 ghost use Rattle.std.specs.Prelude.{◌≡◌, Some, true, option_map};
 ghost use Rattle.gui_base.specs.declared.props.Prop.{Prop as Property};
 ghost use Rattle.gui_base.specs.declared.words.Part.TheVariants.{Main};
-ghost use Rattle.scene_defs.specs.Change.{text_at};
+ghost use Rattle.scene_defs.specs.Edits.{text_at};
 ghost use Rattle.scene_defs.specs.Looks.{look_of, image_look};
 ghost use Rattle.scene_defs.specs.Row.{shown_row};
 ghost use Rattle.scene_defs.specs.Scene.{is_there, object_at, row_at, value};

@@ -19,7 +19,8 @@ use Rattle.play_defs.specs.declared.Group.{Group}
 use Rattle.play_defs.specs.declared.Member.{Member}
 use Rattle.scene_defs.specs.declared.Change.{Change}
 use Rattle.scene_defs.specs.declared.Change.TheVariants as change
-use Rattle.scene_defs.specs.Change.{answer_of, changed, below}
+use Rattle.scene_defs.specs.Change.{answer_of, changed}
+use Rattle.scene_defs.specs.Edits.{below}
 use Rattle.scene_defs.specs.Scene.{Scene, handle_of, handles_of, is_there}
 use Rattle.scene_defs.specs.Valid.{IsValid, IsChange, is_among, stand_once}
 use Rattle.scene_defs.proofs.Assets.{once-append}

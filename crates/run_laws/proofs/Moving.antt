@@ -19,7 +19,8 @@ use Rattle.play_defs.specs.Focus.{Groups, group_at, group_of, focused_in, with_f
 use Rattle.play_defs.specs.declared.Anim.{Anim}
 use Rattle.scene_defs.specs.declared.Change.{Change}
 use Rattle.scene_defs.specs.declared.Change.TheVariants as change
-use Rattle.scene_defs.specs.Change.{answer_of, changed, below}
+use Rattle.scene_defs.specs.Change.{answer_of, changed}
+use Rattle.scene_defs.specs.Edits.{below}
 use Rattle.scene_defs.specs.Scene.{Scene, is_there}
 use Rattle.scene_defs.specs.Valid.{IsValid, IsChange, is_among}
 use Rattle.scene_defs.proofs.Changes.{range_done}

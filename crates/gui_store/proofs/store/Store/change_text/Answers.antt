@@ -7,7 +7,7 @@ use Rattle.gui_pool.specs.Texts.{need_of}
 use Rattle.gui_rows.specs.Rows.{with_text}
 use Rattle.scene_defs.specs.declared.Change.TheVariants as change
 use Rattle.scene_defs.specs.declared.Feature.TheVariants.{Text}
-use Rattle.scene_defs.specs.Ranges.{is_in_range}
+use Rattle.scene_defs.specs.Deeds.{is_in_range}
 use Rattle.scene_defs.specs.Row.{has_feature}
 use Rattle.scene_defs.specs.Valid.{IsChange}
 use Rattle.gui_store.proofs.Edits.{set_of, text-absent, text-kind, text-full, text-done}

@@ -1,5 +1,5 @@
 //! The store.
-ghost use Rattle.std.specs.Prelude.{◌≡◌, ◌<◌, IfOk, IfSome, Some, None, true, length};
+ghost use Rattle.std.specs.Prelude.{◌≡◌, ◌<◌, IfOk, IfSome, Some, None, true, length, []};
 ghost use Rattle.std.specs.Prelude.{is_some, option_map};
 ghost use Rattle.gui_base.specs.Bounded.{bounds_of};
 ghost use Rattle.gui_base.specs.Intervals.{is_counted};
@@ -88,7 +88,8 @@ impl Store {
     /// The top layer, the system layer and a screen, which is active. It takes all the memory that the
     /// store will need; NoMemory where there is too little.
     pub fn open(alloc: Global, limits: &Limits) -> Result<Store, NoMemory>
-        ensures { IfOk result (λ store. scene_of store ≡ first_scene (bounds_of limits.now)) }
+        ensures scene { IfOk result (λ store. scene_of store ≡ first_scene (bounds_of limits.now)) }
+        ensures removed { IfOk result (λ store. removed_of store ≡ []) }
     {
         let tree = Tree::open(alloc, limits.objects)?;
         let Ok(mut rows) = RowTable::open(alloc, HANDLES, limits.objects, limits.texts) else {

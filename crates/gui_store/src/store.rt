@@ -18,7 +18,7 @@ ghost use Rattle.scene_defs.specs.Valid.{IsValid, IsChange, IsRow};
 ghost use Rattle.gui_style.specs.Styles.{uses_style};
 ghost use Rattle.gui_store.specs.Parts.{AreKept};
 ghost use Rattle.gui_store.specs.Removed.{removed_by};
-ghost use Rattle.gui_store.specs.Rows.{HaveRows, set_without, row_shown};
+ghost use Rattle.gui_store.specs.Rows.{HaveRows, set_without, row_shown, object_in};
 ghost use Rattle.gui_store.specs.Setters.{asked_of};
 ghost use Rattle.gui_store.specs.Values.{won_at, inherited_at, given_at};
 
@@ -225,15 +225,15 @@ impl Store {
         self.styles.lookup(h, part, row.states, prop)
     }
 
-    /// What wins for a part of an object that is there, in its states.
-    fn won(&self, h: Handle, part: Part, prop: Prop) -> Option<i32>
+    /// The states of an object that is there.
+    fn states_of(&self, h: Handle) -> u16
         requires { has self.now.tree.forest h.0 ≡ true }
-        ensures { result ≡ won_at (parts_of self.now) h.0 part prop }
+        ensures { result ≡ (object_in (parts_of self.now).rows h.0).row.states }
     {
         let Some(row) = self.rows.get(h.0 as u32) else {
             unreachable!()
         };
-        self.won_by_row(h, row, part, prop)
+        row.states
     }
 
     /// What wins for the own part of an object that is there, or else of the nearest above it.
@@ -243,7 +243,8 @@ impl Store {
     {
         let mut at = Some(h);
         while let Some(k) = at {
-            let found = self.won(k, Part::Main, prop);
+            let states = self.states_of(k);
+            let found = self.styles.lookup(k, Part::Main, states, prop);
             if found.is_some() {
                 return found;
             }

@@ -23,7 +23,7 @@ use Rattle.scene_defs.specs.declared.Change.{Change}
 use Rattle.scene_defs.specs.declared.Change.TheVariants as change
 use Rattle.scene_defs.specs.declared.Row.{Row}
 use Rattle.scene_defs.specs.Row.{is_root, is_row, new_row}
-use Rattle.scene_defs.specs.Deeds.{row_after, row_set}
+use Rattle.scene_defs.specs.Deeds.{row_after, row_set, is_in_range}
 use Rattle.scene_defs.specs.Texts.{is_text, is_short, is_shown_image}
 use Rattle.gui_pool.specs.Texts.{need_of as chunks_of}
 use Rattle.scene_defs.specs.Scene.{Object, Scene, is_at, handles_of, first_trees, is_there, object_by, used, spare, new_object, chunks_in, glyph_count, ink_of, ink_count, pixel_count}
@@ -34,7 +34,6 @@ use Rattle.text_defs.specs.Fonts.{Font}
 use Rattle.text_defs.specs.Images.{Image, with_row as with_image_row}
 use Rattle.scene_defs.specs.Assets.{glyph_in}
 use Rattle.scene_defs.specs.Laws.{SlotsAddUp}
-use Rattle.scene_defs.specs.Deeds.{is_in_range}
 use Rattle.style_defs.specs.Book.{Book, a_setting, a_use, an_entry}
 use Rattle.style_defs.specs.InOrder.{IsBook, IsBare}
 use Rattle.style_defs.proofs.Empty.{empty_in_order, empty_bare, no_entries, no_uses}

@@ -14,7 +14,7 @@ use Rattle.text_defs.specs.Images.{Image, has_image}
 use Rattle.scene_defs.specs.declared.Change.{Change}
 use Rattle.scene_defs.specs.Assets.{AssetChange}
 use Rattle.scene_defs.specs.Deeds.{asset_change_of, edit_of, is_in_range, setter_of, styling_of}
-use Rattle.scene_defs.specs.Edits.{Edit, kind_tests, with_row}
+use Rattle.scene_defs.specs.Edits.{kind_tests, with_row}
 use Rattle.scene_defs.specs.Row.{Setter}
 use Rattle.scene_defs.specs.Scene.{Scene, handles_of, spare}
 use Rattle.scene_defs.specs.Styling.{Styling}
@@ -24,29 +24,11 @@ use Rattle.scene_defs.specs.Texts.{is_whole_image}
 abbrev pub lacks : Scene → Pool → ℕ → Bool
 lacks scene pool need = nat_lt (spare scene pool) need
 
--- What an edit asks for, where a change is one.
-
-abbrev pub tests_of_edit : Option Edit → Scene → List Test
-tests_of_edit None scene = []
-tests_of_edit (Some edit) scene = edit.tests scene
-
-abbrev pub need_of_edit : Option Edit → Scene → Pool → ℕ
-need_of_edit None scene pool = 0
-need_of_edit (Some edit) scene pool = edit.need scene pool
-
-abbrev pub freed_by_edit : Option Edit → Scene → Pool → ℕ
-freed_by_edit None scene pool = 0
-freed_by_edit (Some edit) scene pool = edit.freed scene pool
-
-abbrev pub after_edit : Option Edit → Scene → Scene
-after_edit None scene = scene
-after_edit (Some edit) scene = edit.after scene
-
 -- how many slots of a pool a change takes
 abbrev pub need_by : Option Styling → Option AssetChange → Scene → Change → Pool → ℕ
 need_by (Some styling) assets scene change pool = styling.need pool
 need_by None (Some assets) scene change pool = assets.need pool
-need_by None None scene change pool = need_of_edit (edit_of change) scene pool
+need_by None None scene change pool = (edit_of change).need scene pool
 
 -- what a change asks for of the styles, where it changes them alone; and of the fonts and images, likewise
 abbrev pub styling_in : Scene → Change → Option Styling
@@ -61,7 +43,7 @@ need_of scene change pool = need_by (styling_in scene change) (asset_change_in s
 -- how many slots of a pool it frees
 abbrev pub freed_by_styling : Option Styling → Scene → Change → Pool → ℕ
 freed_by_styling (Some styling) scene change pool = styling.freed pool
-freed_by_styling None scene change pool = freed_by_edit (edit_of change) scene pool
+freed_by_styling None scene change pool = (edit_of change).freed scene pool
 
 abbrev pub freed_by : Scene → Change → Pool → ℕ
 freed_by scene change pool = freed_by_styling (styling_in scene change) scene change pool
@@ -106,7 +88,7 @@ abbrev pub tests_by : Option Setter → Option Styling → Option AssetChange �
 tests_by (Some setter) styling assets scene change = setter_tests scene setter
 tests_by None (Some styling) assets scene change = styling_tests (handles_of scene.trees) styling
 tests_by None None (Some assets) scene change = assets.tests
-tests_by None None None scene change = tests_of_edit (edit_of change) scene
+tests_by None None None scene change = (edit_of change).tests scene
 
 abbrev pub tests : Scene → Change → List Test
 tests scene change =
@@ -128,7 +110,7 @@ after_by (Some setter) styling assets scene change = with_row scene setter.handl
 after_by None (Some styling) assets scene change = record scene { book = styling.after }
 after_by None None (Some assets) scene change =
     record scene { fonts = assets.fonts; images = assets.images }
-after_by None None None scene change = after_edit (edit_of change) scene
+after_by None None None scene change = (edit_of change).after scene
 
 abbrev pub scene_after : Scene → Change → Scene
 scene_after scene change =

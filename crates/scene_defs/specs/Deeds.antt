@@ -1,5 +1,6 @@
 -- What each change does: it sets the row of an object, changes styles, changes fonts and images, or edits the
--- objects. This names all changes, and whatever else is said of a change goes by it.
+-- objects. Here all changes are named: what refuses them, what they take and free, and what is there after them
+-- goes by what they do.
 use Rattle.std.specs.Prelude.{Bool, true, ◌&&◌, List, Some, None, option_map, pos}
 use Rattle.std.specs.declared.option.Option.{Option}
 use Rattle.gui_base.specs.Bits.{with_bit, flag_bit, state_bit}
@@ -19,7 +20,7 @@ use Rattle.scene_defs.specs.declared.Row.{Row}
 use Rattle.scene_defs.specs.Assets.{AssetChange, is_shape}
 use Rattle.scene_defs.specs.Assets.{font_begun, glyph_given, font_finished, image_begun, row_given}
 use Rattle.scene_defs.specs.Edits.{Edit, screen_made, object_made, tree_removed, text_given, tree_moved}
-use Rattle.scene_defs.specs.Edits.{tree_at_index, tree_at_last, screen_loaded}
+use Rattle.scene_defs.specs.Edits.{tree_at_index, tree_at_last, screen_loaded, no_edit}
 use Rattle.scene_defs.specs.Row.{Setter, of_any, of_child, of_valued, of_pictured, is_size, is_cross, is_range}
 use Rattle.scene_defs.specs.Row.{with_value, with_range}
 use Rattle.scene_defs.specs.Styling.{Styling, style_made, style_set, style_unset, style_used, style_unused}
@@ -57,8 +58,7 @@ deed_of (change.Source h i) =
 deed_of (change.Text h text) = Edits (is_counted HANDLE h.0 && is_text text) (text_given h text)
 deed_of (change.Screen n) = Edits (is_counted NEW_HANDLE n.0) (screen_made n)
 deed_of (change.New n p kind) =
-    Edits (is_counted NEW_HANDLE n.0 && is_counted HANDLE p.0)
-    (object_made n p kind)
+    Edits (is_counted NEW_HANDLE n.0 && is_counted HANDLE p.0) (object_made n p kind)
 deed_of (change.Delete h) = Edits (is_counted HANDLE h.0) (tree_removed h)
 deed_of (change.Parent h p) = Edits (is_counted HANDLE h.0 && is_counted HANDLE p.0) (tree_moved h p)
 deed_of (change.Index h n) = Edits (is_counted HANDLE h.0 && is_counted INDEX n) (tree_at_index h n)
@@ -67,18 +67,14 @@ deed_of (change.Back h) = Edits (is_counted HANDLE h.0) (tree_at_index h 0)
 deed_of (change.Load h) = Edits (is_counted HANDLE h.0) (screen_loaded h)
 deed_of (change.Style s) = SetsStyles (is_counted STYLE s) (style_made s)
 deed_of (change.Set s prop value) =
-    SetsStyles (is_counted STYLE s && is_value prop value)
-    (style_set s prop value)
+    SetsStyles (is_counted STYLE s && is_value prop value) (style_set s prop value)
 deed_of (change.Unset s prop) = SetsStyles (is_counted STYLE s) (style_unset s prop)
 deed_of (change.Use h s selector) =
-    SetsStyles (is_counted HANDLE h.0 && is_counted STYLE s)
-    (style_used h s selector)
+    SetsStyles (is_counted HANDLE h.0 && is_counted STYLE s) (style_used h s selector)
 deed_of (change.Unuse h s selector) =
-    SetsStyles (is_counted HANDLE h.0 && is_counted STYLE s)
-    (style_unused h s selector)
+    SetsStyles (is_counted HANDLE h.0 && is_counted STYLE s) (style_unused h s selector)
 deed_of (change.Local h selector prop value) =
-    SetsStyles (is_counted HANDLE h.0 && is_value prop value)
-    (local_set h selector prop value)
+    SetsStyles (is_counted HANDLE h.0 && is_value prop value) (local_set h selector prop value)
 deed_of (change.Unlocal h selector prop) = SetsStyles (is_counted HANDLE h.0) (local_unset h selector prop)
 deed_of (change.Font f height advance) =
     SetsAssets (is_counted FONT f && (is_counted FONT_HEIGHT height && is_counted ADVANCE advance))
@@ -91,8 +87,7 @@ deed_of (change.Image i format w h) =
     SetsAssets (is_counted IMAGE i && (is_counted IMAGE_SIDE w && is_counted IMAGE_SIDE h))
     (image_begun i format w h)
 deed_of (change.ImageRow i y bytes) =
-    SetsAssets (is_counted IMAGE i && is_counted IMAGE_ROW y)
-    (row_given i y bytes)
+    SetsAssets (is_counted IMAGE i && is_counted IMAGE_ROW y) (row_given i y bytes)
 
 abbrev pub fits_by : Deed → Bool
 fits_by (SetsRow setter) = is_counted HANDLE setter.handle.0 && setter.fits
@@ -133,29 +128,22 @@ asset_change_by fonts images (Edits fits edit) = None
 abbrev pub asset_change_of : List Font → List Image → Change → Option AssetChange
 asset_change_of fonts images change = asset_change_by fonts images (deed_of change)
 
-abbrev pub edit_in : Deed → Option Edit
-edit_in (SetsRow setter) = None
-edit_in (SetsStyles fits styling) = None
-edit_in (SetsAssets fits assets) = None
-edit_in (Edits fits edit) = Some edit
+-- what a change edits: nothing, where it does something else
+abbrev pub edit_in : Deed → Edit
+edit_in (SetsRow setter) = no_edit
+edit_in (SetsStyles fits styling) = no_edit
+edit_in (SetsAssets fits assets) = no_edit
+edit_in (Edits fits edit) = edit
 
-abbrev pub edit_of : Change → Option Edit
+abbrev pub edit_of : Change → Edit
 edit_of change = edit_in (deed_of change)
 
--- the kind of the object that an edit makes below another, and the object that it removes with all below it
-abbrev pub made_in : Option Edit → Option Kind
-made_in None = None
-made_in (Some edit) = edit.makes
-
-abbrev pub removed_in : Option Edit → Option Handle
-removed_in None = None
-removed_in (Some edit) = edit.removes
-
+-- the kind of the object that a change makes below another, and the object that it deletes with all below it
 abbrev pub kind_made : Change → Option Kind
-kind_made change = made_in (edit_of change)
+kind_made change = (edit_of change).makes
 
 abbrev pub deleted : Change → Option Handle
-deleted change = removed_in (edit_of change)
+deleted change = (edit_of change).removes
 
 -- the object whose row a change sets
 abbrev pub row_set : Change → Option Handle

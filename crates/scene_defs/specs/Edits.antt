@@ -206,6 +206,10 @@ rearranging tests after = record {
   after = after;
 }
 
+-- none at all
+abbrev pub no_edit : Edit
+no_edit = rearranging (λ scene. []) (λ scene. scene)
+
 -- the tree at h becomes the last child of p
 abbrev pub tree_moved : Handle → Handle → Edit
 tree_moved h p =

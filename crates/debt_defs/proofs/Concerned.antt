@@ -31,8 +31,9 @@ use Rattle.scene_defs.specs.Texts.{is_text, is_shown_image}
 use Rattle.scene_defs.specs.declared.Change.{Change}
 use Rattle.scene_defs.specs.declared.Change.TheVariants as change
 use Rattle.scene_defs.specs.Scene.{Object, Scene, row_of, is_at, object_by, object_at, row_at, styled_of, path_at, value, new_object}
-use Rattle.scene_defs.specs.Change.{answer_of, answer_in_range, first_short, tests, text_of, changed, scene_by, scene_after}
-use Rattle.scene_defs.specs.Ranges.{is_in_range}
+use Rattle.scene_defs.specs.Change.{answer_of, answer_in_range, first_short, tests, changed, scene_by, scene_after}
+use Rattle.scene_defs.specs.Edits.{text_of}
+use Rattle.scene_defs.specs.Deeds.{is_in_range}
 use Rattle.scene_defs.specs.Valid.{in_order, IsValid}
 use Rattle.scene_defs.proofs.Changes.{Fail, tests-fail, range_done}
 use Rattle.scene_defs.proofs.Distinct.{there, distinct_once}

@@ -9,10 +9,12 @@ use Rattle.style_defs.specs.Book.{Book}
 use Rattle.scene_defs.specs.declared.Change.{Change}
 use Rattle.scene_defs.specs.declared.Change.TheVariants as change
 use Rattle.scene_defs.specs.Scene.{Object, Scene, handle_of, is_at, new_object}
-use Rattle.scene_defs.specs.Row.{Setter, setter_of}
+use Rattle.scene_defs.specs.Row.{Setter}
+use Rattle.scene_defs.specs.Deeds.{setter_of}
 use Rattle.scene_defs.specs.Assets.{AssetChange}
 use Rattle.scene_defs.specs.Styling.{Styling}
-use Rattle.scene_defs.specs.Change.{answer_of, after_by, styling_in, asset_change_in, scene_after, scene_by, over_row, over_text, parent_object, last_below, at_index_below}
+use Rattle.scene_defs.specs.Change.{answer_of, after_by, styling_in, asset_change_in, scene_after, scene_by}
+use Rattle.scene_defs.specs.Edits.{over_row, over_text, parent_object, last_below, at_index_below}
 use Rattle.scene_defs.specs.Visible.{root_tree}
 use Rattle.scene_defs.specs.Shown.{order}
 use Rattle.scene_defs.specs.Valid.{IsValid}

@@ -11,7 +11,7 @@ use Rattle.style_defs.specs.Book.{Book, locals_of, uses_of, forgotten, all_forgo
 use Rattle.style_defs.specs.Value.{value_on}
 use Rattle.style_defs.proofs.Changing.{all_forgets}
 use Rattle.scene_defs.specs.Scene.{Object, Scene, handle_of, is_at, styled_of, path_at, value}
-use Rattle.scene_defs.specs.Change.{below, parent_object, last_below, at_index_below}
+use Rattle.scene_defs.specs.Edits.{below, parent_object, last_below, at_index_below}
 use Rattle.scene_defs.specs.Valid.{IsValid}
 use Rattle.scene_defs.proofs.Distinct.{there, IsDistinct, distinct_once}
 use Rattle.debt_defs.specs.Look.{is_among}

@@ -7,8 +7,10 @@ use Rattle.gui_base.specs.Forest.{Forest, Empty, Tree, and_then, put_at, leaf, c
 use Rattle.scene_defs.specs.declared.Change.{Change}
 use Rattle.scene_defs.specs.declared.Change.TheVariants as change
 use Rattle.scene_defs.specs.Assets.{AssetChange}
-use Rattle.scene_defs.specs.Change.{styling_in, asset_change_in, over_row, over_text, last_below, at_index_below, parent_object, scene_after, after_by}
-use Rattle.scene_defs.specs.Row.{Setter, setter_of}
+use Rattle.scene_defs.specs.Change.{styling_in, asset_change_in, scene_after, after_by}
+use Rattle.scene_defs.specs.Edits.{over_row, over_text, last_below, at_index_below, parent_object}
+use Rattle.scene_defs.specs.Row.{Setter}
+use Rattle.scene_defs.specs.Deeds.{setter_of}
 use Rattle.scene_defs.specs.Scene.{Object, Scene, is_at, object_by, object_at, new_object}
 use Rattle.scene_defs.specs.Styling.{Styling}
 use Rattle.scene_defs.specs.Valid.{IsValid}

@@ -20,7 +20,8 @@ use Rattle.scene_defs.specs.declared.Change.{Change}
 use Rattle.scene_defs.specs.declared.Change.TheVariants as change
 use Rattle.scene_defs.specs.Scene.{Object, Scene, handle_of, is_at, object_at, row_at, path_at, value}
 use Rattle.scene_defs.specs.Looks.{font_at, image_look, look_of}
-use Rattle.scene_defs.specs.Change.{text_at, changed}
+use Rattle.scene_defs.specs.Edits.{text_at}
+use Rattle.scene_defs.specs.Change.{changed}
 use Rattle.scene_defs.specs.Valid.{IsValid, IsChange}
 use Rattle.debt_defs.specs.Look.{is_among}
 

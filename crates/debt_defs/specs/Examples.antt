@@ -21,7 +21,8 @@ use Rattle.scene_defs.specs.declared.Change.{Change}
 use Rattle.scene_defs.specs.declared.Change.TheVariants as change
 use Rattle.scene_defs.specs.Row.{new_row}
 use Rattle.scene_defs.specs.Scene.{Object, Scene, new_object}
-use Rattle.scene_defs.specs.Change.{changed, with_row}
+use Rattle.scene_defs.specs.Change.{changed}
+use Rattle.scene_defs.specs.Edits.{with_row}
 use Rattle.debt_defs.specs.Concerns.{concerns}
 use Rattle.debt_defs.specs.Debt.{debt_size, debt_count}
 use Rattle.debt_defs.specs.Scenes.{touched_of, debt_of}

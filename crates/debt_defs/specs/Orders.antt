@@ -6,7 +6,7 @@ use Rattle.gui_base.specs.Forest.{has_by, tree_by}
 use Rattle.scene_defs.specs.declared.Change.{Change}
 use Rattle.scene_defs.specs.declared.Change.TheVariants as change
 use Rattle.scene_defs.specs.Scene.{Scene, is_at}
-use Rattle.scene_defs.specs.Row.{row_set}
+use Rattle.scene_defs.specs.Deeds.{row_set}
 use Rattle.scene_defs.specs.Change.{changed, styling_in, asset_change_in}
 use Rattle.scene_defs.specs.Visible.{shown_trees, visible, holds}
 use Rattle.scene_defs.specs.Shown.{order}

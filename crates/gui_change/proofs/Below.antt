@@ -12,8 +12,10 @@ use Rattle.gui_store.proofs.Paths.{rest_at, IsThere, GoesUp, goes_up}
 use Rattle.scene_defs.specs.declared.Change.{Change}
 use Rattle.scene_defs.specs.declared.Change.TheVariants as change
 use Rattle.scene_defs.specs.Assets.{AssetChange}
-use Rattle.scene_defs.specs.Change.{answer_of, after_by, styling_in, asset_change_in, scene_by, changed, over_row, over_text}
-use Rattle.scene_defs.specs.Row.{Setter, setter_of}
+use Rattle.scene_defs.specs.Change.{answer_of, after_by, styling_in, asset_change_in, scene_by, changed}
+use Rattle.scene_defs.specs.Edits.{over_row, over_text}
+use Rattle.scene_defs.specs.Row.{Setter}
+use Rattle.scene_defs.specs.Deeds.{setter_of}
 use Rattle.scene_defs.specs.Scene.{Object, Scene, handle_of, handles_of, is_at, path_at}
 use Rattle.scene_defs.specs.Styling.{Styling}
 use Rattle.debt_defs.specs.Concerns.{lies_in}

@@ -6,7 +6,7 @@ use Rattle.gui_base.specs.Forest.{Forest, Empty, Tree, map_forest, has_by, Stand
 use Rattle.gui_base.proofs.Forests.{map-has_by}
 use Rattle.gui_base.proofs.Visits.{IsDistinct, distinct_once}
 use Rattle.scene_defs.specs.declared.Row.{Row}
-use Rattle.scene_defs.specs.Change.{text_at, text_of}
+use Rattle.scene_defs.specs.Edits.{text_at, text_of}
 use Rattle.scene_defs.specs.Place.{box_of as object_box}
 use Rattle.scene_defs.specs.Scene.{Object, Scene, handle_of, row_of, is_at, handles_of, is_there, object_by, object_at, row_at}
 use Rattle.gui_base.specs.declared.words.Kind.{Kind}

@@ -4,7 +4,7 @@ use Rattle.gui_base.specs.Area.{Rect}
 use Rattle.gui_pool.specs.Table.{Table, value_at}
 use Rattle.layout_defs.specs.Boxes.{Box}
 use Rattle.layout_defs.specs.OwnHeights.{but_height}
-use Rattle.scene_defs.specs.Change.{text_at}
+use Rattle.scene_defs.specs.Edits.{text_at}
 use Rattle.scene_defs.specs.Place.{panel_of, box_of}
 use Rattle.scene_defs.specs.declared.Row.{Row}
 use Rattle.scene_defs.specs.Scene.{Object, Scene, object_at}

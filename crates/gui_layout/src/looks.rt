@@ -1,8 +1,8 @@
 //! Objects as their items show them.
 ghost use Rattle.std.specs.Prelude.{◌≡◌, Some, true, option_map};
 ghost use Rattle.gui_base.specs.declared.props.Prop.{Prop as Property};
-ghost use Rattle.gui_base.specs.declared.words.Part.TheVariants.{Main};
-ghost use Rattle.scene_defs.specs.Change.{text_at};
+ghost use Rattle.gui_base.specs.declared.words.Part.TheVariants.{Main, Scrollbar};
+ghost use Rattle.scene_defs.specs.Edits.{text_at};
 ghost use Rattle.scene_defs.specs.Looks.{look_of, image_look};
 ghost use Rattle.scene_defs.specs.Row.{shown_row};
 ghost use Rattle.scene_defs.specs.Scene.{is_there, object_at, row_at, value};
@@ -153,6 +153,8 @@ pub(crate) fn look_in<'a>(
     ensures look { IsLook result }
     ensures shows { Some (widget_of result)
         ≡ option_map (look_of (scene_of store.now)) (object_at (scene_of store.now) h.0) }
+    ensures scrollbar { (prop : Property) →
+        value_in result.scrollbar prop ≡ value (scene_of store.now) h.0 Scrollbar prop }
 {
     Look {
         kind: row.kind,

@@ -12,7 +12,10 @@ ghost use Rattle.gui_tree.specs.Handles.{numbers};
 ghost use Rattle.layout_defs.specs.Solving.{room_of};
 ghost use Rattle.layout_defs.specs.Reach.{IsNear, IsPlaced as IsPlaceNumber};
 ghost use Rattle.scene_defs.specs.Looks.{look_of};
-ghost use Rattle.scene_defs.specs.Scene.{handles_of, is_there, object_at};
+ghost use Rattle.gui_base.specs.declared.props.Prop.{Prop as Property};
+ghost use Rattle.gui_base.specs.declared.words.Part.TheVariants.{Scrollbar};
+ghost use Rattle.widget_defs.specs.Looks.{value_in};
+ghost use Rattle.scene_defs.specs.Scene.{handles_of, is_there, object_at, value};
 ghost use Rattle.gui_widgets.specs.Looks.{IsLook, widget_of};
 ghost use Rattle.gui_store.specs.Views.{scene_of};
 ghost use Rattle.gui_layout.specs.Painted.{PaintsLike};
@@ -321,6 +324,8 @@ impl Places {
         ensures look { IsLook result }
         ensures shows { Some (widget_of result)
             ≡ option_map (look_of (scene_of store.now)) (object_at (scene_of store.now) h.0) }
+        ensures scrollbar { (prop : Property) →
+            value_in result.scrollbar prop ≡ value (scene_of store.now) h.0 Scrollbar prop }
     {
         let _ = &self.limits;
         let Some(row) = store.row(h) else {

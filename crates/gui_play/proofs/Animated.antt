@@ -25,7 +25,7 @@ use Rattle.run_defs.specs.Step.{answer, full_by, full_for, gone, is_anim_in_rang
 use Rattle.run_defs.specs.declared.Command.TheVariants as ask
 use Rattle.run_defs.proofs.Anims.{anim-is}
 use Rattle.run_laws.proofs.Animated.{animating_runs_on}
-use Rattle.scene_defs.specs.Change.{has_feature_at, is_featured}
+use Rattle.scene_defs.specs.Edits.{has_feature_at, is_featured}
 use Rattle.scene_defs.specs.Row.{has_feature, shown_row}
 use Rattle.scene_defs.specs.Scene.{Object, Scene, object_at, row_at, row_of}
 use Rattle.scene_defs.specs.declared.Feature.{Feature}

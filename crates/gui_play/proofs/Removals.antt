@@ -10,13 +10,14 @@ use Rattle.gui_damage.specs.Adding.{AddsAll}
 use Rattle.gui_damage.specs.Pending.{Pending}
 use Rattle.gui_store.specs.Removed.{removed_after, removed_by}
 use Rattle.gui_tree.specs.Handles.{numbers}
-use Rattle.run_defs.specs.Making.{make, make_by, made, removed, deleted, handles, forget, note, attempt, attempt_by, refused_line}
+use Rattle.run_defs.specs.Making.{make, make_by, made, removed, handles, forget, note, attempt, attempt_by, refused_line}
 use Rattle.run_defs.specs.Making.{removed_by as removed_of}
 use Rattle.run_defs.specs.Play.{only, nothing, ◌▷◌, ◌⊳◌, each}
 use Rattle.run_laws.proofs.Scenes.{removes_all_below}
 use Rattle.scene_defs.specs.declared.Change.{Change}
 use Rattle.scene_defs.specs.declared.Change.TheVariants as kind
 use Rattle.scene_defs.specs.Change.{answer_of, changed}
+use Rattle.scene_defs.specs.Deeds.{deleted}
 use Rattle.scene_defs.specs.Scene.{Scene}
 use Rattle.scene_defs.specs.Valid.{IsValid}
 use Rattle.gui_play.specs.Boards.{machine_of, stage, Quiet}

@@ -9,7 +9,7 @@ ghost use Rattle.run_defs.specs.Animating.{unless_so, var_change, without_ended}
 ghost use Rattle.run_defs.specs.Play.{each, with};
 ghost use Rattle.run_defs.specs.Step.{anim_started, anim_stopped, answer, full_for, is_anim_in_range};
 ghost use Rattle.run_defs.specs.Step.{is_repeat, tests_of, var_tests};
-ghost use Rattle.scene_defs.specs.Change.{has_feature_at};
+ghost use Rattle.scene_defs.specs.Edits.{has_feature_at};
 ghost use Rattle.scene_defs.specs.Scene.{handles_of};
 ghost use Rattle.scene_defs.specs.Valid.{IsChange};
 ghost use Rattle.gui_play.specs.Animated.{anim_at};

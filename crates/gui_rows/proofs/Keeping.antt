@@ -7,7 +7,8 @@ use Rattle.gui_pool.specs.Table.{Table, value_at, value_inserted, value_replaced
 use Rattle.gui_pool.specs.Texts.{Texts, text_of, IsFree, put, dropped, need_of, need_in}
 use Rattle.gui_pool.specs.declared.chains.TextId.{TextId}
 use Rattle.gui_pool.proofs.Chained.{dropped-spare}
-use Rattle.scene_defs.specs.Row.{new_row, row_after, shown_row}
+use Rattle.scene_defs.specs.Row.{new_row, shown_row}
+use Rattle.scene_defs.specs.Deeds.{row_after}
 use Rattle.scene_defs.specs.declared.Change.{Change}
 use Rattle.scene_defs.specs.declared.Row.{Row}
 use Rattle.gui_rows.specs.Rows.{chunks_of, text_replaced, without_row, with_text}

@@ -1,7 +1,8 @@
 -- A change of a row leaves the name of its text, and changes the row that is shown alike. In each lemma the last
 -- line stands for each change but the first.
 use Rattle.std.proofs.Common.{◌≡◌, refl}
-use Rattle.scene_defs.specs.Row.{row_after, shown_row}
+use Rattle.scene_defs.specs.Deeds.{row_after}
+use Rattle.scene_defs.specs.Row.{shown_row}
 use Rattle.scene_defs.specs.declared.Change.{Change}
 use Rattle.scene_defs.specs.declared.Row.{Row}
 use Rattle.scene_defs.specs.declared.Change.TheVariants as change

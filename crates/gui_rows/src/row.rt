@@ -1,7 +1,8 @@
 //! The row of an object: its first values, and the changes that set it.
 ghost use Rattle.std.specs.Prelude.{◌≡◌};
 ghost use Rattle.gui_base.specs.Bits.{flag_bit, with_bit};
-ghost use Rattle.scene_defs.specs.Row.{new_row, row_after, with_value, with_range, brought_in};
+ghost use Rattle.scene_defs.specs.Row.{new_row, with_value, with_range, brought_in};
+ghost use Rattle.scene_defs.specs.Deeds.{row_after};
 
 use gui_base::{Align, Bits, Flag, Kind, Placing};
 use gui_pool::TextId;

@@ -3,7 +3,8 @@ ghost use Rattle.std.specs.Prelude.{◌≡◌, ℕ, ◌+◌, ◌<◌, ◌≤◌,
 ghost use Rattle.std.specs.Prelude.{None, Some, IsSome, IfSome, IfOk, IsErr, OnOk, OnErr};
 ghost use Rattle.gui_pool.specs.Table.{value_at, value_inserted, value_replaced};
 ghost use Rattle.gui_pool.specs.Texts.{need_of};
-ghost use Rattle.scene_defs.specs.Row.{shown_row, new_row, row_after};
+ghost use Rattle.scene_defs.specs.Row.{shown_row, new_row};
+ghost use Rattle.scene_defs.specs.Deeds.{row_after};
 ghost use Rattle.gui_rows.specs.Rows.{chunks_at, without_row, with_text};
 
 use crate::row::{new_row, set_row};

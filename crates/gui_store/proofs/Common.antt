@@ -15,7 +15,8 @@ pub use Rattle.gui_base.specs.declared.intervals.TheConstants.{HANDLE, NEW_HANDL
 pub use Rattle.gui_base.specs.declared.limits.Pool.TheVariants.{Objects, Styles as StyleSlots, Entries, Uses, Texts, Fonts as FontSlots, Glyphs, Ink, Images as ImageSlots, Pixels}
 pub use Rattle.gui_font.specs.ImageSets.{ImageSet, no_images}
 pub use Rattle.gui_font.specs.Sets.{FontSet, no_fonts}
-pub use Rattle.scene_defs.specs.Assets.{AssetChange, asset_change_of}
+pub use Rattle.scene_defs.specs.Assets.{AssetChange}
+pub use Rattle.scene_defs.specs.Deeds.{asset_change_of, is_in_range, row_after, row_set, setter_of, styling_of}
 pub use Rattle.gui_store.specs.Assets.{AreSlots as AreAssetSlots, IsBuilt, IsAnswered as AreAnswered, AreBuilt, full_for as full_for_assets}
 pub use Rattle.gui_base.specs.declared.pools.TheConstants.{POOLS}
 pub use Rattle.gui_base.specs.declared.refusal.Refusal.{Refusal}
@@ -26,16 +27,16 @@ pub use Rattle.gui_tree.specs.Trees.{Answer, full_answer, Trees, opened, add_roo
 pub use Rattle.scene_defs.proofs.Changes.{tests-fail, room_in_range, none_short, one_short, first-then, first-some, sets_row_alone}
 pub use Rattle.scene_defs.proofs.Totals.{total, total-cut, total-parts, one, one_at, chunks, chunks-total, size-total, count-total}
 pub use Rattle.scene_defs.proofs.Validity.{added_sum, removed_sum, first_is_valid, set_sums, after_leaves, after_valid, slots_add_up}
-pub use Rattle.scene_defs.specs.Change.{is_screen_kind, answer_in_range, answer_of, tests, first_short, below as all_below, scene_after, scene_by, tree_below, parent_object, over_row, at_index_below, last_below, need_of, freed_by, book_without, object_tests, need_by, freed_by_styling}
-pub use Rattle.scene_defs.specs.Ranges.{is_in_range}
-pub use Rattle.scene_defs.specs.Row.{new_row, row_after, row_set, setter_of, shown_row}
+pub use Rattle.scene_defs.specs.Edits.{is_screen_kind, below as all_below, tree_below, parent_object, over_row, at_index_below, last_below, book_without}
+pub use Rattle.scene_defs.specs.Change.{answer_in_range, answer_of, tests, first_short, scene_after, scene_by, need_of, freed_by, object_tests, need_by, freed_by_styling}
+pub use Rattle.scene_defs.specs.Row.{new_row, shown_row}
 pub use Rattle.scene_defs.specs.Scene.{is_there, Object, Scene, is_at, handles_of, spare, new_object, first_scene, object_at, object_by, row_at, value, styled_of}
 pub use Rattle.scene_defs.specs.Valid.{IsValid, IsChange, is_root_at, IsRow, in_order}
 pub use Rattle.scene_defs.specs.declared.Change.{Change}
 pub use Rattle.gui_store.specs.Parts.{Parts, scene_in, AreKept}
 pub use Rattle.gui_store.specs.Styling.{AreSlots, IsStyled, IsAnswered, full_for, named_by, IsRestyled}
 pub use Rattle.gui_style.specs.Styles.{Styles, all_forgotten, forgotten}
-pub use Rattle.scene_defs.specs.Styling.{Styling, styling_of, of_entries, one_unless}
+pub use Rattle.scene_defs.specs.Styling.{Styling, of_entries, one_unless}
 pub use Rattle.style_defs.specs.Book.{Book, entries_in, uses_in, locals_of, uses_of, no_lists, empty_book}
 pub use Rattle.gui_store.specs.Removed.{removed_after}
 pub use Rattle.gui_rows.specs.Rows.{KeptRow, RowSet, chunks_at, chunks_of}

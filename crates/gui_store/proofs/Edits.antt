@@ -13,7 +13,8 @@ use Rattle.gui_pool.specs.Texts.{need_of as need_of_text}
 use Rattle.gui_rows.specs.Rows.{with_text}
 use Rattle.scene_defs.specs.declared.Feature.TheVariants.{Text}
 use Rattle.scene_defs.specs.Row.{has_feature}
-use Rattle.scene_defs.specs.Change.{lacks, text_at, text_of, over_text}
+use Rattle.scene_defs.specs.Change.{lacks}
+use Rattle.scene_defs.specs.Edits.{text_at, text_of, over_text}
 use Rattle.scene_defs.specs.declared.Change.TheVariants as change
 use Rattle.scene_defs.proofs.Handles.{has-handles}
 use Rattle.scene_defs.proofs.RowKinds.{root_there}

@@ -2,7 +2,7 @@
 ghost use Rattle.std.specs.Prelude.{◌≡◌, true};
 ghost use Rattle.gui_base.specs.Props.{is_value};
 ghost use Rattle.gui_base.specs.Refusing.{first_of};
-ghost use Rattle.scene_defs.specs.Assets.{asset_change_of};
+ghost use Rattle.scene_defs.specs.Deeds.{asset_change_of};
 ghost use Rattle.scene_defs.specs.Styling.{font_tests};
 ghost use Rattle.gui_store.specs.Assets.{AreBuilt};
 

@@ -1,7 +1,8 @@
 //! Whether the numbers of a change lie in their intervals.
 ghost use Rattle.std.specs.Prelude.{◌≡◌, ◌&&◌};
 ghost use Rattle.gui_base.specs.Intervals.{is_counted};
-ghost use Rattle.scene_defs.specs.Ranges.{is_in_range, is_shape};
+ghost use Rattle.scene_defs.specs.Deeds.{is_in_range};
+ghost use Rattle.scene_defs.specs.Assets.{is_shape};
 
 use crate::setter::setter_of;
 use gui_base::intervals::{

@@ -1,7 +1,8 @@
 //! What the changes of one object's row ask for.
 ghost use Rattle.std.specs.Prelude.{◌≡◌, ◌&&◌, false, true, None, Some, option_map};
 ghost use Rattle.gui_base.specs.Intervals.{is_within};
-ghost use Rattle.scene_defs.specs.Row.{is_size, is_cross, is_range, setter_of};
+ghost use Rattle.scene_defs.specs.Row.{is_size, is_cross, is_range};
+ghost use Rattle.scene_defs.specs.Deeds.{setter_of};
 ghost use Rattle.scene_defs.specs.declared.Feature.TheVariants.{Value, Picture};
 ghost use Rattle.gui_store.specs.Setters.{asked_of};
 

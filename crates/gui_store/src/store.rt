@@ -1,22 +1,23 @@
 //! The store.
-ghost use Rattle.std.specs.Prelude.{◌≡◌, ◌<◌, IfOk, IfSome, Some, None, true, length};
+ghost use Rattle.std.specs.Prelude.{◌≡◌, ◌<◌, IfOk, IfSome, Some, None, true, length, []};
 ghost use Rattle.std.specs.Prelude.{is_some, option_map};
 ghost use Rattle.gui_base.specs.Bounded.{bounds_of};
 ghost use Rattle.gui_base.specs.Intervals.{is_counted};
 ghost use Rattle.gui_base.specs.Forest.{has};
 ghost use Rattle.gui_base.specs.Props.{is_value};
 ghost use Rattle.gui_base.specs.Refusing.{first_of, result_of, move_tests};
-ghost use Rattle.scene_defs.specs.Row.{setter_of, shown_row};
+ghost use Rattle.scene_defs.specs.Deeds.{setter_of, is_in_range};
+ghost use Rattle.scene_defs.specs.Row.{shown_row};
 ghost use Rattle.scene_defs.specs.Scene.{handles_of, is_there, row_at, value, first_scene};
-ghost use Rattle.scene_defs.specs.Change.{answer_of, changed, tests, styling_in, asset_change_in, text_at};
+ghost use Rattle.scene_defs.specs.Change.{answer_of, changed, tests, styling_in, asset_change_in};
+ghost use Rattle.scene_defs.specs.Edits.{text_at};
 ghost use Rattle.scene_defs.specs.Change.{absent_image, unfinished_image};
 ghost use Rattle.scene_defs.specs.Texts.{is_text};
-ghost use Rattle.scene_defs.specs.Ranges.{is_in_range};
 ghost use Rattle.scene_defs.specs.Valid.{IsValid, IsChange, IsRow};
 ghost use Rattle.gui_style.specs.Styles.{uses_style};
 ghost use Rattle.gui_store.specs.Parts.{AreKept};
 ghost use Rattle.gui_store.specs.Removed.{removed_by};
-ghost use Rattle.gui_store.specs.Rows.{HaveRows, set_without, row_shown};
+ghost use Rattle.gui_store.specs.Rows.{HaveRows, set_without, row_shown, object_in};
 ghost use Rattle.gui_store.specs.Setters.{asked_of};
 ghost use Rattle.gui_store.specs.Values.{won_at, inherited_at, given_at};
 
@@ -86,7 +87,8 @@ impl Store {
     /// The top layer, the system layer and a screen, which is active. It takes all the memory that the
     /// store will need; NoMemory where there is too little.
     pub fn open(alloc: Global, limits: &Limits) -> Result<Store, NoMemory>
-        ensures { IfOk result (λ store. scene_of store ≡ first_scene (bounds_of limits.now)) }
+        ensures scene { IfOk result (λ store. scene_of store ≡ first_scene (bounds_of limits.now)) }
+        ensures removed { IfOk result (λ store. removed_of store ≡ []) }
     {
         let tree = Tree::open(alloc, limits.objects)?;
         let Ok(mut rows) = RowTable::open(alloc, HANDLES, limits.objects, limits.texts) else {
@@ -222,15 +224,15 @@ impl Store {
         self.styles.lookup(h, part, row.states, prop)
     }
 
-    /// What wins for a part of an object that is there, in its states.
-    fn won(&self, h: Handle, part: Part, prop: Prop) -> Option<i32>
+    /// The states of an object that is there.
+    fn states_of(&self, h: Handle) -> u16
         requires { has self.now.tree.forest h.0 ≡ true }
-        ensures { result ≡ won_at (parts_of self.now) h.0 part prop }
+        ensures { result ≡ (object_in (parts_of self.now).rows h.0).row.states }
     {
         let Some(row) = self.rows.get(h.0 as u32) else {
             unreachable!()
         };
-        self.won_by_row(h, row, part, prop)
+        row.states
     }
 
     /// What wins for the own part of an object that is there, or else of the nearest above it.
@@ -240,7 +242,8 @@ impl Store {
     {
         let mut at = Some(h);
         while let Some(k) = at {
-            let found = self.won(k, Part::Main, prop);
+            let states = self.states_of(k);
+            let found = self.styles.lookup(k, Part::Main, states, prop);
             if found.is_some() {
                 return found;
             }

@@ -2,8 +2,7 @@
 ghost use Rattle.std.specs.Prelude.{◌≡◌, true, List};
 ghost use Rattle.style_defs.specs.Book.{Book};
 ghost use Rattle.text_defs.specs.Fonts.{Font};
-ghost use Rattle.scene_defs.specs.Ranges.{is_in_range};
-ghost use Rattle.scene_defs.specs.Styling.{styling_of};
+ghost use Rattle.scene_defs.specs.Deeds.{is_in_range, styling_of};
 ghost use Rattle.gui_store.specs.Styling.{named_by, IsRestyled};
 
 use crate::assets::font_fault;

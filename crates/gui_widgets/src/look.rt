@@ -1,5 +1,7 @@
 //! What the items of an object are made of, and the items.
-ghost use Rattle.std.specs.Prelude.{◌≡◌};
+ghost use Rattle.std.specs.Prelude.{◌≡◌, true};
+ghost use Rattle.gui_base.specs.Area.{is_empty};
+ghost use Rattle.gui_base.specs.Corners.{rect_of};
 
 use gui_base::{Area, Kind, Rgb565};
 use gui_font::Fonts;
@@ -35,7 +37,7 @@ pub struct Item {
 }
 
 impl Default for Item {
-    ghost is_default = { λ item. Unit {0} };
+    ghost is_default = { λ item. is_empty (rect_of item.area) ≡ true };
 
     /// A black fill of no area.
     fn default() -> Item {

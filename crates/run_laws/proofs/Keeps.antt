@@ -14,11 +14,13 @@ use Rattle.play_defs.specs.Handlers.{handlers_of, forgotten}
 use Rattle.play_defs.specs.declared.Handler.{Handler}
 use Rattle.scene_defs.specs.declared.Change.{Change}
 use Rattle.scene_defs.specs.declared.Change.TheVariants as change
-use Rattle.scene_defs.specs.Change.{answer_of, changed, scene_by, below}
+use Rattle.scene_defs.specs.Change.{answer_of, changed, scene_by}
+use Rattle.scene_defs.specs.Deeds.{deleted}
+use Rattle.scene_defs.specs.Edits.{below}
 use Rattle.scene_defs.specs.Scene.{Scene, handle_of, handles_of, is_at, is_there}
 use Rattle.run_defs.specs.Events.{asked, say, say_or_change, act}
 use Rattle.run_defs.specs.Machine.{Machine}
-use Rattle.run_defs.specs.Making.{make, make_by, put_state, is_same, is_in_state, heir, pass_on, leave_from, leave_group, without_handlers, without_targets, without_anims, forget, not_there, handles, removed_by, deleted, made, note, attempt, attempt_by}
+use Rattle.run_defs.specs.Making.{make, make_by, put_state, is_same, is_in_state, heir, pass_on, leave_from, leave_group, without_handlers, without_targets, without_anims, forget, not_there, handles, removed_by, made, note, attempt, attempt_by}
 use Rattle.run_defs.specs.Play.{nothing, with, ◌⊳◌, ◌▷◌, each}
 use Rattle.run_laws.specs.Keeping.{ActKeepsHandlers}
 

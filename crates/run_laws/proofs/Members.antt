@@ -1,6 +1,6 @@
 -- The members of groups are there, and each is one once, whatever is played.
 use Rattle.std.proofs.Common.{◌≡◌, ◌∙◌, ap, refl, ℕ, Bool, true, false, Option, Some, None, is_some, option_map, find, List, [], ◌∷◌, ◌++◌, map, filter, length, arith}
-use Rattle.std.specs.Prelude.{if◌then◌else◌, not, ◌||◌, ◌==◌, IfSome}
+use Rattle.std.specs.Prelude.{not, ◌||◌, ◌==◌, IfSome}
 use Rattle.std.proofs.lemmas.Bool.{not-false}
 use Rattle.std.proofs.lemmas.Bool.Decides.{nat_tests}
 use Rattle.std.proofs.lemmas.List.{map-append}
@@ -8,10 +8,9 @@ use Rattle.gui_base.specs.declared.Handle.{Handle}
 use Rattle.gui_base.specs.declared.events.Action.{Action}
 use Rattle.gui_base.specs.declared.events.Action.TheVariants as action
 use Rattle.gui_base.specs.declared.events.EventKind.{EventKind}
-use Rattle.gui_base.specs.declared.events.EventKind.TheVariants as event
 use Rattle.gui_base.specs.declared.refusal.Refusal.{Refusal}
 use Rattle.gui_base.specs.declared.words.State.{State}
-use Rattle.gui_base.specs.declared.words.State.TheVariants.{Focused, FocusKey, Edited}
+use Rattle.gui_base.specs.declared.words.State.TheVariants.{Focused}
 use Rattle.gui_base.specs.Forest.{preorder}
 use Rattle.gui_base.proofs.Forests.{map-size}
 use Rattle.play_defs.specs.Focus.{Groups, group_at, group_of, focused_in, is_object, with_focused, with_released, released_by, joined, left}
@@ -19,7 +18,8 @@ use Rattle.play_defs.specs.declared.Group.{Group}
 use Rattle.play_defs.specs.declared.Member.{Member}
 use Rattle.scene_defs.specs.declared.Change.{Change}
 use Rattle.scene_defs.specs.declared.Change.TheVariants as change
-use Rattle.scene_defs.specs.Change.{answer_of, changed, below}
+use Rattle.scene_defs.specs.Change.{answer_of, changed}
+use Rattle.scene_defs.specs.Edits.{below}
 use Rattle.scene_defs.specs.Scene.{Scene, handle_of, handles_of, is_there}
 use Rattle.scene_defs.specs.Valid.{IsValid, IsChange, is_among, stand_once}
 use Rattle.scene_defs.proofs.Assets.{once-append}
@@ -28,13 +28,13 @@ use Rattle.scene_defs.proofs.Totals.{one_at}
 use Rattle.scene_defs.proofs.Validity.{removed_sum, change_keeps_valid}
 use Rattle.run_defs.specs.declared.Command.{Command}
 use Rattle.run_defs.specs.declared.Command.TheVariants as ask
-use Rattle.run_defs.specs.Events.{path, actions_at, asked, say, say_or_change, act, run_at, send, send_there}
-use Rattle.run_defs.specs.Focusing.{unfocus, refocus, focus_taken, hand_over, move_from, move_focus, has_focus, focus_by, focus, first_focus, join, leave}
+use Rattle.run_defs.specs.Events.{asked, say, say_or_change}
+use Rattle.run_defs.specs.Focusing.{join}
 use Rattle.run_defs.specs.Machine.{Machine}
-use Rattle.run_defs.specs.Making.{make, make_by, put_state, is_same, is_in_state, with_groups, heir, pass_on, leave_from, leave_group, without_handlers, without_targets, without_anims, forget, handles, not_there, made, note, attempt, attempt_by}
-use Rattle.run_defs.specs.Play.{Rule, nothing, with, ◌⊳◌, ◌▷◌, each, aimed}
-use Rattle.run_defs.specs.Step.{down_at, lifted, answer, tests_of, is_command_in_range, rule_of, unless, step, IsCommand}
-use Rattle.run_defs.proofs.Inputs.{put-members, IsAside, IsClosed, good_feed_pointer, good_feed_keypad, good_feed_encoder, good_tick}
+use Rattle.run_defs.specs.Making.{make, make_by, put_state, with_groups, heir, pass_on, leave_from, leave_group, without_handlers, without_targets, without_anims, forget, handles, not_there, made, note, attempt, attempt_by}
+use Rattle.run_defs.specs.Play.{Rule, nothing, with, ◌⊳◌, ◌▷◌, each}
+use Rattle.run_defs.specs.Step.{answer, tests_of, is_command_in_range, rule_of, unless, step, IsCommand}
+use Rattle.run_defs.proofs.Inputs.{put-members, IsAside, IsClosed, good_put, good_first, good_rule}
 use Rattle.run_laws.specs.Members.{member_handles, AreJoined, FirstAreJoined, StepsKeepMembers, OneMoreFits}
 use Rattle.run_laws.proofs.Counting.{among-append, among-filter, once-filter, no_more, preorder-length, preorder-has}
 use Rattle.run_laws.proofs.Scenes.{none-goes, others-stay}
@@ -54,11 +54,6 @@ in_none groups h none = no_member groups.members h (by (find (is_object h) group
 
 focused-members : (groups : Groups) (id : ℕ) (h : Option Handle) → (with_focused groups id h).members ≡ groups.members
 focused-members groups id h = put-members groups (option_map (λ (group : Group). record group { focused = h }) (group_at groups id))
-
-taken-members : (groups : Groups) (id : ℕ) (h : Handle) → (focus_taken id h groups).members ≡ groups.members
-taken-members groups id h =
-    let focused = with_focused groups id (Some h) in
-    put-members focused (option_map (λ (group : Group). record group { editing = false }) (group_at focused id)) ∙ focused-members groups id (Some h)
 
 -- whether a handle is not h
 abbrev other_than : Handle → ℕ → Bool
@@ -88,27 +83,12 @@ module _ (leaving : List ℕ) where
   keeps_nothing : Keeps nothing
   keeps_nothing m s = s
 
-  keeps_groups : (f : Groups → Groups) → ((groups : Groups) → (f groups).members ≡ groups.members) → Keeps (with_groups f)
-  unfolding with
-  keeps_groups f same m s = record { valid = s.valid; there = rw (same m.groups) s.there; once = rw (same m.groups) s.once }
-
   keeps_then : (first second : Rule) → Keeps first → Keeps second → Keeps (first ▷ second)
   unfolding ◌▷◌ ◌⊳◌
   keeps_then first second h k m s = k (first m).machine (h m s)
 
-  keeps_each : {A : Type 0} (rule : A → Rule) → ((x : A) → Keeps (rule x)) → (xs : List A) → Keeps (each rule xs)
-  unfolding each
-  keeps_each rule h [] = keeps_nothing
-  keeps_each rule h (x ∷ xs) = keeps_then (rule x) (each rule xs) (h x) (keeps_each rule h xs)
-
-  keeps_aimed : (rule : Handle → Rule) → ((h : Handle) → Keeps (rule h)) → (target : Option Handle) → Keeps (aimed target rule)
-  unfolding aimed
-  keeps_aimed rule h None = keeps_nothing
-  keeps_aimed rule h (Some k) = h k
-
-  keeps_if : (b : Bool) (first second : Rule) → Keeps first → Keeps second → Keeps (if b then first else second)
-  keeps_if true first second h k = h
-  keeps_if false first second h k = k
+  keeps_look : (f : Machine → Rule) → ((m : Machine) → Keeps (f m)) → Keeps (λ m. f m m)
+  keeps_look f h m s = h m m s
 
   -- a change that removes none
   keeps_make : (change : Change) → IsChange change → ((scene : Scene) (k : ℕ) → removed_sum scene change (one_at k) ≡ 0) → Keeps (make change)
@@ -123,9 +103,7 @@ module _ (leaving : List ℕ) where
     by (Some refusal) = s
 
   keeps_put : (state : State) (on : Bool) (h : Handle) → Keeps (put_state state on h)
-  unfolding put_state
-  keeps_put state on h m s =
-      keeps_if (is_same (is_in_state state m.scene h) on) nothing (make (change.State h state on)) keeps_nothing (keeps_make (change.State h state on) tt (λ scene k. refl)) m s
+  keeps_put state on h = good_put Keeps keeps_nothing keeps_look state on h (keeps_make (change.State h state on) tt (λ scene k. refl))
 
 -- Leaving a group.
 module _ (hs : List ℕ) (h : Handle) where
@@ -213,63 +191,23 @@ unfolding say
 keeps_asked kind target current None c m s = s
 keeps_asked kind target current (Some change) c m s = keeps_attempt change c m s
 
-keeps_act : (kind : EventKind) (target current : Handle) (a : Action) → Keeps [] (act kind target current a)
-unfolding act
-keeps_act kind target current a m s =
-    keeps_if [] (is_there m.scene current.0) (say_or_change kind target current (asked target a)) nothing (keeps_asked kind target current (asked target a) (asked_is target a)) (keeps_nothing []) m s
+keeps_aside : (f : Machine → Machine) → IsAside f → Keeps [] (with f)
+unfolding with
+keeps_aside f is m s = record { valid = rw (is.scene m) s.valid; there = rw (is.scene m, is.members m) s.there; once = rw (is.members m) s.once }
 
-keeps_run : (kind : EventKind) (target current : Handle) → Keeps [] (run_at kind target current)
-unfolding run_at
-keeps_run kind target current m s = keeps_each [] (act kind target current) (keeps_act kind target current) (actions_at m current kind) m s
-
-keeps_send : (kind : EventKind) (target : Handle) → Keeps [] (send kind target)
-unfolding send
-keeps_send kind target m s = keeps_each [] (run_at kind target) (keeps_run kind target) (path m.scene target) m s
-
-keeps_send_there : (kind : EventKind) (target : Handle) → Keeps [] (send_there kind target)
-unfolding send_there
-keeps_send_there kind target m s = keeps_if [] (is_there m.scene target.0) (send kind target) nothing (keeps_send kind target) (keeps_nothing []) m s
-
--- Focus.
-keeps_unfocus : (h : Handle) → Keeps [] (unfocus h)
-unfolding unfocus
-keeps_unfocus h = keeps_then [] _ _ (keeps_then [] _ _ (keeps_put [] Focused false h) (keeps_put [] FocusKey false h)) (keeps_put [] Edited false h)
-
-keeps_refocus : (by_key : Bool) (h : Handle) → Keeps [] (refocus by_key h)
-unfolding refocus
-keeps_refocus by_key h = keeps_then [] _ _ (keeps_put [] Focused true h) (keeps_if [] by_key _ _ (keeps_put [] FocusKey true h) (keeps_nothing []))
-
-keeps_hand_over : (old : Option Handle) (id : ℕ) (by_key : Bool) (h : Handle) → Keeps [] (hand_over old id by_key h)
-unfolding hand_over
-keeps_hand_over old id by_key h =
-    keeps_then [] _ _ (keeps_then [] _ _ (keeps_groups [] (focus_taken id h) (λ groups. taken-members groups id h)) (keeps_aimed [] unfocus keeps_unfocus old)) (keeps_refocus by_key h)
-
-keeps_move_from : (old : Option Handle) (id : ℕ) (by_key : Bool) (h : Handle) → Keeps [] (move_from old id by_key h)
-unfolding move_from
-keeps_move_from old id by_key h =
-    keeps_then [] _ _ (keeps_then [] _ _ (keeps_hand_over old id by_key h) (keeps_aimed [] (send_there event.Defocused) (keeps_send_there event.Defocused) old))
-    (keeps_send_there event.Focused h)
-
-keeps_move : (id : ℕ) (by_key : Bool) (h : Handle) → Keeps [] (move_focus id by_key h)
-unfolding move_focus
-keeps_move id by_key h m s = keeps_move_from (focused_in (group_at m.groups id)) id by_key h m s
-
-keeps_focus_by : (has : Bool) (id : Option ℕ) (h : Handle) → Keeps [] (focus_by has id h)
-keeps_focus_by true id h = keeps_nothing []
-keeps_focus_by false None h = keeps_nothing []
-keeps_focus_by false (Some id) h = keeps_move id false h
-
-keeps_focus : (h : Handle) → Keeps [] (focus h)
-unfolding focus
-keeps_focus h m s = keeps_focus_by (has_focus m.groups h) (group_of m.groups h) h m s
-
-keeps_first : (other : Option Handle) (id : ℕ) (h : Handle) → Keeps [] (first_focus other id h)
-keeps_first None id h = keeps_move id false h
-keeps_first (Some other) id h = keeps_nothing []
-
-keeps_leave : (h : Handle) → Keeps [] (leave h)
-unfolding leave
-keeps_leave h m s = keeps_then [] _ _ (keeps_if [] (has_focus m.groups h) _ _ (keeps_unfocus h) (keeps_nothing [])) (keeps_leave_group [] h) m s
+keeps_closed : IsClosed (Keeps [])
+keeps_closed = record {
+  none = keeps_nothing [];
+  next = keeps_then [];
+  look = keeps_look [];
+  aside = keeps_aside;
+  value = λ h n. keeps_make [] (change.Value h n) tt (λ scene k. refl);
+  place = λ h x y. keeps_make [] (change.Pos h x y) tt (λ scene k. refl);
+  size = λ h width height. keeps_make [] (change.Size h width height) tt (λ scene k. refl);
+  state = λ h state on. keeps_make [] (change.State h state on) tt (λ scene k. refl);
+  acted = λ kind target current a. keeps_asked kind target current (asked target a) (asked_is target a);
+  left = keeps_leave_group [];
+}
 
 -- an object that is there and in no group joins one
 joined-handles : (groups : Groups) (id : ℕ) (h : Handle) → member_handles (joined groups id h) ≡ member_handles groups ++ h.0 ∷ []
@@ -280,31 +218,11 @@ unfolding join with ◌▷◌ ◌⊳◌
 join_stands id h m on none s =
     let members = member_handles m.groups in
     let more = joined-handles m.groups id h in
-    keeps_first (focused_in (group_at m.groups id)) id h _ (record {
+    good_first (Keeps []) keeps_closed (focused_in (group_at m.groups id)) id h _ (record {
       valid = s.valid;
       there = λ k is. grind (arith, nat_tests, more, is, among-append members (h.0 ∷ []) k, s.there k, on);
       once = rw more (once-append members h.0 (in_none m.groups h none) s.once);
     })
-
--- Input and time.
-
-keeps_aside : (f : Machine → Machine) → IsAside f → Keeps [] (with f)
-unfolding with
-keeps_aside f is m s = record { valid = rw (is.scene m) s.valid; there = rw (is.scene m, is.members m) s.there; once = rw (is.members m) s.once }
-
-keeps_closed : IsClosed (Keeps [])
-keeps_closed = record {
-  none = keeps_nothing [];
-  next = keeps_then [];
-  look = λ f h m. h m m;
-  aside = keeps_aside;
-  value = λ h n. keeps_make [] (change.Value h n) tt (λ scene k. refl);
-  place = λ h x y. keeps_make [] (change.Pos h x y) tt (λ scene k. refl);
-  size = λ h width height. keeps_make [] (change.Size h width height) tt (λ scene k. refl);
-  put = keeps_put [];
-  sent = keeps_send;
-  moved = keeps_move;
-}
 
 -- Commands.
 
@@ -317,24 +235,12 @@ rule_stands : (command : Command) (m : Machine) → IsCommand command → answer
 unfolding with
 rule_stands (ask.Change change) m c none s = keeps_made change c m s
 rule_stands (ask.On h kind a) m c none s = record { valid = s.valid; there = s.there; once = s.once }
-rule_stands (ask.Off h kind) m c none s = record { valid = s.valid; there = s.there; once = s.once }
-rule_stands (ask.Send h kind) m c none s = keeps_send kind h m s
 rule_stands (ask.Group id) m c none s = record { valid = s.valid; there = s.there; once = s.once }
 rule_stands (ask.Join id h) m c none s =
     let t = tests-fail (tests_of m (ask.Join id h)) None (range_done (is_command_in_range (ask.Join id h)) _ none).1 in
     join_stands id h m (not-false _ t.1.0) (is_none (group_of m.groups h) t.1.1.0) s
-rule_stands (ask.Leave h) m c none s = keeps_leave h m s
-rule_stands (ask.Focus h) m c none s = keeps_focus h m s
-rule_stands (ask.Keypad id) m c none s = record { valid = s.valid; there = s.there; once = s.once }
-rule_stands (ask.Encoder id) m c none s = record { valid = s.valid; there = s.there; once = s.once }
-rule_stands (ask.Touch x y) m c none s = good_feed_pointer (Keeps []) keeps_closed (Some (down_at x y)) m s
-rule_stands ask.Release m c none s = good_feed_pointer (Keeps []) keeps_closed (Some lifted) m s
-rule_stands (ask.Key key down) m c none s = good_feed_keypad (Keeps []) keeps_closed _ m s
-rule_stands (ask.Turn n) m c none s = good_feed_encoder (Keeps []) keeps_closed _ m s
-rule_stands (ask.Push down) m c none s = good_feed_encoder (Keeps []) keeps_closed _ m s
-rule_stands (ask.Tick ms) m c none s = good_tick (Keeps []) keeps_closed ms m s
 rule_stands (ask.Anim spec) m c none s = record { valid = s.valid; there = s.there; once = s.once }
-rule_stands (ask.Stop h var) m c none s = record { valid = s.valid; there = s.there; once = s.once }
+rule_stands command m c none s = good_rule (Keeps []) keeps_closed command tt m s
 
 pub steps_keep_members : StepsKeepMembers
 unfolding step

@@ -1,7 +1,6 @@
 -- Who is animated is there, whatever is played.
 use Rattle.std.proofs.Common.{◌≡◌, refl, ℕ, Bool, true, false, Option, Some, None, List, [], ◌∷◌, filter, arith}
-use Rattle.std.specs.Prelude.{if◌then◌else◌, not, ◌||◌, ◌==◌, IfSome}
-use Rattle.std.specs.List.{list_any}
+use Rattle.std.specs.Prelude.{not, ◌||◌, ◌==◌, IfSome}
 use Rattle.std.proofs.lemmas.Bool.{not-false}
 use Rattle.std.proofs.lemmas.Bool.Decides.{nat_tests}
 use Rattle.std.proofs.lemmas.List.Folds.{list_any-append}
@@ -10,16 +9,15 @@ use Rattle.gui_base.specs.declared.Handle.{Handle}
 use Rattle.gui_base.specs.declared.events.Action.{Action}
 use Rattle.gui_base.specs.declared.events.Action.TheVariants as action
 use Rattle.gui_base.specs.declared.events.EventKind.{EventKind}
-use Rattle.gui_base.specs.declared.events.EventKind.TheVariants as event
 use Rattle.gui_base.specs.declared.refusal.Refusal.{Refusal}
 use Rattle.gui_base.specs.declared.words.State.{State}
-use Rattle.gui_base.specs.declared.words.State.TheVariants.{Focused, FocusKey, Edited}
 use Rattle.play_defs.specs.Animation.{moves, forgotten}
-use Rattle.play_defs.specs.Focus.{Groups, group_at, group_of, focused_in, with_focused, joined, left}
+use Rattle.play_defs.specs.Focus.{Groups, joined}
 use Rattle.play_defs.specs.declared.Anim.{Anim}
 use Rattle.scene_defs.specs.declared.Change.{Change}
 use Rattle.scene_defs.specs.declared.Change.TheVariants as change
-use Rattle.scene_defs.specs.Change.{answer_of, changed, below}
+use Rattle.scene_defs.specs.Change.{answer_of, changed}
+use Rattle.scene_defs.specs.Edits.{below}
 use Rattle.scene_defs.specs.Scene.{Scene, is_there}
 use Rattle.scene_defs.specs.Valid.{IsValid, IsChange, is_among}
 use Rattle.scene_defs.proofs.Changes.{range_done}
@@ -28,13 +26,12 @@ use Rattle.scene_defs.proofs.Validity.{removed_sum, change_keeps_valid}
 use Rattle.run_defs.specs.Animating.{is_animated}
 use Rattle.run_defs.specs.declared.Command.{Command}
 use Rattle.run_defs.specs.declared.Command.TheVariants as ask
-use Rattle.run_defs.specs.Events.{path, actions_at, asked, say, say_or_change, act, run_at, send, send_there}
-use Rattle.run_defs.specs.Focusing.{unfocus, refocus, focus_taken, hand_over, move_from, move_focus, has_focus, focus_by, focus, first_focus, join, leave}
+use Rattle.run_defs.specs.Events.{asked, say, say_or_change}
 use Rattle.run_defs.specs.Machine.{Machine}
-use Rattle.run_defs.specs.Making.{make, make_by, put_state, is_same, is_in_state, with_groups, heir, pass_on, leave_from, leave_group, without_handlers, without_targets, without_anims, forget, handles, not_there, made, note, attempt, attempt_by}
-use Rattle.run_defs.specs.Play.{Rule, nothing, with, ◌⊳◌, ◌▷◌, each, aimed}
-use Rattle.run_defs.specs.Step.{anim_stopped, down_at, lifted, answer, gone, var_tests, full_for, is_command_in_range, rule_of, unless, step, IsCommand}
-use Rattle.run_defs.proofs.Inputs.{any-filter, IsClosed, good_feed_pointer, good_feed_keypad, good_feed_encoder, good_tick}
+use Rattle.run_defs.specs.Making.{make, make_by, put_state, with_groups, leave_group, without_handlers, without_targets, without_anims, forget, handles, not_there, made, note, attempt, attempt_by}
+use Rattle.run_defs.specs.Play.{Rule, nothing, with, ◌⊳◌, ◌▷◌, each}
+use Rattle.run_defs.specs.Step.{answer, gone, var_tests, full_for, is_command_in_range, rule_of, unless, step, IsCommand}
+use Rattle.run_defs.proofs.Inputs.{any-filter, IsClosed, good_put, good_leave_group, good_join, good_rule}
 use Rattle.run_laws.specs.Animated.{AnimatedAreThere, FirstAnimatedAreThere, StepsKeepAnimated}
 use Rattle.run_laws.proofs.Counting.{among-filter}
 use Rattle.run_laws.proofs.Scenes.{none-goes, others-stay}
@@ -67,19 +64,8 @@ module _ (leaving : List ℕ) where
   unfolding ◌▷◌ ◌⊳◌
   keeps_then first second h k m s = k (first m).machine (h m s)
 
-  keeps_each : {A : Type 0} (rule : A → Rule) → ((x : A) → Keeps (rule x)) → (xs : List A) → Keeps (each rule xs)
-  unfolding each
-  keeps_each rule h [] = keeps_nothing
-  keeps_each rule h (x ∷ xs) = keeps_then (rule x) (each rule xs) (h x) (keeps_each rule h xs)
-
-  keeps_aimed : (rule : Handle → Rule) → ((h : Handle) → Keeps (rule h)) → (target : Option Handle) → Keeps (aimed target rule)
-  unfolding aimed
-  keeps_aimed rule h None = keeps_nothing
-  keeps_aimed rule h (Some k) = h k
-
-  keeps_if : (b : Bool) (first second : Rule) → Keeps first → Keeps second → Keeps (if b then first else second)
-  keeps_if true first second h k = h
-  keeps_if false first second h k = k
+  keeps_look : (f : Machine → Rule) → ((m : Machine) → Keeps (f m)) → Keeps (λ m. f m m)
+  keeps_look f h m s = h m m s
 
   -- a change that removes none
   keeps_make : (change : Change) → IsChange change → ((scene : Scene) (k : ℕ) → removed_sum scene change (one_at k) ≡ 0) → Keeps (make change)
@@ -93,22 +79,10 @@ module _ (leaving : List ℕ) where
     by (Some refusal) = s
 
   keeps_put : (state : State) (on : Bool) (h : Handle) → Keeps (put_state state on h)
-  unfolding put_state
-  keeps_put state on h m s =
-      keeps_if (is_same (is_in_state state m.scene h) on) nothing (make (change.State h state on)) keeps_nothing (keeps_make (change.State h state on) tt (λ scene k. refl)) m s
-
-  keeps_pass : (id : ℕ) (h : Handle) (next : Option Handle) → Keeps (pass_on id h next)
-  keeps_pass id h None = keeps_groups (λ groups. left groups id h)
-  keeps_pass id h (Some k) = keeps_then _ _ (keeps_groups (λ groups. with_focused (left groups id h) id (Some k))) (keeps_put Focused true k)
-
-  keeps_leave_from : (id : Option ℕ) (h : Handle) → Keeps (leave_from id h)
-  unfolding leave_from
-  keeps_leave_from None h m s = s
-  keeps_leave_from (Some id) h m s = keeps_pass id h (heir m id h) m s
+  keeps_put state on h = good_put Keeps keeps_nothing keeps_look state on h (keeps_make (change.State h state on) tt (λ scene k. refl))
 
   keeps_leave_group : (h : Handle) → Keeps (leave_group h)
-  unfolding leave_group
-  keeps_leave_group h m s = keeps_leave_from (group_of m.groups h) h m s
+  keeps_leave_group = good_leave_group Keeps keeps_then keeps_look keeps_nothing keeps_put (λ f count. keeps_groups f)
 
 -- who leaves is not animated afterwards
 lets_forget : (hs : List ℕ) (h : Handle) (m : Machine) → Stand (h.0 ∷ hs) m → Stand hs (forget h m).machine
@@ -163,80 +137,18 @@ unfolding say
 keeps_asked kind target current None c m s = s
 keeps_asked kind target current (Some change) c m s = keeps_attempt change c m s
 
-keeps_act : (kind : EventKind) (target current : Handle) (a : Action) → Keeps [] (act kind target current a)
-unfolding act
-keeps_act kind target current a m s =
-    keeps_if [] (is_there m.scene current.0) (say_or_change kind target current (asked target a)) nothing (keeps_asked kind target current (asked target a) (asked_is target a)) (keeps_nothing []) m s
-
-keeps_run : (kind : EventKind) (target current : Handle) → Keeps [] (run_at kind target current)
-unfolding run_at
-keeps_run kind target current m s = keeps_each [] (act kind target current) (keeps_act kind target current) (actions_at m current kind) m s
-
-keeps_send : (kind : EventKind) (target : Handle) → Keeps [] (send kind target)
-unfolding send
-keeps_send kind target m s = keeps_each [] (run_at kind target) (keeps_run kind target) (path m.scene target) m s
-
-keeps_send_there : (kind : EventKind) (target : Handle) → Keeps [] (send_there kind target)
-unfolding send_there
-keeps_send_there kind target m s = keeps_if [] (is_there m.scene target.0) (send kind target) nothing (keeps_send kind target) (keeps_nothing []) m s
-
--- Focus.
-keeps_unfocus : (h : Handle) → Keeps [] (unfocus h)
-unfolding unfocus
-keeps_unfocus h = keeps_then [] _ _ (keeps_then [] _ _ (keeps_put [] Focused false h) (keeps_put [] FocusKey false h)) (keeps_put [] Edited false h)
-
-keeps_refocus : (by_key : Bool) (h : Handle) → Keeps [] (refocus by_key h)
-unfolding refocus
-keeps_refocus by_key h = keeps_then [] _ _ (keeps_put [] Focused true h) (keeps_if [] by_key _ _ (keeps_put [] FocusKey true h) (keeps_nothing []))
-
-keeps_hand_over : (old : Option Handle) (id : ℕ) (by_key : Bool) (h : Handle) → Keeps [] (hand_over old id by_key h)
-unfolding hand_over
-keeps_hand_over old id by_key h = keeps_then [] _ _ (keeps_then [] _ _ (keeps_groups [] (focus_taken id h)) (keeps_aimed [] unfocus keeps_unfocus old)) (keeps_refocus by_key h)
-
-keeps_move_from : (old : Option Handle) (id : ℕ) (by_key : Bool) (h : Handle) → Keeps [] (move_from old id by_key h)
-unfolding move_from
-keeps_move_from old id by_key h =
-    keeps_then [] _ _ (keeps_then [] _ _ (keeps_hand_over old id by_key h) (keeps_aimed [] (send_there event.Defocused) (keeps_send_there event.Defocused) old))
-    (keeps_send_there event.Focused h)
-
-keeps_move : (id : ℕ) (by_key : Bool) (h : Handle) → Keeps [] (move_focus id by_key h)
-unfolding move_focus
-keeps_move id by_key h m s = keeps_move_from (focused_in (group_at m.groups id)) id by_key h m s
-
-keeps_focus_by : (has : Bool) (id : Option ℕ) (h : Handle) → Keeps [] (focus_by has id h)
-keeps_focus_by true id h = keeps_nothing []
-keeps_focus_by false None h = keeps_nothing []
-keeps_focus_by false (Some id) h = keeps_move id false h
-
-keeps_focus : (h : Handle) → Keeps [] (focus h)
-unfolding focus
-keeps_focus h m s = keeps_focus_by (has_focus m.groups h) (group_of m.groups h) h m s
-
-keeps_first : (other : Option Handle) (id : ℕ) (h : Handle) → Keeps [] (first_focus other id h)
-keeps_first None id h = keeps_move id false h
-keeps_first (Some other) id h = keeps_nothing []
-
-keeps_join : (id : ℕ) (h : Handle) → Keeps [] (join id h)
-unfolding join
-keeps_join id h m s = keeps_then [] _ _ (keeps_groups [] (λ groups. joined groups id h)) (keeps_first (focused_in (group_at m.groups id)) id h) m s
-
-keeps_leave : (h : Handle) → Keeps [] (leave h)
-unfolding leave
-keeps_leave h m s = keeps_then [] _ _ (keeps_if [] (has_focus m.groups h) _ _ (keeps_unfocus h) (keeps_nothing [])) (keeps_leave_group [] h) m s
-
--- Input and time.
 keeps_closed : IsClosed (Keeps [])
 keeps_closed = record {
   none = keeps_nothing [];
   next = keeps_then [];
-  look = λ f h m. h m m;
+  look = keeps_look [];
   aside = λ f is. keeps_with [] f is.scene is.anims;
   value = λ h n. keeps_make [] (change.Value h n) tt (λ scene k. refl);
   place = λ h x y. keeps_make [] (change.Pos h x y) tt (λ scene k. refl);
   size = λ h width height. keeps_make [] (change.Size h width height) tt (λ scene k. refl);
-  put = keeps_put [];
-  sent = keeps_send;
-  moved = keeps_move;
+  state = λ h state on. keeps_make [] (change.State h state on) tt (λ scene k. refl);
+  acted = λ kind target current a. keeps_asked kind target current (asked target a) (asked_is target a);
+  left = keeps_leave_group [];
 }
 
 -- Commands.
@@ -249,20 +161,8 @@ rule_stands : (command : Command) (m : Machine) → IsCommand command → answer
 unfolding with
 rule_stands (ask.Change change) m c none s = keeps_made change c m s
 rule_stands (ask.On h kind a) m c none s = record { valid = s.valid; there = s.there }
-rule_stands (ask.Off h kind) m c none s = record { valid = s.valid; there = s.there }
-rule_stands (ask.Send h kind) m c none s = keeps_send kind h m s
 rule_stands (ask.Group id) m c none s = record { valid = s.valid; there = s.there }
-rule_stands (ask.Join id h) m c none s = keeps_join id h m s
-rule_stands (ask.Leave h) m c none s = keeps_leave h m s
-rule_stands (ask.Focus h) m c none s = keeps_focus h m s
-rule_stands (ask.Keypad id) m c none s = record { valid = s.valid; there = s.there }
-rule_stands (ask.Encoder id) m c none s = record { valid = s.valid; there = s.there }
-rule_stands (ask.Touch x y) m c none s = good_feed_pointer (Keeps []) keeps_closed (Some (down_at x y)) m s
-rule_stands ask.Release m c none s = good_feed_pointer (Keeps []) keeps_closed (Some lifted) m s
-rule_stands (ask.Key key down) m c none s = good_feed_keypad (Keeps []) keeps_closed _ m s
-rule_stands (ask.Turn n) m c none s = good_feed_encoder (Keeps []) keeps_closed _ m s
-rule_stands (ask.Push down) m c none s = good_feed_encoder (Keeps []) keeps_closed _ m s
-rule_stands (ask.Tick ms) m c none s = good_tick (Keeps []) keeps_closed ms m s
+rule_stands (ask.Join id h) m c none s = good_join (Keeps []) keeps_closed id h (keeps_groups [] (λ groups. joined groups id h)) m s
 rule_stands (ask.Anim spec) m c none s =
     let on : is_there m.scene spec.h.0 ≡ true =
     not-false _ (first-fails (gone m spec.h) (var_tests m.scene spec.var spec.h) (full_for m (ask.Anim spec)) (range_done (is_command_in_range (ask.Anim spec)) _ none).1) in
@@ -279,7 +179,7 @@ rule_stands (ask.Anim spec) m c none s =
         list_any-append (λ (anim : Anim). anim.spec.h.0 == k) (filter (λ anim. not (test anim)) m.anims) (record { spec = spec; started = m.time } ∷ []),
       );
     }
-rule_stands (ask.Stop h var) m c none s = keeps_with [] (anim_stopped h var) (λ m. refl) (λ m k is. any-filter _ _ m.anims is) m s
+rule_stands command m c none s = good_rule (Keeps []) keeps_closed command tt m s
 
 pub steps_keep_animated : StepsKeepAnimated
 unfolding step

@@ -9,8 +9,9 @@ use Rattle.gui_base.specs.Forest.{count}
 use Rattle.gui_base.proofs.Visits.{count-has, count-off}
 use Rattle.scene_defs.specs.declared.Change.{Change}
 use Rattle.scene_defs.specs.declared.Change.TheVariants as change
-use Rattle.scene_defs.specs.Change.{answer_of, answer_in_range, changed, scene_by, scene_after, below, tree_below}
-use Rattle.scene_defs.specs.Ranges.{is_in_range}
+use Rattle.scene_defs.specs.Change.{answer_of, answer_in_range, changed, scene_by, scene_after}
+use Rattle.scene_defs.specs.Edits.{below, tree_below}
+use Rattle.scene_defs.specs.Deeds.{is_in_range}
 use Rattle.scene_defs.specs.Scene.{Scene, handles_of, is_there}
 use Rattle.scene_defs.specs.Valid.{IsValid, IsChange, is_among}
 use Rattle.scene_defs.proofs.Changes.{range_done}

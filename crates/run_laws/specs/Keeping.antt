@@ -13,7 +13,8 @@ use Rattle.run_defs.specs.Making.{handles, removed}
 use Rattle.run_defs.specs.Play.{each}
 use Rattle.run_defs.specs.Step.{IsCommand, step}
 use Rattle.run_defs.specs.declared.Command.{Command}
-use Rattle.scene_defs.specs.Change.{answer_of, tree_below}
+use Rattle.scene_defs.specs.Change.{answer_of}
+use Rattle.scene_defs.specs.Edits.{tree_below}
 use Rattle.scene_defs.specs.Scene.{Scene, handles_of, is_there}
 use Rattle.scene_defs.specs.Valid.{IsValid}
 use Rattle.scene_defs.specs.declared.Change.TheVariants.{Delete}

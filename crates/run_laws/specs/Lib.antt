@@ -1,3 +1,4 @@
 pub mod Animated
 pub mod Keeping
 pub mod Members
+pub mod Pools

@@ -5,6 +5,7 @@ ghost use Rattle.run_laws.specs.Animated.{FirstAnimatedAreThere, StepsKeepAnimat
 ghost use Rattle.run_laws.specs.Keeping.{ActKeepsHandlers, DeleteRemovesAllBelow, StepsKeepScenesValid};
 ghost use Rattle.run_laws.specs.Keeping.{AnimatingRunsOn};
 ghost use Rattle.run_laws.specs.Members.{FirstAreJoined, StepsKeepMembers, OneMoreFits};
+ghost use Rattle.run_laws.specs.Pools.{FirstFitsPools, StepsKeepPools};
 
 /// An object that is still there after an action of its own has its handlers, so that the next of them runs.
 #[tactic(auto, using(crate::proofs::Keeps::act_keeps))]
@@ -40,4 +41,11 @@ pub fn animating_runs_on()
 pub fn animated_are_there()
     ensures first { FirstAnimatedAreThere }
     ensures step { StepsKeepAnimated }
+{}
+
+/// No pool of a machine is over its count: the handlers, the groups and the animations are at most as many as
+/// their slots.
+pub fn machines_fit_their_pools()
+    ensures first { FirstFitsPools }
+    ensures step { StepsKeepPools }
 {}

@@ -13,7 +13,7 @@ use Rattle.gui_base.specs.Refusing.{Reason, Test, refusal_of, first_of}
 use Rattle.scene_defs.specs.declared.Change.{Change}
 use Rattle.scene_defs.specs.declared.Change.TheVariants as change
 use Rattle.scene_defs.specs.Scene.{Scene, spare}
-use Rattle.scene_defs.specs.Ranges.{is_in_range}
+use Rattle.scene_defs.specs.Deeds.{is_in_range}
 use Rattle.scene_defs.specs.Change.{lacks, need_of, first_short, tests, answer_of, answer_in_range, scene_by, scene_after, changed}
 use Rattle.scene_defs.specs.Laws.{ChangeKeepsLimits, RefusedChangesNothing, RangeComesFirst, FullWithoutRoom, DoneWithRoom, RefusedWhateverLimits, SetsRowAlone, with_limits}
 

@@ -8,8 +8,8 @@ use Rattle.scene_defs.specs.declared.Change.{Change}
 use Rattle.scene_defs.specs.declared.Change.TheVariants as change
 use Rattle.gui_base.specs.Intervals.{is_counted}
 use Rattle.gui_base.specs.declared.intervals.TheConstants.{GROW}
-use Rattle.scene_defs.specs.Row.{row_after, is_cross, is_ranged, brought_in}
-use Rattle.scene_defs.specs.Ranges.{is_in_range}
+use Rattle.scene_defs.specs.Deeds.{row_after, is_in_range}
+use Rattle.scene_defs.specs.Row.{is_cross, is_ranged, brought_in}
 use Rattle.scene_defs.specs.declared.Row.{Row}
 use Rattle.scene_defs.specs.Valid.{IsOffset, IsSize, IsRow}
 

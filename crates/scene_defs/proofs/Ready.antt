@@ -25,7 +25,8 @@ use Rattle.text_defs.specs.Building.{is_finished}
 use Rattle.text_defs.specs.Fonts.{Font, font_of}
 use Rattle.scene_defs.specs.declared.Change.{Change}
 use Rattle.scene_defs.specs.declared.Change.TheVariants as change
-use Rattle.scene_defs.specs.Change.{answer_of, scene_after, tests, below}
+use Rattle.scene_defs.specs.Change.{answer_of, scene_after, tests}
+use Rattle.scene_defs.specs.Edits.{below}
 use Rattle.scene_defs.specs.Finished.{FontsOfTextsAreFinished}
 use Rattle.scene_defs.specs.NamedFonts.{is_ready, IsReadySetting, IsReadyEntry, IsReadyStyle, AreReady}
 use Rattle.scene_defs.specs.Scene.{Object, Scene, styled_of, path_at}

@@ -3,7 +3,7 @@ use Rattle.std.proofs.Common.{◌≡◌, ◌≢◌, ◌≤◌, ℕ, zero, suc, �
 use Rattle.std.proofs.lemmas.Bool.Decides.{nat_tests}
 use Rattle.gui_base.specs.Forest.{Forest, Empty, Tree, all_by, tree_by, height, cut_by, depth_by, parent_by}
 use Rattle.scene_defs.specs.Scene.{Object, is_at, object_by}
-use Rattle.scene_defs.specs.Change.{has_screen}
+use Rattle.scene_defs.specs.Edits.{has_screen}
 use Rattle.text_defs.specs.Images.{Image}
 use Rattle.scene_defs.specs.Valid.{in_order, is_root_object, is_plain, have_kinds, is_root_at}
 use Rattle.scene_defs.proofs.Distinct.{there, IsDistinct}

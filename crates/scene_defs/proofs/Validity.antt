@@ -22,17 +22,18 @@ use Rattle.gui_base.specs.Limits.{Bounds, slots}
 use Rattle.scene_defs.specs.declared.Change.{Change}
 use Rattle.scene_defs.specs.declared.Change.TheVariants as change
 use Rattle.scene_defs.specs.declared.Row.{Row}
-use Rattle.scene_defs.specs.Row.{is_root, is_row, new_row, row_after, row_set}
+use Rattle.scene_defs.specs.Row.{is_root, is_row, new_row}
+use Rattle.scene_defs.specs.Deeds.{row_after, row_set, is_in_range}
 use Rattle.scene_defs.specs.Texts.{is_text, is_short, is_shown_image}
 use Rattle.gui_pool.specs.Texts.{need_of as chunks_of}
 use Rattle.scene_defs.specs.Scene.{Object, Scene, is_at, handles_of, first_trees, is_there, object_by, used, spare, new_object, chunks_in, glyph_count, ink_of, ink_count, pixel_count}
-use Rattle.scene_defs.specs.Change.{tests, answer_of, answer_in_range, need_of, freed_by, scene_after, tree_below, below, parent_object, is_screen_kind, text_at, text_of, with_screen, with_object, without, last_below, at_index_below}
+use Rattle.scene_defs.specs.Change.{tests, answer_of, answer_in_range, need_of, freed_by, scene_after}
+use Rattle.scene_defs.specs.Edits.{tree_below, below, parent_object, is_screen_kind, text_at, text_of, with_screen, with_object, without, last_below, at_index_below}
 use Rattle.text_defs.specs.Building.{given, done, new_font, with_finished}
 use Rattle.text_defs.specs.Fonts.{Font}
 use Rattle.text_defs.specs.Images.{Image, with_row as with_image_row}
 use Rattle.scene_defs.specs.Assets.{glyph_in}
 use Rattle.scene_defs.specs.Laws.{SlotsAddUp}
-use Rattle.scene_defs.specs.Ranges.{is_in_range}
 use Rattle.style_defs.specs.Book.{Book, a_setting, a_use, an_entry}
 use Rattle.style_defs.specs.InOrder.{IsBook, IsBare}
 use Rattle.style_defs.proofs.Empty.{empty_in_order, empty_bare, no_entries, no_uses}
@@ -349,7 +350,7 @@ leaves_book scene (change.Set s prop value) v fits t l =
 leaves_book scene (change.Unset s prop) v fits t l =
     book_becomes scene (change.Unset s prop) _ nobody v (unset_becomes scene.book v.book s prop (not-false _ t.0)) refl (λ k off. refl)
 leaves_book scene (change.Use h s selector) v fits t l =
-    let b = use_becomes scene.book v.book h.0 (a_use s selector) (grind (arith, nat_tests, fits)) in
+    let b = use_becomes scene.book v.book h.0 (a_use s selector) (grind (arith, nat_tests, fits)) (not-false _ t.1.0) in
     book_becomes scene (change.Use h s selector) _ (λ k. eqb k h.0) v b refl (λ k off. another scene h k t.0 off)
 leaves_book scene (change.Unuse h s selector) v fits t l =
     let b = unuse_becomes scene.book v.book h.0 (a_use s selector) (grind (arith, nat_tests, fits)) (not-false _ t.1.0) in

@@ -1,8 +1,10 @@
 -- The changes of the fonts and the images of a scene.
-use Rattle.std.specs.Prelude.{ℕ, List, length, Some, None}
-use Rattle.std.specs.declared.option.Option.{Option}
+use Rattle.std.specs.Prelude.{Bool, ◌&&◌, ℕ, List, length}
+use Rattle.gui_base.specs.Intervals.{is_counted, is_within}
 use Rattle.gui_base.specs.Refusing.{Test}
+use Rattle.gui_base.specs.declared.intervals.TheConstants.{ADVANCE, GLYPH_WIDTH, GLYPH_HEIGHT, GLYPH_OFFSET}
 use Rattle.gui_base.specs.declared.limits.Pool.{Pool}
+use Rattle.gui_base.specs.declared.words.Format.{Format}
 use Rattle.gui_base.specs.declared.limits.Pool.TheVariants.{Fonts, Glyphs, Ink, Images, Pixels}
 use Rattle.text_defs.specs.Building.{begin_tests, glyph_tests, finish_tests}
 use Rattle.text_defs.specs.Building.{with_font, with_glyph, with_finished}
@@ -10,8 +12,6 @@ use Rattle.text_defs.specs.Fonts.{Font, Glyph}
 use Rattle.text_defs.specs.Images as images
 use Rattle.text_defs.specs.Images.{Image, image_bytes, row_tests, with_image, with_row}
 use Rattle.text_defs.specs.declared.GlyphBox.{GlyphBox}
-use Rattle.scene_defs.specs.declared.Change.{Change}
-use Rattle.scene_defs.specs.declared.Change.TheVariants as change
 
 -- A change of the fonts or the images of a scene, and of nothing else. It frees no slots.
 pub record AssetChange : Type 0 where
@@ -45,37 +45,53 @@ of_images pixels pool = 0
 abbrev pub glyph_in : ℕ → GlyphBox → List ℕ → Glyph
 glyph_in code shape rows = record { code = code; shape = shape; rows = rows }
 
--- what a change asks for where it changes fonts or images
-module _ (fs : List Font) (is : List Image) where
-  abbrev pub asset_change_of : Change → Option AssetChange
-  asset_change_of (change.Font f height advance) = Some (record {
-    tests = begin_tests fs f;
-    need = of_fonts;
-    fonts = with_font fs f height advance;
-    images = is;
-  })
-  asset_change_of (change.Glyph f code shape rows) = Some (record {
-    tests = glyph_tests fs f (glyph_in code shape rows);
-    need = of_glyphs (length rows);
-    fonts = with_glyph fs f (glyph_in code shape rows);
-    images = is;
-  })
-  asset_change_of (change.EndFont f) = Some (record {
-    tests = finish_tests fs f;
-    need = no_room;
-    fonts = with_finished fs f;
-    images = is;
-  })
-  asset_change_of (change.Image i format w h) = Some (record {
-    tests = images.begin_tests is i;
-    need = of_images (image_bytes format w h);
-    fonts = fs;
-    images = with_image is i format w h;
-  })
-  asset_change_of (change.ImageRow i y row) = Some (record {
-    tests = row_tests is i y row;
-    need = no_room;
-    fonts = fs;
-    images = with_row is i row;
-  })
-  asset_change_of change = None
+-- a new font, without glyphs
+abbrev pub font_begun : ℕ → ℕ → ℕ → List Font → List Image → AssetChange
+font_begun f height advance fs is = record {
+  tests = begin_tests fs f;
+  need = of_fonts;
+  fonts = with_font fs f height advance;
+  images = is;
+}
+
+-- a glyph more of a font
+abbrev pub glyph_given : ℕ → ℕ → GlyphBox → List ℕ → List Font → List Image → AssetChange
+glyph_given f code shape rows fs is = record {
+  tests = glyph_tests fs f (glyph_in code shape rows);
+  need = of_glyphs (length rows);
+  fonts = with_glyph fs f (glyph_in code shape rows);
+  images = is;
+}
+
+-- a font that takes no more glyphs
+abbrev pub font_finished : ℕ → List Font → List Image → AssetChange
+font_finished f fs is = record {
+  tests = finish_tests fs f;
+  need = no_room;
+  fonts = with_finished fs f;
+  images = is;
+}
+
+-- a new image, without rows
+abbrev pub image_begun : ℕ → Format → ℕ → ℕ → List Font → List Image → AssetChange
+image_begun i format w h fs is = record {
+  tests = images.begin_tests is i;
+  need = of_images (image_bytes format w h);
+  fonts = fs;
+  images = with_image is i format w h;
+}
+
+-- a row more of an image
+abbrev pub row_given : ℕ → ℕ → List ℕ → List Font → List Image → AssetChange
+row_given i y row fs is = record {
+  tests = row_tests is i y row;
+  need = no_room;
+  fonts = fs;
+  images = with_row is i row;
+}
+
+-- whether each number of a glyph's box lies in its interval
+abbrev pub is_shape : GlyphBox → Bool
+is_shape shape =
+    is_counted ADVANCE shape.advance && (is_counted GLYPH_WIDTH shape.w && (is_counted GLYPH_HEIGHT shape.h &&
+    (is_within GLYPH_OFFSET shape.ox && is_within GLYPH_OFFSET shape.oy)))

@@ -6,10 +6,10 @@ use Rattle.gui_base.specs.declared.limits.Pool.{Pool}
 use Rattle.gui_base.specs.declared.refusal.Refusal.{Refusal}
 use Rattle.gui_base.specs.declared.refusal.Refusal.TheVariants.{Range, Full}
 use Rattle.scene_defs.specs.declared.Change.{Change}
-use Rattle.scene_defs.specs.Ranges.{is_in_range}
+use Rattle.scene_defs.specs.Deeds.{is_in_range, row_set, row_after}
 use Rattle.scene_defs.specs.Scene.{Scene, spare}
-use Rattle.scene_defs.specs.Row.{row_set, row_after}
-use Rattle.scene_defs.specs.Change.{answer_of, need_of, freed_by, changed, scene_after, with_row}
+use Rattle.scene_defs.specs.Change.{answer_of, need_of, freed_by, changed, scene_after}
+use Rattle.scene_defs.specs.Edits.{with_row}
 use Rattle.scene_defs.specs.Valid.{IsValid, IsChange}
 
 abbrev pub ChangeKeepsLimits : Type 0

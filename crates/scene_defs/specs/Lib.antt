@@ -1,5 +1,7 @@
 pub mod Assets
 pub mod Change
+pub mod Deeds
+pub mod Edits
 pub mod Finished
 pub mod Items
 pub mod Laws
@@ -8,7 +10,6 @@ pub mod NamedFonts
 pub mod Picture
 pub mod Place
 pub mod Quoted
-pub mod Ranges
 pub mod Row
 pub mod Rows
 pub mod Scene

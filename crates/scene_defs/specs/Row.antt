@@ -1,12 +1,11 @@
 -- The row of an object: its first values, the intervals of its numbers, and the changes that set it.
 use Rattle.std.specs.Prelude.{ℕ, Bool, true, false, ◌&&◌, if◌then◌else◌, Some, None}
-use Rattle.std.specs.Prelude.{ℤ, option_map, pos, int_le, int_lt}
+use Rattle.std.specs.Prelude.{ℤ, pos, int_le, int_lt}
 use Rattle.std.specs.declared.option.Option.{Option}
-use Rattle.gui_base.specs.Bits.{has_bit, with_bit, flag_bit, state_bit}
+use Rattle.gui_base.specs.Bits.{has_bit, flag_bit}
 use Rattle.gui_base.specs.Intervals.{is_counted, is_within}
 use Rattle.gui_base.specs.declared.Handle.{Handle}
 use Rattle.gui_base.specs.declared.intervals.TheConstants.{EXTENT, PERCENT, COORDINATE, GROW, VALUE}
-use Rattle.gui_base.specs.declared.intervals.TheConstants.{IMAGE}
 use Rattle.gui_base.specs.declared.words.Flag.{Flag}
 use Rattle.gui_base.specs.declared.words.Kind.{Kind}
 use Rattle.gui_base.specs.declared.words.Kind.TheVariants.{Screen, Layer, Label, Image, Bar, Slider, Checkbox}
@@ -16,8 +15,6 @@ use Rattle.gui_base.specs.declared.words.Align.TheVariants.{TopLeft}
 use Rattle.gui_base.specs.declared.words.Placing.{Placing}
 use Rattle.gui_base.specs.declared.words.Placing.TheVariants.{Start, End, Center, SpaceEvenly, SpaceAround}
 use Rattle.gui_base.specs.declared.words.Placing.TheVariants.{SpaceBetween}
-use Rattle.scene_defs.specs.declared.Change.{Change}
-use Rattle.scene_defs.specs.declared.Change.TheVariants as change
 use Rattle.scene_defs.specs.declared.Feature.{Feature}
 use Rattle.scene_defs.specs.declared.Feature.TheVariants.{Text, Value, Picture}
 use Rattle.scene_defs.specs.declared.Row.{Row}
@@ -141,97 +138,43 @@ pub record Setter : Type 0 where
   pub after : Row → Row
 
 -- a setter of any object, and one of objects that have a parent
-abbrev pub of_any : Handle → Bool → (Row → Row) → Option Setter
-of_any h fits after = Some (record {
+abbrev pub of_any : Handle → Bool → (Row → Row) → Setter
+of_any h fits after = record {
   handle = h;
   fits = fits;
   needs_parent = false;
   feature = None;
   image = None;
   after = after;
-})
+}
 
-abbrev pub of_child : Handle → Bool → (Row → Row) → Option Setter
-of_child h fits after = Some (record {
+abbrev pub of_child : Handle → Bool → (Row → Row) → Setter
+of_child h fits after = record {
   handle = h;
   fits = fits;
   needs_parent = true;
   feature = None;
   image = None;
   after = after;
-})
+}
 
 -- a setter of objects that have a value, and one of objects that show a picture
-abbrev pub of_valued : Handle → Bool → (Row → Row) → Option Setter
-of_valued h fits after = Some (record {
+abbrev pub of_valued : Handle → Bool → (Row → Row) → Setter
+of_valued h fits after = record {
   handle = h;
   fits = fits;
   needs_parent = false;
   feature = Some Value;
   image = None;
   after = after;
-})
+}
 
-abbrev pub of_pictured : Handle → ℕ → Bool → (Row → Row) → Option Setter
-of_pictured h image fits after = Some (record {
+abbrev pub of_pictured : Handle → ℕ → Bool → (Row → Row) → Setter
+of_pictured h image fits after = record {
   handle = h;
   fits = fits;
   needs_parent = false;
   feature = Some Picture;
   image = Some image;
   after = after;
-})
-
-abbrev pub setter_of : Change → Option Setter
-setter_of (change.Flag h flag on) =
-    of_any h true (λ row. record row { flags = with_bit row.flags (flag_bit flag) on })
-setter_of (change.Pos h x y) =
-    of_child h (is_within COORDINATE x && is_within COORDINATE y) (λ row. record row { x = x; y = y })
-setter_of (change.Align h align x y) =
-    of_child h (is_within COORDINATE x && is_within COORDINATE y)
-    (λ row. record row { align = align; x = x; y = y })
-setter_of (change.Size h width height) =
-    of_child h (is_size width && is_size height) (λ row. record row { width = width; height = height })
-setter_of (change.Flex h flow) = of_any h true (λ row. record row { flow = flow })
-setter_of (change.Places h main cross track) =
-    of_any h (is_cross cross) (λ row. record row { places = (main, cross, track) })
-setter_of (change.Grow h n) = of_child h (is_counted GROW n) (λ row. record row { grow = n })
-setter_of (change.State h state on) =
-    of_any h true (λ row. record row { states = with_bit row.states (state_bit state) on })
-setter_of (change.Value h n) = of_valued h (is_within VALUE n) (with_value n)
-setter_of (change.Range h low high) = of_valued h (is_range low high) (with_range low high)
-setter_of (change.Source h i) =
-    of_pictured h i (is_counted IMAGE i) (λ row. record row { image = Some i })
-setter_of (change.Text h text) = None
-setter_of (change.Screen n) = None
-setter_of (change.New n p kind) = None
-setter_of (change.Delete h) = None
-setter_of (change.Parent h p) = None
-setter_of (change.Index h n) = None
-setter_of (change.Front h) = None
-setter_of (change.Back h) = None
-setter_of (change.Load h) = None
-setter_of (change.Style s) = None
-setter_of (change.Set s prop value) = None
-setter_of (change.Unset s prop) = None
-setter_of (change.Use h s selector) = None
-setter_of (change.Unuse h s selector) = None
-setter_of (change.Local h selector prop value) = None
-setter_of (change.Unlocal h selector prop) = None
-setter_of (change.Font f height advance) = None
-setter_of (change.Glyph f code shape bytes) = None
-setter_of (change.EndFont f) = None
-setter_of (change.Image i format w h) = None
-setter_of (change.ImageRow i y bytes) = None
-
--- the object whose row a change sets
-abbrev pub row_set : Change → Option Handle
-row_set change = option_map (λ setter. setter.handle) (setter_of change)
-
--- what a change makes of that row
-abbrev pub set_by : Option Setter → Row → Row
-set_by None row = row
-set_by (Some setter) row = setter.after row
-
-abbrev pub row_after : Change → Row → Row
-row_after change row = set_by (setter_of change) row
+}

@@ -8,14 +8,13 @@ use Rattle.gui_base.specs.declared.Handle.{Handle}
 use Rattle.gui_base.specs.declared.limits.Pool.{Pool}
 use Rattle.gui_base.specs.declared.limits.Pool.TheVariants.{Styles, Entries, Uses}
 use Rattle.gui_base.specs.declared.props.Prop.{Prop}
+use Rattle.gui_base.specs.declared.words.Selector.{Selector}
 use Rattle.gui_base.specs.declared.props.Prop.TheVariants.{TextFont}
 use Rattle.style_defs.specs.Book as book
 use Rattle.style_defs.specs.Book.{Book, an_entry, a_setting, a_use, has_local, has_setting, has_use}
 use Rattle.style_defs.specs.Cascade.{has_style}
 use Rattle.text_defs.specs.Building.{is_finished}
 use Rattle.text_defs.specs.Fonts.{Font, has_font}
-use Rattle.scene_defs.specs.declared.Change.{Change}
-use Rattle.scene_defs.specs.declared.Change.TheVariants as change
 
 -- A change of the styles of a scene, and of nothing else.
 pub record Styling : Type 0 where
@@ -55,55 +54,72 @@ of_uses n pool = 0
 abbrev pub one_unless : Bool → ℕ
 one_unless there = if there then 0 else 1
 
-module _ (fonts : List Font) (b : Book) where
-  abbrev pub styling_of : Change → Option Styling
-  styling_of (change.Style s) = Some (record {
-    object = None;
-    tests = (has_style b.styles s, Taken) ∷ [];
-    need = of_styles 1;
-    freed = no_slots;
-    after = book.with_style b s;
-  })
-  styling_of (change.Set s prop value) = Some (record {
-    object = None;
-    tests = (not (has_style b.styles s), Unknown) ∷ font_tests fonts prop value;
-    need = of_entries (one_unless (has_setting b s prop));
-    freed = no_slots;
-    after = book.with_prop b s (a_setting prop value);
-  })
-  styling_of (change.Unset s prop) = Some (record {
-    object = None;
-    tests = (not (has_setting b s prop), Unknown) ∷ [];
-    need = no_slots;
-    freed = of_entries 1;
-    after = book.without_prop b s prop;
-  })
-  styling_of (change.Use h s selector) = Some (record {
-    object = Some h;
-    tests = (not (has_style b.styles s), Unknown) ∷ (has_use b h.0 (a_use s selector), Taken) ∷ [];
-    need = of_uses 1;
-    freed = no_slots;
-    after = book.with_use b h.0 (a_use s selector);
-  })
-  styling_of (change.Unuse h s selector) = Some (record {
-    object = Some h;
-    tests = (not (has_use b h.0 (a_use s selector)), Unknown) ∷ [];
-    need = no_slots;
-    freed = of_uses 1;
-    after = book.without_use b h.0 (a_use s selector);
-  })
-  styling_of (change.Local h selector prop value) = Some (record {
-    object = Some h;
-    tests = font_tests fonts prop value;
-    need = of_entries (one_unless (has_local b h.0 selector prop));
-    freed = no_slots;
-    after = book.with_local b h.0 (an_entry selector prop value);
-  })
-  styling_of (change.Unlocal h selector prop) = Some (record {
-    object = Some h;
-    tests = (not (has_local b h.0 selector prop), Unknown) ∷ [];
-    need = no_slots;
-    freed = of_entries 1;
-    after = book.without_local b h.0 selector prop;
-  })
-  styling_of change = None
+-- a new style, which sets nothing
+abbrev pub style_made : ℕ → List Font → Book → Styling
+style_made s fonts b = record {
+  object = None;
+  tests = (has_style b.styles s, Taken) ∷ [];
+  need = of_styles 1;
+  freed = no_slots;
+  after = book.with_style b s;
+}
+
+-- a property of a style
+abbrev pub style_set : ℕ → Prop → ℤ → List Font → Book → Styling
+style_set s prop value fonts b = record {
+  object = None;
+  tests = (not (has_style b.styles s), Unknown) ∷ font_tests fonts prop value;
+  need = of_entries (one_unless (has_setting b s prop));
+  freed = no_slots;
+  after = book.with_prop b s (a_setting prop value);
+}
+
+-- a style without a property
+abbrev pub style_unset : ℕ → Prop → List Font → Book → Styling
+style_unset s prop fonts b = record {
+  object = None;
+  tests = (not (has_setting b s prop), Unknown) ∷ [];
+  need = no_slots;
+  freed = of_entries 1;
+  after = book.without_prop b s prop;
+}
+
+-- a style that an object uses
+abbrev pub style_used : Handle → ℕ → Selector → List Font → Book → Styling
+style_used h s selector fonts b = record {
+  object = Some h;
+  tests = (not (has_style b.styles s), Unknown) ∷ (has_use b h.0 (a_use s selector), Taken) ∷ [];
+  need = of_uses 1;
+  freed = no_slots;
+  after = book.with_use b h.0 (a_use s selector);
+}
+
+-- a style that it uses no more
+abbrev pub style_unused : Handle → ℕ → Selector → List Font → Book → Styling
+style_unused h s selector fonts b = record {
+  object = Some h;
+  tests = (not (has_use b h.0 (a_use s selector)), Unknown) ∷ [];
+  need = no_slots;
+  freed = of_uses 1;
+  after = book.without_use b h.0 (a_use s selector);
+}
+
+-- a property that an object sets by itself
+abbrev pub local_set : Handle → Selector → Prop → ℤ → List Font → Book → Styling
+local_set h selector prop value fonts b = record {
+  object = Some h;
+  tests = font_tests fonts prop value;
+  need = of_entries (one_unless (has_local b h.0 selector prop));
+  freed = no_slots;
+  after = book.with_local b h.0 (an_entry selector prop value);
+}
+
+-- a property that it sets no more
+abbrev pub local_unset : Handle → Selector → Prop → List Font → Book → Styling
+local_unset h selector prop fonts b = record {
+  object = Some h;
+  tests = (not (has_local b h.0 selector prop), Unknown) ∷ [];
+  need = no_slots;
+  freed = of_entries 1;
+  after = book.without_local b h.0 selector prop;
+}

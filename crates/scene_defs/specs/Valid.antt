@@ -1,6 +1,7 @@
 -- Scenes and changes that are in order. Each fact about numbers and kinds is that a test is true.
 use Rattle.std.specs.Prelude.{◌≡◌, ◌≢◌, ◌≤◌, ℕ, Bool, true, false, not, ◌&&◌, ◌||◌, ◌==◌, if◌then◌else◌}
-use Rattle.std.specs.Prelude.{ℤ, List, [], ◌∷◌, map, length, pos, sum_by}
+use Rattle.std.specs.declared.option.Option.{Option}
+use Rattle.std.specs.Prelude.{Some, None, ℤ, List, [], ◌∷◌, map, length, pos, sum_by}
 use Rattle.std.specs.List.{list_any, list_all}
 use Rattle.gui_base.specs.declared.intervals.TheConstants.{HANDLE, COORDINATE, MAX_DEPTH, FONT}
 use Rattle.gui_base.specs.declared.intervals.TheConstants.{FONT_HEIGHT, ADVANCE, CODE, IMAGE, IMAGE_SIDE}
@@ -16,11 +17,12 @@ use Rattle.text_defs.specs.Building.{is_whole}
 use Rattle.text_defs.specs.Fonts.{Font, Glyph}
 use Rattle.text_defs.specs.Images.{Image}
 use Rattle.scene_defs.specs.declared.Change.{Change}
-use Rattle.scene_defs.specs.declared.Change.TheVariants as change
-use Rattle.scene_defs.specs.Change.{changed, is_screen_kind}
+use Rattle.scene_defs.specs.Change.{changed}
+use Rattle.scene_defs.specs.Edits.{is_screen_kind}
 use Rattle.scene_defs.specs.declared.Row.{Row}
+use Rattle.scene_defs.specs.Deeds.{kind_made}
 use Rattle.scene_defs.specs.NamedFonts.{AreReady}
-use Rattle.scene_defs.specs.Ranges.{is_shape}
+use Rattle.scene_defs.specs.Assets.{is_shape}
 use Rattle.scene_defs.specs.Texts.{is_text, is_shown_image}
 use Rattle.scene_defs.specs.Row.{is_root, is_row, is_size}
 use Rattle.scene_defs.specs.Scene.{Object, Scene, is_at, handles_of, is_there, first_scene}
@@ -142,10 +144,14 @@ pub record IsValid (scene : Scene) : Type 0 where
   pub named : AreReady scene.fonts scene.book
   pub pools : FitPools scene
 
+-- a kind, if there is one, is that of a plain object
+abbrev pub IsPlainKind : Option Kind → Type 0
+IsPlainKind None = Unit {0}
+IsPlainKind (Some kind) = is_root kind ≡ false
+
 -- a change that may be asked for: below a parent stand plain objects, and no screens or layers
 abbrev pub IsChange : Change → Type 0
-IsChange (change.New n p kind) = is_root kind ≡ false
-IsChange change = Unit {0}
+IsChange change = IsPlainKind (kind_made change)
 
 -- what is shown of a scene in order is met by a walk
 abbrev pub ValidIsShowable : Type 0

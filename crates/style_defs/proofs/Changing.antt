@@ -4,7 +4,7 @@ use Rattle.std.specs.Prelude.{if◌then◌else◌, slice_set, slice_index_or}
 use Rattle.std.specs.List.{All, list_any}
 use Rattle.std.proofs.lemmas.Bool.{cases_Bool, cases_lt, eqb-true, eqb-false}
 use Rattle.std.proofs.lemmas.List.{get_or-set_same, get_or-set_other, get_or_past, set_past}
-use Rattle.std.proofs.lemmas.List.Elements.{All-nil, All-get_or}
+use Rattle.std.proofs.lemmas.List.Elements.{All-nil, All-get_or, All-push}
 use Rattle.gui_base.specs.declared.props.Prop.{Prop}
 use Rattle.gui_base.specs.declared.words.Selector.{Selector}
 use Rattle.style_defs.specs.declared.Entry.{Entry}
@@ -13,7 +13,7 @@ use Rattle.style_defs.specs.declared.Use.{Use}
 use Rattle.style_defs.specs.Book.{Book, locals_of, uses_of, entries_in, uses_in, with_settings, has_setting, with_style, with_prop, without_prop, with_use, without_use, with_local, without_local, forgotten, all_forgotten, is_for, is_use, has_use, has_local}
 use Rattle.style_defs.specs.Cascade.{Style, has_style, sets, settings_of, selector_of}
 use Rattle.style_defs.specs.Firsts.{first_by, put_by, drop_by}
-use Rattle.style_defs.specs.InOrder.{IsBook, IsBare, IsSetting, IsEntry}
+use Rattle.style_defs.specs.InOrder.{IsBook, IsBare, IsSetting, IsEntry, IsUsed}
 use Rattle.style_defs.proofs.Counting.{length-put_by, length-drop_by, length-inserted, settings-inserted, settings-changed, lengths-set}
 use Rattle.style_defs.proofs.Keeping.{All-put_by, All-drop_by, style_keeps, settings_keep, locals_keep, uses_keep}
 
@@ -42,10 +42,10 @@ module _ (book : Book) (in_order : IsBook book) where
   }
 
   -- other uses of an object
-  with_uses : (h need freed : ℕ) (uses : List Use) → h < 65536 → length uses + freed ≡ length (uses_of book h) + need →
+  with_uses : (h need freed : ℕ) (uses : List Use) → h < 65536 → All (IsUsed book.styles) uses → length uses + freed ≡ length (uses_of book h) + need →
       Becomes book (record book { uses = slice_set book.uses h uses }) (λ k. eqb k h) 0 0 need 0 freed
-  with_uses h need freed uses within count = record {
-    in_order = uses_keep book in_order h uses;
+  with_uses h need freed uses within all count = record {
+    in_order = uses_keep book in_order h uses all;
     styles_left = omega arith;
     entries_left = refl;
     uses_left = let sum = lengths-set book.uses h uses (omega (arith, in_order.use_places)) in omega (arith, sum, count);
@@ -107,12 +107,18 @@ module _ (book : Book) (in_order : IsBook book) where
       with_locals h 0 1 (drop_by test (locals_of book h)) within (All-drop_by IsEntry test (locals_of book h) (fits_at h within))
       (omega (arith, length-drop_by test (locals_of book h) set))
 
-  pub use_becomes : (h : ℕ) (u : Use) → h < 65536 → Becomes book (with_use book h u) (λ k. eqb k h) 0 0 1 0 0
-  use_becomes h u within = with_uses h 1 0 (uses_of book h ++ u ∷ []) within (omega (arith, length-append (uses_of book h) (u ∷ [])))
+  used_at : (h : ℕ) → h < 65536 → All (IsUsed book.styles) (uses_of book h)
+  used_at h within = All-get_or (All (IsUsed book.styles)) book.uses h [] (omega (arith, in_order.use_places)) in_order.used
+
+  pub use_becomes : (h : ℕ) (u : Use) → h < 65536 → IsUsed book.styles u → Becomes book (with_use book h u) (λ k. eqb k h) 0 0 1 0 0
+  use_becomes h u within there =
+      with_uses h 1 0 (uses_of book h ++ u ∷ []) within (All-push (IsUsed book.styles) (uses_of book h) u (used_at h within) there)
+      (omega (arith, length-append (uses_of book h) (u ∷ [])))
 
   pub unuse_becomes : (h : ℕ) (u : Use) → h < 65536 → has_use book h u ≡ true → Becomes book (without_use book h u) (λ k. eqb k h) 0 0 0 0 1
   unuse_becomes h u within set =
-      with_uses h 0 1 (drop_by (is_use u) (uses_of book h)) within (omega (arith, length-drop_by (is_use u) (uses_of book h) set))
+      with_uses h 0 1 (drop_by (is_use u) (uses_of book h)) within (All-drop_by (IsUsed book.styles) (is_use u) (uses_of book h) (used_at h within))
+      (omega (arith, length-drop_by (is_use u) (uses_of book h) set))
 
 -- What an object had is gone, and who had nothing has nothing.
 cleared : {A : Type 0} (lists : List (List A)) (h : ℕ) → slice_index_or (slice_set lists h []) h [] ≡ []
@@ -167,4 +173,4 @@ all_forgets (h ∷ handles) book =
       ];
     } where
       locals_and_uses : IsBook book → IsBook (forgotten book h)
-      locals_and_uses o = uses_keep (record book { locals = slice_set book.locals h [] }) (locals_keep book o h [] (All-nil IsEntry)) h []
+      locals_and_uses o = uses_keep (record book { locals = slice_set book.locals h [] }) (locals_keep book o h [] (All-nil IsEntry)) h [] (All-nil (IsUsed book.styles))

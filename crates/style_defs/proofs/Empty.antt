@@ -7,7 +7,7 @@ use Rattle.std.proofs.lemmas.List.Folds.{sum_by-replicate}
 use Rattle.style_defs.specs.declared.Entry.{Entry}
 use Rattle.style_defs.specs.declared.Use.{Use}
 use Rattle.style_defs.specs.Book.{empty_book, no_lists, entries_in, uses_in}
-use Rattle.style_defs.specs.InOrder.{IsBook, IsBare, IsEntry, IsStyle}
+use Rattle.style_defs.specs.InOrder.{IsBook, IsBare, IsEntry, IsStyle, IsUsed}
 
 module _ (A : Type 0) where
   get-empty : (n h : ℕ) → get_or {A = List A} (replicate n []) h [] ≡ []
@@ -32,7 +32,7 @@ module _ (A : Type 0) where
   none_in = sum_by-replicate (λ (xs : List A). length xs) 65536 []
 
 pub empty_in_order : IsBook empty_book
-empty_in_order = record { ordered = refl; settings = All-nil IsStyle; locals = all_of_none Entry (All IsEntry) (All-nil IsEntry); local_places = long Entry; use_places = long Use }
+empty_in_order = record { ordered = refl; settings = All-nil IsStyle; locals = all_of_none Entry (All IsEntry) (All-nil IsEntry); used = all_of_none Use (All (IsUsed [])) (All-nil (IsUsed [])); local_places = long Entry; use_places = long Use }
 
 pub empty_bare : (h : ℕ) → IsBare empty_book h
 empty_bare h = record { locals = none_at Entry h; uses = none_at Use h }

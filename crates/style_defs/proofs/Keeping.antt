@@ -11,7 +11,7 @@ use Rattle.style_defs.specs.declared.Use.{Use}
 use Rattle.style_defs.specs.Book.{Book, inserted, with_settings}
 use Rattle.style_defs.specs.Cascade.{Style, is_numbered, has_style}
 use Rattle.style_defs.specs.Firsts.{put_by, drop_by}
-use Rattle.style_defs.specs.InOrder.{IsBook, IsSetting, IsEntry, IsStyle, comes_before, are_ordered}
+use Rattle.style_defs.specs.InOrder.{IsBook, IsSetting, IsEntry, IsStyle, IsUsed, comes_before, are_ordered}
 
 module _ {A : Type 0} (P : A → Type 0) (test : A → Bool) where
   pub All-put_by : (x : A) (xs : List A) → P x → All P xs → All P (put_by test x xs)
@@ -59,7 +59,18 @@ ordered-inserted new (style ∷ styles) none ordered = elim (cases_Bool (nat_lt 
       rw isnt (grind (arith, nat_tests, none, ordered, isnt, rest, behind))
 ]
 
+-- a style that is there stays with one more
+has-inserted : (new : Style) (number : ℕ) (styles : List Style) → has_style styles number ≡ true → has_style (inserted new styles) number ≡ true
+has-inserted new number [] there = cc
+has-inserted new number (style ∷ styles) there =
+    let rest = has-inserted new number styles in grind (arith, nat_tests, there, rest)
+
 module _ (number : ℕ) (f : List Setting → List Setting) where
+  has-changed : (other : ℕ) (styles : List Style) → has_style (map (with_settings number f) styles) other ≡ has_style styles other
+  has-changed other [] = refl
+  has-changed other (style ∷ styles) =
+      let rest = has-changed other styles in grind (arith, nat_tests, rest)
+
   changed_behind : (first : Style) (styles : List Style) → list_all (comes_before first) (map (with_settings number f) styles) ≡ list_all (comes_before first) styles
   changed_behind first [] = refl
   changed_behind first (style ∷ styles) = elim (cases_Bool (is_numbered number style)) [
@@ -86,12 +97,18 @@ module _ (number : ℕ) (f : List Setting → List Setting) where
         (All-weaker (λ (style : Style). All P style.settings) (λ (style : Style). All P (with_settings number f style).settings) (λ style fits. one_changed style (is_numbered number style) fits) styles all)
 
 module _ (book : Book) (in_order : IsBook book) where
+  -- the styles that are used are there where all styles stay
+  still_used : (styles : List Style) → ((number : ℕ) → has_style book.styles number ≡ true → has_style styles number ≡ true) → All (All (IsUsed styles)) book.uses
+  still_used styles stay =
+      All-weaker (All (IsUsed book.styles)) (All (IsUsed styles)) (λ us all. All-weaker (IsUsed book.styles) (IsUsed styles) (λ u is. stay u.style is) us all) book.uses in_order.used
+
   -- one style more
   pub style_keeps : (number : ℕ) → has_style book.styles number ≡ false → IsBook (record book { styles = inserted (record { number = number; settings = [] }) book.styles })
   style_keeps number none = record {
     ordered = ordered-inserted (record { number = number; settings = [] }) book.styles none in_order.ordered;
     settings = All-inserted IsStyle (record { number = number; settings = [] }) book.styles (All-nil IsSetting) in_order.settings;
     locals = in_order.locals;
+    used = still_used _ (λ n is. has-inserted (record { number = number; settings = [] }) n book.styles is);
     local_places = in_order.local_places;
     use_places = in_order.use_places;
   }
@@ -102,6 +119,7 @@ module _ (book : Book) (in_order : IsBook book) where
     ordered = ordered-changed number f book.styles ∙ in_order.ordered;
     settings = All-changed number f IsSetting keeps book.styles in_order.settings;
     locals = in_order.locals;
+    used = still_used _ (λ n is. has-changed number f n book.styles ∙ is);
     local_places = in_order.local_places;
     use_places = in_order.use_places;
   }
@@ -112,15 +130,17 @@ module _ (book : Book) (in_order : IsBook book) where
     ordered = in_order.ordered;
     settings = in_order.settings;
     locals = All-set (All IsEntry) book.locals h entries all in_order.locals;
+    used = in_order.used;
     local_places = length-set book.locals h entries ∙ in_order.local_places;
     use_places = in_order.use_places;
   }
 
-  pub uses_keep : (h : ℕ) (uses : List Use) → IsBook (record book { uses = slice_set book.uses h uses })
-  uses_keep h uses = record {
+  pub uses_keep : (h : ℕ) (uses : List Use) → All (IsUsed book.styles) uses → IsBook (record book { uses = slice_set book.uses h uses })
+  uses_keep h uses all = record {
     ordered = in_order.ordered;
     settings = in_order.settings;
     locals = in_order.locals;
+    used = All-set (All (IsUsed book.styles)) book.uses h uses all in_order.used;
     local_places = in_order.local_places;
     use_places = length-set book.uses h uses ∙ in_order.use_places;
   }

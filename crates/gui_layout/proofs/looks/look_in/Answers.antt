@@ -58,3 +58,6 @@ returns-clause-shows c =
       image = image i;
     }))
     ∙ sym (ap (option_map (look_of scene)) (object_found scene c.args.h.0 (shown_row row) c.requires.row))
+
+pub returns-clause-scrollbar : goal.returns-clause-scrollbar
+returns-clause-scrollbar c = c.values-2.ensures.values

@@ -1,6 +1,6 @@
 use Rattle.std.proofs.Common.{◌≡◌, sym, subst, IfSome}
 use Rattle.gui_pool.specs.Table.{value_at, value_replaced}
-use Rattle.scene_defs.specs.Row.{row_after}
+use Rattle.scene_defs.specs.Deeds.{row_after}
 use Rattle.gui_rows.specs.Rows.{RowSet}
 use Rattle.gui_rows.specs.KeptRows.{rows_in}
 use Rattle.gui_rows.proofs.Keeping.{sets, set_kept}

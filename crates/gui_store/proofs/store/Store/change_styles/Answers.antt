@@ -1,7 +1,7 @@
 use Rattle.gui_store.proofs.Common.{◌≡◌, refl, arith, None, Unknown, parts_of}
 use Rattle.gui_store.proofs.Edits.{named_test, unnamed, restyled}
 use Rattle.gui_store.proofs.Kept.{Left, there-is, refused}
-use Rattle.scene_defs.specs.Styling.{styling_of}
+use Rattle.scene_defs.specs.Deeds.{styling_of}
 use Rattle.gui_store.proofs.store.Store.change_styles.Goals as goal
 use Rattle.gui_store.proofs.store.Store.change_styles.Goals.{After-restyle, in_default-via-in-Some+else-not-has, in_default-via-in_default}
 

@@ -1,13 +1,13 @@
 use denote.Ref.{Bor}
 use Rattle.std.proofs.Common.{Result}
-use Rattle.gui_store.proofs.Common.{◌≡◌, ◌<◌, ◌≤◌, ◌+◌, ◌∙◌, sym, ap, ℕ, List, true, false, Some, Ok, Err, OnOk, OnErr, option_map, arith, refl, Answer, Unknown, WrongKind, Full, Texts, Row, RowSet, shown_row, row_shown, row_in, chunks_at, has, Parts, AreKept, Handle, parts_of}
+use Rattle.gui_store.proofs.Common.{◌≡◌, ◌<◌, ◌≤◌, ◌+◌, ◌∙◌, sym, ap, ℕ, List, true, Some, Ok, Err, OnOk, OnErr, option_map, arith, refl, Answer, Unknown, WrongKind, Full, Texts, Row, RowSet, shown_row, row_shown, row_in, chunks_at, has, Parts, AreKept, Handle, parts_of}
 use Rattle.std.specs.Prelude.{IsErr, ◌↔◌}
 use Rattle.gui_pool.specs.declared.chains.NoChunks.{NoChunks}
 use Rattle.gui_pool.specs.Texts.{need_of}
 use Rattle.gui_rows.specs.Rows.{with_text}
 use Rattle.scene_defs.specs.declared.Change.TheVariants as change
 use Rattle.scene_defs.specs.declared.Feature.TheVariants.{Text}
-use Rattle.scene_defs.specs.Ranges.{is_in_range}
+use Rattle.scene_defs.specs.Deeds.{is_in_range}
 use Rattle.scene_defs.specs.Row.{has_feature}
 use Rattle.scene_defs.specs.Valid.{IsChange}
 use Rattle.gui_store.proofs.Edits.{set_of, text-absent, text-kind, text-full, text-done}

@@ -17,5 +17,5 @@ opened c =
 pub invariant_of-result : goal.invariant_of-result
 invariant_of-result c = record { kept = (opened (goal.at.invariant_of-result c).After-insert_new-3).0 }
 
-pub returns : goal.returns
-returns c = (opened (goal.at.returns c).After-insert_new-3).1
+pub returns-clause-scene : goal.returns-clause-scene
+returns-clause-scene c = (opened (goal.at.returns-clause-scene c).After-insert_new-3).1

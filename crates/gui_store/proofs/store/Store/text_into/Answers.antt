@@ -1,5 +1,5 @@
 use Rattle.gui_store.proofs.Common.{◌≡◌, ◌∙◌, sym, ap, subst, true, Some, option_map, KeptRow, kept_in, parts_of}
-use Rattle.scene_defs.specs.Change.{text_of}
+use Rattle.scene_defs.specs.Edits.{text_of}
 use Rattle.scene_defs.specs.Texts.{is_text}
 use Rattle.gui_store.proofs.Kept.{there-is, object-is, text_fits}
 use Rattle.gui_store.proofs.Edits.{found-kept}

@@ -1,13 +1,15 @@
 -- The headline from the reading.
-use Rattle.std.proofs.Common.{◌≡◌, ◌⊎◌, ap, subst, sym, rules, Option, Some, ℕ}
+use Rattle.std.proofs.Common.{◌≡◌, ◌<◌, ◌⊎◌, ap, subst, sym, rules, arith, refl, inl, inr, Option, Some, None, ℕ}
 use Rattle.std.proofs.KnownBytes.{Appends-nil}
 use Rattle.gui_base.specs.Limits.{Bounds}
 use Rattle.run_defs.specs.Machine.{Machine, first_machine}
 use Rattle.gui_edge.specs.Causes.{Rose}
-use Rattle.gui_edge.specs.Panel.{PanelState, Opens}
+use Rattle.gui_edge.specs.Panel.{PanelState, Opens, StaysClosed}
+use Rattle.gui_edge.specs.Sink.{SinkState}
+use Rattle.gui_edge.specs.Source.{SourceState}
 use Rattle.gui_edge.proofs.Telling.{keeps_telling-some}
 use Rattle.scene_run.specs.Effects.{SinceOpening, WriteFailed}
-use Rattle.scene_run.specs.Headline.{Outside, RunsAs, Headline, IfUnstarted}
+use Rattle.scene_run.specs.Headline.{Outside, outside, RunsAs, Headline, IfUnstarted}
 use Rattle.scene_run.specs.Top.{RunsScene}
 use Rattle.scene_run.specs.declared.status.Status.{Status}
 use Rattle.scene_run.specs.declared.status.Status.TheVariants.{Usage, ReadFault, WriteFault, PanelFault, NoMemory}
@@ -27,6 +29,56 @@ headline_by : (limits : Bounds) (old new : Outside) (status : Status) → RunsAs
 headline_by limits old new PanelFault h = tt
 headline_by limits old new NoMemory h = tt
 headline_by limits old new status h = h
+
+-- a panel that is not asked stays closed
+pub not_asked : (p : PanelState) → p.limit ≡ 0 → StaysClosed p p
+not_asked p closed = record { is = ap (λ (n : ℕ). record p { limit = n }) closed; flush_faults = omega arith }
+
+-- the words are at fault
+pub runs_usage : (words : Option Bounds) (old : Outside) → words ≡ None → old.output.panel.limit ≡ 0 → RunsScene words old old Usage
+runs_usage words old none closed = record {
+  usage = λ e. none;
+  no_limits = λ e. inl refl;
+  headline = rw none tt;
+  unread = refl;
+  unwritten = refl;
+  unsent = not_asked old.output.panel closed;
+  unopened = λ e. refl;
+  read_fault = λ e. cc;
+  write_fault = λ e. cc;
+  panel_fault = λ e. cc;
+}
+
+-- memory ran out before a byte was read
+pub runs_no_memory : (words : Option Bounds) (source : SourceState) (log : SinkState) (old new : PanelState) → StaysClosed old new → RunsScene words (outside source log old) (outside source log new) NoMemory
+runs_no_memory words source log old new closed = record {
+  usage = λ e. cc;
+  no_limits = λ e. inr refl;
+  headline = tt;
+  unread = refl;
+  unwritten = refl;
+  unsent = closed;
+  unopened = λ e. cc;
+  read_fault = λ e. cc;
+  write_fault = λ e. cc;
+  panel_fault = λ e. cc;
+}
+
+-- the panel could not be opened
+pub runs_panel_fault : (words : Option Bounds) (limits : Bounds) (source : SourceState) (log : SinkState) (old new : PanelState) → Some limits ≡ words → StaysClosed old new → old.flush_faults < new.flush_faults →
+    RunsScene words (outside source log old) (outside source log new) PanelFault
+runs_panel_fault words limits source log old new some closed rose = record {
+  usage = λ e. cc;
+  no_limits = λ e. cc;
+  headline = tt;
+  unread = refl;
+  unwritten = refl;
+  unsent = closed;
+  unopened = λ e. cc;
+  read_fault = λ e. cc;
+  write_fault = λ e. cc;
+  panel_fault = λ e. rose;
+}
 
 -- a run that was started did not end before
 unless_started : (status : Status) (P : Type 0) → IfUnstarted status ⊥ → IfUnstarted status P

@@ -64,6 +64,7 @@ pub record CompletesMade (k : ℕ) (first : Machine) (old new : Output) (status 
   pub status_is : status
       ≡ (if nat_lt 0 (refused_count (told_done first (made_says k first.scene.limits))) then Noted else Done)
 
+-- the script that is read, or the made one where the words ask for it
 abbrev pub Completes : Option ℕ → Machine → Option (List ℕ) → Outside → Outside → Status → Type 0
 Completes None first None old new status = ⊤
 Completes None first (Some bytes) old new status = CompletesScript first bytes old new status

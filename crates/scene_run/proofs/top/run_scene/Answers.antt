@@ -3,7 +3,7 @@ use Rattle.gui_base.specs.Bounded.{bounds_of}
 use Rattle.gui_core.specs.Machines.{machine_of}
 use Rattle.scene_run.specs.Effects.{output}
 use Rattle.scene_run.specs.Headline.{outside, MadeEnded}
-use Rattle.scene_run.proofs.Headlines.{since_opening, fault_since, runs_started}
+use Rattle.scene_run.proofs.Headlines.{since_opening, fault_since, not_asked, runs_usage, runs_no_memory, runs_panel_fault, runs_started}
 use Rattle.scene_run.proofs.top.run_scene.Given.{Over}
 use Rattle.scene_run.proofs.top.run_scene.Goals as goal
 use Rattle.scene_run.proofs.top.run_scene.Goals.{After-run_made}
@@ -32,3 +32,24 @@ returns-in-Ok-open-clause-runs g c =
     c.run_made.result (ap (option_map bounds_of) (sym c.in-Ok-Some.field-0-is) ∙ c.in-Ok-Some.ensures) c.in-Ok.ensures.machine (rw c.in-Some.is (record { unread = refl; ended = made_ended g c })) c.run_made.ensures.started
     (λ e. absurd (rw e at (made_ended g c)))
     (λ e. fault_since closed (g.P.Panel.state c.open-2.new.self) _ _ _ c.in-Ok-open.ensures _ _ (c.run_made.ensures.write_fault e))
+
+pub returns-in-Ok-None-clause-runs : goal.returns-in-Ok-None-clause-runs
+returns-in-Ok-None-clause-runs g c = runs_usage _ (outside (g.S.Source.state c.args.source.now) (g.L.Sink.state c.args.log.now) (g.P.Panel.state c.args.panel.now))
+    (sym (ap (option_map bounds_of) (sym c.in-Ok-None.field-0-is) ∙ c.in-Ok-None.ensures)) c.requires
+
+pub returns-in-Err-clause-runs : goal.returns-in-Err-clause-runs
+returns-in-Err-clause-runs g c = runs_no_memory _ (g.S.Source.state c.args.source.now) (g.L.Sink.state c.args.log.now) _ _ (not_asked (g.P.Panel.state c.args.panel.now) c.requires)
+
+pub returns-in-Err-open-clause-runs : goal.returns-in-Err-open-clause-runs
+returns-in-Err-open-clause-runs g c = runs_no_memory _ (g.S.Source.state c.args.source.now) (g.L.Sink.state c.args.log.now) _ _ (not_asked (g.P.Panel.state c.args.panel.now) c.requires)
+
+pub returns-in-Err-Failed-clause-runs : goal.returns-in-Err-Failed-clause-runs
+returns-in-Err-Failed-clause-runs g c =
+    let opens = rw c.in-Err-Failed.field-0-is at c.in-Err-Failed.ensures in
+    runs_panel_fault _ (bounds_of c.in-Ok-Some.limits) (g.S.Source.state c.args.source.now) (g.L.Sink.state c.args.log.now) (g.P.Panel.state c.args.panel.now) (g.P.Panel.state c.open-2.new.self)
+    (ap (option_map bounds_of) (sym c.in-Ok-Some.field-0-is) ∙ c.in-Ok-Some.ensures) opens.0 opens.1
+
+pub returns-clause-runs : goal.returns-clause-runs
+returns-clause-runs g c =
+    let opens = rw c.in-Err-NoMemory.field-0-is at c.in-Err-NoMemory.ensures in
+    runs_no_memory _ (g.S.Source.state c.args.source.now) (g.L.Sink.state c.args.log.now) (g.P.Panel.state c.args.panel.now) (g.P.Panel.state c.open-2.new.self) opens.0

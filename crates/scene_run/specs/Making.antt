@@ -1,7 +1,7 @@
 -- What a run of the made script comes to. Its replies are counted, and the log gets one line in the place of
 -- all of them.
-use Rattle.std.specs.Prelude.{◌≡◌, ℕ, Bool, true, false, ◌||◌, nat_lt, ◌≤◌, ◌⊎◌, List, [], ◌++◌, length, Ok, None}
-use Rattle.std.specs.Prelude.{codes, decimal}
+use Rattle.std.specs.Prelude.{◌≡◌, ℕ, Bool, true, false, ◌||◌, nat_lt, ◌≤◌, ◌⊎◌, List, [], ◌++◌, length}
+use Rattle.std.specs.Prelude.{Ok, None, codes, decimal}
 use Rattle.std.specs.List.{count_by}
 use Rattle.std.specs.Io.KnownBytes.{Appends}
 use Rattle.run_defs.specs.declared.Line.TheVariants.{Frame}

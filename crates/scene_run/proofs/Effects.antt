@@ -1,17 +1,21 @@
 -- How effects go on, and what a line does before a write fails.
-use Rattle.std.proofs.Common.{ℕ, List, [], ◌++◌, arith, rules, refl, inl, append-nil, Option}
+use Rattle.std.proofs.Common.{◌≡◌, ℕ, List, [], ◌∷◌, ◌++◌, arith, rules, refl, inl, inr, append-nil, Option, Ok, Err}
 use Rattle.std.proofs.KnownBytes.{Appends-trans, Appends-nil}
 use Rattle.std.proofs.lemmas.Grind.{flat_map-append}
 use Rattle.std.proofs.lemmas.List.Elements.{filter_map-append}
 use Rattle.std.proofs.lemmas.List.Sums.{fold-append}
 use Rattle.scene_defs.specs.Scene.{Scene}
+use Rattle.run_defs.specs.declared.Line.TheVariants.{Blank, Frame, Make}
+use Rattle.run_defs.specs.declared.Outcome.{Outcome}
 use Rattle.run_defs.specs.declared.Reply.{Reply}
-use Rattle.run_defs.specs.Run.{Replies, Told, Replied, log_lines, done_scene, done_scenes, frame_file, last_done}
+use Rattle.run_defs.specs.Run.{Moment, Entry, Silent, Replies, Frames, entry, Told, Replied, log_lines, done_scene, done_scenes, frame_file, last_done}
+use Rattle.run_defs.specs.Script.{Said}
 use Rattle.run_defs.proofs.Runs.{fault_count-append}
 use Rattle.gui_edge.specs.Causes.{Rose}
 use Rattle.gui_edge.specs.Panel.{PanelState}
 use Rattle.gui_edge.specs.Sink.{SinkState, AppendsPrefix}
-use Rattle.scene_run.specs.Effects.{Output, output, Effects, Breaks}
+use Rattle.scene_run.specs.Effects.{Output, output, Effects, Breaks, BreakCause, WriteFailed}
+use Rattle.scene_run.specs.Making.{panel_alone}
 
 -- nothing is a prefix of anything
 pub AppendsPrefix-nothing : (a : Option (List ℕ)) (bytes : List ℕ) → AppendsPrefix a a bytes
@@ -37,6 +41,22 @@ breaks_reply a b p n lines reply prefix rose = record {
   one = omega arith;
   log = rw (append-nil (log_lines (Replied n lines reply))) prefix;
   frames = λ t. AppendsPrefix-nothing p.frames [];
+  shown = tt;
   faults = omega arith;
-  cause = inl rose;
+  cause = rose;
 }
+
+-- what failed at a line is a write
+pub break_cause : (a b : Output) (e : Entry) (last : List Outcome) → BreakCause a b e last → WriteFailed a b
+break_cause a b Silent last h = absurd h
+break_cause a b (Replies number lines reply) last h = inl h
+break_cause a b (Frames number frame scene) [] h = inr h.panel
+break_cause a b (Frames number frame scene) (outcome ∷ outcomes) h = inl h
+
+-- where nobody reads the log, only a frame can fail: one that could not be presented
+pub fails_at_frame : (mid : Output) (after : PanelState) (now : Moment) (said : Said) (last : List Outcome) → BreakCause mid (panel_alone after) (entry now said) last → (said ≡ Ok Frame) × (last ≡ [])
+fails_at_frame mid after now (Ok Blank) last h = absurd h
+fails_at_frame mid after now (Ok Frame) [] h = (refl, refl)
+fails_at_frame mid after now (Ok Frame) (outcome ∷ outcomes) h = absurd (omega arith)
+fails_at_frame mid after now (Ok (Make command)) last h = absurd (omega arith)
+fails_at_frame mid after now (Err fault) last h = absurd (omega arith)

@@ -1,6 +1,6 @@
 -- How a script was read so far, and how its reading ends.
 use Rattle.std.proofs.Common.{◌≡◌, sym, ℕ, ◌+◌, ◌-◌, ◌≤◌, ◌<◌, min, Bool, true, false, List, [], ◌∷◌, ◌++◌, length, length-append, length-take, take, append-nil, arith, rules, refl, Option}
-use Rattle.std.specs.Prelude.{Some, None, nat_lt, if◌then◌else◌}
+use Rattle.std.specs.Prelude.{Some, None, IfSome, nat_lt, if◌then◌else◌}
 use Rattle.std.proofs.KnownBytes.{Consumes-nil, Appends-nil, Consumes-trans, Consumes-kept}
 use Rattle.std.proofs.lemmas.Bool.Decides.{nat_tests}
 use Rattle.std.proofs.lemmas.List.{places, same_lists, take_all}
@@ -30,7 +30,7 @@ pub since_none : (p : PanelState) → SinceOpening p p
 since_none p = search (rules, Appends-nil)
 
 -- no line is answered yet, and nothing came to the panel since it was `before`
-pub answered_none : (first : Machine) (before : PanelState) (now : Running) → now.moment ≡ first_moment first → now.noted ≡ false → now.pending.areas ≡ panel_of first.scene ∷ [] → HasSizes now.output.panel first.scene.limits →
+pub answered_none : (first : Machine) (before : PanelState) (now : Running) → now.moment ≡ first_moment first → IfSome now.noted (λ m. m ≡ false) → now.pending.areas ≡ panel_of first.scene ∷ [] → HasSizes now.output.panel first.scene.limits →
     SinceOpening before now.output.panel → Answered first (output now.output.log before) now []
 answered_none first before now is noted whole sizes since =
     let account = accounted_start first before now.output.panel now.pending whole since in record {
@@ -95,12 +95,12 @@ module _ (first : Machine) (old : Outside) (mid source : SourceState) (a : Readi
     source_done = rw (append-nil h.taken) at (Consumes-trans old.source.left mid.left source.left h.taken [] h.source_is consumes)
 
     -- the script was answered to its end
-    pub runs_whole : (b : Running) → Ends a b → Runs first old (at source b.output) (if b.noted then Noted else Done)
-    runs_whole b ends =
+    pub runs_whole : (b : Running) (noted : Bool) → Ends a b → b.noted ≡ Some noted → Runs first old (at source b.output) (if noted then Noted else Done)
+    runs_whole b noted ends is =
         let whole = ends.from first old.output h.taken h.read in record {
           taken = h.taken;
           source = source_done;
-          ended = ended_noting first old (at source b.output) h.taken b.noted (record { end = end; small = omega (arith, h.many); answers = whole.answers; notes_is = sym whole.noted_is });
+          ended = ended_noting first old (at source b.output) h.taken noted (record { end = end; small = omega (arith, h.many); answers = whole.answers; notes_is = sym (rw is at whole.noted_is) });
         }
 
     -- a write failed at the last line

@@ -1,15 +1,18 @@
 -- The headline from the reading.
-use Rattle.std.proofs.Common.{◌≡◌, ◌⊎◌, ap, subst, sym, rules, Option, Some, ℕ}
+use Rattle.std.proofs.Common.{◌≡◌, ◌<◌, ◌⊎◌, ap, subst, sym, rules, arith, refl, inl, inr, Option, Some, None, ℕ}
 use Rattle.std.proofs.KnownBytes.{Appends-nil}
 use Rattle.gui_base.specs.Limits.{Bounds}
 use Rattle.run_defs.specs.Machine.{Machine, first_machine}
 use Rattle.gui_edge.specs.Causes.{Rose}
-use Rattle.gui_edge.specs.Panel.{PanelState, Opens}
+use Rattle.gui_edge.specs.Panel.{PanelState, Opens, StaysClosed}
+use Rattle.gui_edge.specs.Sink.{SinkState}
+use Rattle.gui_edge.specs.Source.{SourceState}
 use Rattle.gui_edge.proofs.Telling.{keeps_telling-some}
-use Rattle.scene_run.specs.Effects.{SinceOpening}
-use Rattle.scene_run.specs.Headline.{Outside, RunsAs, Headline}
+use Rattle.scene_run.specs.Effects.{SinceOpening, WriteFailed}
+use Rattle.scene_run.specs.Headline.{Outside, outside, RunsAs, Headline, IfUnstarted}
+use Rattle.scene_run.specs.Top.{RunsScene}
 use Rattle.scene_run.specs.declared.status.Status.{Status}
-use Rattle.scene_run.specs.declared.status.Status.TheVariants.{PanelFault, NoMemory}
+use Rattle.scene_run.specs.declared.status.Status.TheVariants.{Usage, ReadFault, WriteFault, PanelFault, NoMemory}
 
 -- opening a panel answers no line
 pub since_opening : (old new : PanelState) (width height limit : ℕ) → Opens old new width height limit → SinceOpening old new
@@ -27,5 +30,75 @@ headline_by limits old new PanelFault h = tt
 headline_by limits old new NoMemory h = tt
 headline_by limits old new status h = h
 
-pub headline_given : (words : Option Bounds) (limits : Bounds) (first : Machine) (old new : Outside) (status : Status) → Some limits ≡ words → first ≡ first_machine limits → RunsAs limits.make first old new status → Headline words old new status
-headline_given words limits first old new status e f runs = rw (← e) (headline_by limits old new status (rw f at runs))
+-- a panel that is not asked stays closed
+pub not_asked : (p : PanelState) → p.limit ≡ 0 → StaysClosed p p
+not_asked p closed = record { is = ap (λ (n : ℕ). record p { limit = n }) closed; flush_faults = omega arith }
+
+-- the words are at fault
+pub runs_usage : (words : Option Bounds) (old : Outside) → words ≡ None → old.output.panel.limit ≡ 0 → RunsScene words old old Usage
+runs_usage words old none closed = record {
+  usage = λ e. none;
+  no_limits = λ e. inl refl;
+  headline = rw none tt;
+  unread = refl;
+  unwritten = refl;
+  unsent = not_asked old.output.panel closed;
+  unopened = λ e. refl;
+  read_fault = λ e. cc;
+  write_fault = λ e. cc;
+  panel_fault = λ e. cc;
+}
+
+-- memory ran out before a byte was read
+pub runs_no_memory : (words : Option Bounds) (source : SourceState) (log : SinkState) (old new : PanelState) → StaysClosed old new → RunsScene words (outside source log old) (outside source log new) NoMemory
+runs_no_memory words source log old new closed = record {
+  usage = λ e. cc;
+  no_limits = λ e. inr refl;
+  headline = tt;
+  unread = refl;
+  unwritten = refl;
+  unsent = closed;
+  unopened = λ e. cc;
+  read_fault = λ e. cc;
+  write_fault = λ e. cc;
+  panel_fault = λ e. cc;
+}
+
+-- the panel could not be opened
+pub runs_panel_fault : (words : Option Bounds) (limits : Bounds) (source : SourceState) (log : SinkState) (old new : PanelState) → Some limits ≡ words → StaysClosed old new → old.flush_faults < new.flush_faults →
+    RunsScene words (outside source log old) (outside source log new) PanelFault
+runs_panel_fault words limits source log old new some closed rose = record {
+  usage = λ e. cc;
+  no_limits = λ e. cc;
+  headline = tt;
+  unread = refl;
+  unwritten = refl;
+  unsent = closed;
+  unopened = λ e. cc;
+  read_fault = λ e. cc;
+  write_fault = λ e. cc;
+  panel_fault = λ e. rose;
+}
+
+-- a run that was started did not end before
+unless_started : (status : Status) (P : Type 0) → IfUnstarted status ⊥ → IfUnstarted status P
+unless_started Usage P h = absurd h
+unless_started PanelFault P h = absurd h
+unless_started NoMemory P h = absurd h
+unless_started status P h = tt
+
+-- the script was answered
+pub runs_started : (words : Option Bounds) (limits : Bounds) (first : Machine) (old new : Outside) (status : Status) → Some limits ≡ words → first ≡ first_machine limits → RunsAs limits.make first old new status → IfUnstarted status ⊥ →
+    (status ≡ ReadFault → Rose old.source.faults new.source.faults) → (status ≡ WriteFault → WriteFailed old.output new.output) → RunsScene words old new status
+runs_started words limits first old new status some begins runs started read_fault write_fault = record {
+  usage = λ e. absurd (rw e at started);
+  no_limits = λ e. cc;
+  headline = rw (← some) (headline_by limits old new status (rw begins at runs));
+  unread = unless_started status _ started;
+  unwritten = unless_started status _ started;
+  unsent = unless_started status _ started;
+  unopened = λ e. absurd (rw e at started);
+  read_fault = read_fault;
+  write_fault = write_fault;
+  panel_fault = λ e. absurd (rw e at started);
+}

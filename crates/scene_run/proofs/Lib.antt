@@ -1,4 +1,5 @@
 pub mod Bytes
+pub mod Complete
 pub mod Counting
 pub mod Effects
 pub mod Going

@@ -15,7 +15,7 @@ use Rattle.scene_run.specs.declared.made.Making.{Making}
 abbrev pub making : Making → PanelState → Running
 making made panel = record {
   moment = moment (machine_of made.gui) (made.lines + 1) (made.frames + made.faults + 1);
-  noted = made.noted;
+  noted = None;
   output = panel_alone panel;
   pending = pending_in made.gui;
 }

@@ -6,7 +6,8 @@ use Rattle.scene_defs.specs.Scene.{Scene}
 use Rattle.run_defs.specs.declared.Outcome.{Outcome}
 use Rattle.run_defs.specs.Script.{Said}
 use Rattle.run_defs.specs.Machine.{Machine}
-use Rattle.run_defs.specs.Run.{Entry, Told, moment, first_moment, entry, after_all, entries, told}
+use Rattle.run_defs.specs.Run.{Entry, Silent, Replies, Frames, Told, moment, first_moment, entry, after_all}
+use Rattle.run_defs.specs.Run.{entries, told}
 use Rattle.run_defs.specs.Run.{frame_count}
 use Rattle.run_defs.specs.Run.{log_text, frame_file, frame_files, file_asked, last_done, fault_count}
 use Rattle.gui_edge.specs.Causes.{Rose}
@@ -54,15 +55,43 @@ abbrev pub WriteFailed : Output → Output → Type 0
 WriteFailed old new =
     Rose old.log.faults new.log.faults ⊎ Rose old.panel.present_faults new.panel.present_faults
 
--- A write failed at a line: a prefix of its text for the log was written, and one of the picture it asks for.
+-- What came to the frames at a line where a write failed. Of a frame that could not be presented, and so has
+-- no outcome, it is a prefix of its picture; of one that has an outcome it is the whole picture where it was
+-- done, and nothing where it faulted.
+abbrev pub FrameWritten : Option (List ℕ) → Option (List ℕ) → Entry → List Outcome → Type 0
+FrameWritten old new e [] = AppendsPrefix old new (file_asked e)
+FrameWritten old new e (outcome ∷ outcomes) =
+    Appends old new (frame_files (told (e ∷ []) (outcome ∷ outcomes)))
+
+-- a frame could not be presented, and the log stays as it was
+pub record PresentFailed (old new : Output) : Type 0 where
+  pub log : new.log ≡ old.log
+  pub panel : Rose old.panel.present_faults new.panel.present_faults
+
+-- What failed at a line: the presenting of its frame, where that has no outcome, and else the log. Nothing
+-- fails at a line that asks for nothing.
+abbrev pub BreakCause : Output → Output → Entry → List Outcome → Type 0
+BreakCause old new Silent last = ⊥
+BreakCause old new (Replies number lines reply) last = Rose old.log.faults new.log.faults
+BreakCause old new (Frames number frame scene) [] = PresentFailed old new
+BreakCause old new (Frames number frame scene) (outcome ∷ outcomes) =
+    Rose old.log.faults new.log.faults
+
+-- A write failed at a line.
 pub record Breaks (old new : Output) (e : Entry) : Type 0 where
   -- the outcome of its frame, where it came to one
   pub last : List Outcome
   pub one : length last ≤ frame_count (e ∷ [])
+  -- the log grew by a prefix of what is told of it with this outcome
   pub log : AppendsPrefix old.log.held new.log.held (log_text (told (e ∷ []) last))
-  pub frames : IsSome old.panel.shows → AppendsPrefix old.panel.frames new.panel.frames (file_asked e)
+  -- the frames grew by its picture, which is whole where its frame was done
+  pub frames : IsSome old.panel.shows → FrameWritten old.panel.frames new.panel.frames e last
+  -- where its frame was done, the panel shows the picture
+  pub shown : IfSome (last_done None (told (e ∷ []) last)) (ShowsScene new.panel)
+  -- its frame faulted only where a flush failed
   pub faults : old.panel.flush_faults + fault_count (told (e ∷ []) last) ≤ new.panel.flush_faults
-  pub cause : WriteFailed old new
+  -- what failed
+  pub cause : BreakCause old new e last
 
 -- The panel was asked for no more pixels than these lines owe with these outcomes: in each window what its
 -- commands owe, and the whole panel for each time that the list can have overflowed; and for each flush that
@@ -94,8 +123,8 @@ pub record Halted (first : Machine) (old new : Output) (lines : List Said) : Typ
   pub answers : Answers first old between answered
   pub breaks : Breaks between new (entry (after_all (first_moment first) answered) said)
   pub slices : HasSizes new.panel first.scene.limits
-  -- no more was sent than all these lines owe
-  pub owed : SendsAsOwed first old.panel new.panel lines (answers.outcomes ++ breaks.last)
+  -- no more was sent than the lines before it and the line itself owe
+  pub owed : SendsAsOwed first old.panel new.panel (answered ++ said ∷ []) (answers.outcomes ++ breaks.last)
 
 -- A write failed at a line, before which the first areas were pending and after which the others are.
 pub record LineBreaks (machine : Machine) (number frame : ℕ) (said : Said) (old new : Output)

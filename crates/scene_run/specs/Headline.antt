@@ -81,9 +81,9 @@ RunsAs (Some k) first old new status = RunsMade k first old new status
 -- The headline: where the words have limits, and the machine and the panel could be opened, the script is
 -- read and answered so.
 abbrev pub Headline : Option Bounds → Outside → Outside → Status → Type 0
+Headline words old new PanelFault = ⊤
+Headline words old new NoMemory = ⊤
 Headline None old new status = ⊤
-Headline (Some limits) old new PanelFault = ⊤
-Headline (Some limits) old new NoMemory = ⊤
 Headline (Some limits) old new status = RunsAs limits.make (first_machine limits) old new status
 
 -- P where the run ended before a byte was read

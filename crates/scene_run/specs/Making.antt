@@ -1,14 +1,16 @@
 -- What a run of the made script comes to. Its replies are counted, and the log gets one line in the place of
 -- all of them.
-use Rattle.std.specs.Prelude.{◌≡◌, ℕ, Bool, true, false, ◌≤◌, ◌⊎◌, List, ◌++◌, length, None, codes, decimal}
+use Rattle.std.specs.Prelude.{◌≡◌, ℕ, Bool, true, false, ◌||◌, nat_lt, ◌≤◌, ◌⊎◌, List, [], ◌++◌, length}
+use Rattle.std.specs.Prelude.{Ok, None, codes, decimal}
 use Rattle.std.specs.List.{count_by}
 use Rattle.std.specs.Io.KnownBytes.{Appends}
+use Rattle.run_defs.specs.declared.Line.TheVariants.{Frame}
 use Rattle.run_defs.specs.declared.Outcome.{Outcome}
 use Rattle.run_defs.specs.declared.Reply.{Reply}
 use Rattle.run_defs.specs.declared.Reply.TheVariants.{Ok as Fine, Refused}
 use Rattle.run_defs.specs.Machine.{Machine}
 use Rattle.run_defs.specs.Made.{made_says}
-use Rattle.run_defs.specs.Run.{Told, Replied, Framed, first_moment, after_all, entries, told, noted}
+use Rattle.run_defs.specs.Run.{Told, Replied, Framed, first_moment, after_all, entries, told}
 use Rattle.run_defs.specs.Run.{done_scenes, fault_count}
 use Rattle.run_defs.specs.Script.{Said}
 use Rattle.gui_edge.specs.Causes.{Rose}
@@ -30,6 +32,10 @@ is_refused (Framed number frame scene outcome) = false
 -- how many lines were refused
 abbrev pub refused_count : List Told → ℕ
 refused_count ts = count_by is_refused ts
+
+-- whether a line was refused or a frame faulted, by the numbers of both
+abbrev pub some_counted : List Told → Bool
+some_counted ts = nat_lt 0 (refused_count ts) || nat_lt 0 (fault_count ts)
 
 -- The summary.
 
@@ -57,20 +63,24 @@ abbrev pub panel_alone : PanelState → Output
 panel_alone panel = output unheard panel
 
 -- The lines of the made script were answered as those of a script that is read, but for the log, which grew
--- by the summary. `notes` tells whether a line was refused or a frame faulted.
+-- by the summary. `notes` tells whether the summary counts a refused line or a faulted frame.
 pub record AnswersMade (k : ℕ) (first : Machine) (old new : Output) (notes : Bool) : Type 0 where
   pub answers : Answers first (panel_alone old.panel) (panel_alone new.panel) (made_says k first.scene.limits)
   pub log : Appends old.log.held new.log.held
       (summary_of k first (made_says k first.scene.limits) answers.outcomes)
   pub log_faults : old.log.faults ≤ new.log.faults
-  pub notes_is : noted (told (entries (first_moment first) (made_says k first.scene.limits)) answers.outcomes)
-      ≡ notes
+  pub notes_is : some_counted (told (entries (first_moment first) (made_says k first.scene.limits))
+      answers.outcomes) ≡ notes
 
--- A frame could not be written: nothing came to the log.
+-- A frame could not be presented: nothing came to the log. The outcomes are those of the frames before it.
 pub record MadeHalted (k : ℕ) (first : Machine) (old new : Output) : Type 0 where
   pub halted : Halted first (panel_alone old.panel) (panel_alone new.panel)
       (made_says k first.scene.limits)
+  -- the line at which it ended is a frame, and has no outcome
+  pub at_frame : halted.said ≡ Ok Frame
+  pub left_out : halted.breaks.last ≡ []
   pub log : new.log ≡ old.log
+  pub cause : Rose old.panel.present_faults new.panel.present_faults
 
 -- The summary could not be written: the log grew by a prefix of it.
 pub record MadeUntold (k : ℕ) (first : Machine) (old new : Output) : Type 0 where

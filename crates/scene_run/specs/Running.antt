@@ -1,5 +1,6 @@
 -- A run under way.
-use Rattle.std.specs.Prelude.{◌≡◌, ℕ, Bool, ◌+◌, ◌^◌, ◌<◌, List, ◌++◌, length}
+use Rattle.std.specs.Prelude.{◌≡◌, ℕ, Bool, ◌+◌, ◌^◌, ◌<◌, List, ◌++◌, length, Some, IfSome}
+use Rattle.std.specs.declared.option.Option.{Option}
 use Rattle.std.specs.Io.KnownBytes.{Consumes}
 use Rattle.run_defs.specs.Machine.{Machine}
 use Rattle.run_defs.specs.Script.{Said, Whole, says, says_cut, max_script}
@@ -23,8 +24,8 @@ use Rattle.scene_run.specs.declared.runner.Runner.{Runner}
 -- how far a run has come, and what it writes to
 pub record Running : Type 0 where
   pub moment : Moment
-  -- whether a line was refused or a frame faulted
-  pub noted : Bool
+  -- whether a line or an action was refused or a frame faulted, where the run keeps that
+  pub noted : Option Bool
   pub output : Output
   -- the areas that are pending
   pub pending : Pending
@@ -32,7 +33,7 @@ pub record Running : Type 0 where
 abbrev pub running : Runner → SinkState → PanelState → Running
 running runner log panel = record {
   moment = moment (machine_of runner.gui) runner.number runner.frame;
-  noted = runner.noted;
+  noted = Some runner.noted;
   output = output log panel;
   pending = pending_in runner.gui;
 }
@@ -66,7 +67,8 @@ opening limits panel = record {
 pub record Answered (first : Machine) (start : Output) (now : Running) (lines : List Said) : Type 0 where
   pub answers : Answers first start now.output lines
   pub moment : now.moment ≡ after_all (first_moment first) lines
-  pub noted_is : now.noted ≡ noted (told (entries (first_moment first) lines) answers.outcomes)
+  pub noted_is : IfSome now.noted
+      (λ m. m ≡ noted (told (entries (first_moment first) lines) answers.outcomes))
   -- what was sent and what is pending is within what the lines owe
   pub accounted : IsRunAccounted first lines answers.outcomes (opening first.scene.limits start.panel)
       (standing_of now.output.panel now.pending)

@@ -1,7 +1,7 @@
 //! Runs the made script.
 ghost use Rattle.std.specs.Prelude.{◌≡◌, ◌⊎◌, ◌+◌, ◌≤◌, ◌<◌, ◌^◌, ◌∷◌, ◌++◌, [], ◌||◌, length, if◌then◌else◌};
 ghost use Rattle.std.specs.Io.KnownBytes.{Appends};
-ghost use Rattle.std.specs.Prelude.{OnOk, OnErr, ℕ, List, decimal, false};
+ghost use Rattle.std.specs.Prelude.{OnOk, OnErr, ℕ, List, decimal, nat_lt};
 ghost use Rattle.arrayvec.specs.ArrayVec.{array_vec_len};
 ghost use Rattle.gui_base.specs.Bounded.{bounds_of};
 ghost use Rattle.gui_core.specs.Machines.{machine_of, pending_in};
@@ -60,7 +60,7 @@ impl Sink for Unheard {
 }
 
 /// The machine, and what is counted of the lines so far: all, those that were refused, the frames that were
-/// done, and those that faulted; and whether a line or an action was refused or a frame faulted.
+/// done, and those that faulted.
 #[derive(Drop)]
 pub(crate) struct Making {
     pub(crate) gui: Gui,
@@ -68,14 +68,12 @@ pub(crate) struct Making {
     pub(crate) refused: u32,
     pub(crate) frames: u32,
     pub(crate) faults: u32,
-    pub(crate) noted: bool,
 }
 
 impl Making {
     /// Nothing is made yet.
     fn new(gui: Gui) -> Making
-        ensures { result
-            ≡ record { gui = gui; lines = 0; refused = 0; frames = 0; faults = 0; noted = false } }
+        ensures { result ≡ record { gui = gui; lines = 0; refused = 0; frames = 0; faults = 0 } }
     {
         Making {
             gui,
@@ -83,7 +81,6 @@ impl Making {
             refused: 0,
             frames: 0,
             faults: 0,
-            noted: false,
         }
     }
 
@@ -98,7 +95,6 @@ impl Making {
         ensures refused { self.new.refused ≡ self.old.refused + (if end.refused then 1 else 0) }
         ensures frames { self.new.frames ≡ self.old.frames + done_in end.outcome }
         ensures faults { self.new.faults ≡ self.old.faults + faults_in end.outcome }
-        ensures noted { self.new.noted ≡ (self.old.noted || end.noted) }
     {
         self.lines += 1;
         if end.refused {
@@ -109,7 +105,6 @@ impl Making {
             Some(Outcome::Done) => self.frames += 1,
             Some(Outcome::Fault) => self.faults += 1,
         }
-        self.noted = self.noted || end.noted;
     }
 
     /// Answers a line. Nobody reads its reply.
@@ -163,11 +158,12 @@ impl Making {
         text
     }
 
-    /// How the run ended, if its lines were answered.
+    /// How the run ended, if its lines were answered: by what was counted of them.
     fn status(&self) -> Status
-        ensures { result ≡ (if self.now.noted then Status.Noted else Status.Done) }
+        ensures { result ≡ (if nat_lt 0 self.now.refused || nat_lt 0 self.now.faults
+            then Status.Noted else Status.Done) }
     {
-        if self.noted {
+        if self.refused > 0 || self.faults > 0 {
             Status::Noted
         } else {
             Status::Done

@@ -1,9 +1,8 @@
 //! The top call.
-ghost use Rattle.std.specs.Prelude.{◌≡◌, ◌⊎◌, ◌<◌, None, map};
-ghost use Rattle.gui_edge.specs.Causes.{Rose};
-ghost use Rattle.gui_edge.specs.Panel.{StaysClosed};
+ghost use Rattle.std.specs.Prelude.{◌≡◌, map};
 ghost use Rattle.run_defs.specs.Words.{limits_of};
-ghost use Rattle.scene_run.specs.Headline.{Headline, outside, IfUnstarted};
+ghost use Rattle.scene_run.specs.Headline.{outside, IfUnstarted};
+ghost use Rattle.scene_run.specs.Top.{RunsScene};
 
 use crate::made::run_made;
 use crate::reading::read_script;
@@ -29,26 +28,15 @@ pub fn run_scene<S: Source, L: Sink, P: Panel>(
     panel: &mut P,
 ) -> Status
     requires { (P.state panel.old).limit ≡ 0 }
-    ensures usage { result ≡ Status.Usage → limits_of (map (λ w. w.now) words.now) ≡ None }
-    ensures no_limits { limits_of (map (λ w. w.now) words.now) ≡ None →
-        (result ≡ Status.Usage) ⊎ (result ≡ Status.NoMemory) }
-    ensures headline { Headline (limits_of (map (λ w. w.now) words.now))
+    // What is told of the source, the log and the panel.
+    ensures runs { RunsScene (limits_of (map (λ w. w.now) words.now))
         (outside (S.state source.old) (L.state log.old) (P.state panel.old))
         (outside (S.state source.new) (L.state log.new) (P.state panel.new)) result }
 
-    // Before a byte is read nothing is touched but the panel, which then stays closed.
+    // Where no byte is read, what was handed in stays as it is, and not only what is told of it.
     ensures unread { IfUnstarted result (source.new ≡ source.old) }
     ensures unwritten { IfUnstarted result (log.new ≡ log.old) }
-    ensures unsent { IfUnstarted result (StaysClosed (P.state panel.old) (P.state panel.new)) }
     ensures unopened { result ≡ Status.Usage → panel.new ≡ panel.old }
-
-    // A fault is answered only where the count of faults of the object that was handed in rose.
-    ensures read_fault { result ≡ Status.ReadFault →
-        Rose (S.state source.old).faults (S.state source.new).faults }
-    ensures write_fault { result ≡ Status.WriteFault → Rose (L.state log.old).faults (L.state log.new).faults
-        ⊎ Rose (P.state panel.old).present_faults (P.state panel.new).present_faults }
-    ensures panel_fault { result ≡ Status.PanelFault →
-        (P.state panel.old).flush_faults < (P.state panel.new).flush_faults }
 {
     let limits = match limits_of(alloc, words) {
         Ok(Some(limits)) => limits,

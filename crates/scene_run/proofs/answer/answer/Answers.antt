@@ -1,10 +1,5 @@
-use Rattle.std.proofs.Common.{refl, ℕ, List, [], ◌∷◌, append-nil, arith, inl, inr, Option, None}
-use Rattle.std.specs.Io.KnownBytes.{Appends}
-use Rattle.scene_defs.specs.Scene.{Scene}
-use Rattle.run_defs.specs.declared.Outcome.{Outcome}
-use Rattle.run_defs.specs.declared.Outcome.TheVariants.{Done, Fault}
-use Rattle.run_defs.specs.Run.{Framed, frame_line, frame_file, frame_files}
-use Rattle.gui_edge.specs.Sink.{AppendsPrefix}
+use Rattle.std.proofs.Common.{refl, [], ◌∷◌, append-nil, arith, None}
+use Rattle.run_defs.specs.Run.{frame_line}
 use Rattle.gui_edge.proofs.Prefixes.{on_err}
 use Rattle.gui_core.specs.Machines.{machine_of}
 use Rattle.gui_refresh.proofs.Owing.{adding_counts}
@@ -27,15 +22,12 @@ returns-in_err-outcome-in-Frame-clause-err g c = on_err c.from_residual-in_err-o
     one = omega arith;
     log = AppendsPrefix-nothing (g.L.Sink.state c.args.log.now).held [];
     frames = c.in_err-outcome-in-Frame.ensures.err.frames;
+    shown = tt;
     faults = omega (arith, c.in_err-outcome-in-Frame.ensures.err.faults);
-    cause = inr c.in_err-outcome-in-Frame.ensures.err.cause;
+    cause = record { log = refl; panel = c.in_err-outcome-in-Frame.ensures.err.cause };
   };
   counts = c.in_err-outcome-in-Frame.ensures.err_counts;
 }))
-
-framed_prefix : (a b : Option (List ℕ)) (n k : ℕ) (scene : Scene) (outcome : Outcome) → Appends a b (frame_files (Framed n k scene outcome ∷ [])) → AppendsPrefix a b (frame_file scene)
-framed_prefix a b n k scene Done h = record { prefix = frame_file scene; rest = []; whole = append-nil (frame_file scene); grows = rw (append-nil (frame_file scene)) at h }
-framed_prefix a b n k scene Fault h = record { prefix = []; rest = frame_file scene; whole = refl; grows = h }
 
 -- the log did not take the line of a frame whole
 pub returns-in_err-put-in-Frame-clause-err : goal.returns-in_err-put-in-Frame-clause-err
@@ -46,9 +38,10 @@ returns-in_err-put-in-Frame-clause-err g c = on_err c.from_residual-in_err-put-i
         last = outcome ∷ [];
         one = omega arith;
         log = rw (append-nil (frame_line c.args.number c.args.frame outcome), ← c.frame_text.ensures, ← c.as_slice.ensures.value) c.in_err-put-in-Frame.ensures.err;
-        frames = λ t. framed_prefix _ _ c.args.number c.args.frame _ outcome (shown.frames t);
+        frames = shown.frames;
+        shown = shown.shown;
         faults = shown.faults;
-        cause = inl c.in_err-put-in-Frame.ensures.cause.failed;
+        cause = c.in_err-put-in-Frame.ensures.cause.failed;
       };
       counts = c.in_ok-outcome-in-Frame.ensures.counts;
     }))

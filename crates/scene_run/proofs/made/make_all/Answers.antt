@@ -1,6 +1,7 @@
-use Rattle.std.proofs.Common.{[], inl, inr, refl}
+use Rattle.std.proofs.Common.{[], inl, inr}
 use Rattle.gui_core.specs.Machines.{machine_of}
-use Rattle.scene_run.proofs.MadeRuns.{halted_rose}
+use Rattle.scene_run.specs.Effects.{output}
+use Rattle.scene_run.proofs.MadeRuns.{made_halted, halted_rose}
 use Rattle.scene_run.proofs.made.make_all.Goals as goal
 
 pub returns-in-Ok-clause-runs : goal.returns-in-Ok-clause-runs
@@ -12,7 +13,9 @@ pub returns-in-Ok-clause-write_fault : goal.returns-in-Ok-clause-write_fault
 returns-in-Ok-clause-write_fault g c = λ e. inl (c.finish.ensures.write_fault e)
 
 pub returns-in-Err-clause-runs : goal.returns-in-Err-clause-runs
-returns-in-Err-clause-runs g c = λ start h. inl (record { halted = rw c.requires.script at (c.in-Err.ensures.err (machine_of c.args.run.now.gui) start [] h); log = refl })
+returns-in-Err-clause-runs g c = λ start h.
+    let first = machine_of c.args.run.now.gui in
+    inl (made_halted c.args.k first (output (g.L.Sink.state c.args.log.now) start) _ (rw c.requires.script at (c.in-Err.ensures.err first start [] h)))
 
 pub returns-in-Err-clause-write_fault : goal.returns-in-Err-clause-write_fault
 returns-in-Err-clause-write_fault g c = λ e.

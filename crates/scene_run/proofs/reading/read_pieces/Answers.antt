@@ -1,4 +1,4 @@
-use Rattle.std.proofs.Common.{◌≡◌, ◌≢◌, arith, ◌∙◌, ap, take, Bool, true, false, if◌then◌else◌}
+use Rattle.std.proofs.Common.{◌≡◌, ◌≢◌, arith, refl, ◌∙◌, ap, take, Bool, true, false, if◌then◌else◌}
 use Rattle.scene_run.specs.declared.status.Status.{Status}
 use Rattle.scene_run.specs.declared.status.Status.TheVariants.{Done, Noted, ReadFault}
 use Rattle.scene_run.specs.Headline.{IfUnstarted}
@@ -12,7 +12,7 @@ returns-in-Err-clause-runs g c = λ first start gone. runs_unread _ _ _ _ _ _ (c
 pub returns-in-Ok-finish-clause-runs : goal.returns-in-Ok-finish-clause-runs
 returns-in-Ok-finish-clause-runs g c = λ first start gone.
     let none = c.in-Ok.ensures.bytes in
-    rw c.status.ensures (runs_whole _ _ _ _ _ _ (c.loop.invariant.gone first start gone) (rw c.if-count-eq0.true at none.0) (none.1 c.if-count-eq0.true (omega arith)) _ c.in-Ok-finish.ensures.ok)
+    rw c.status.ensures (runs_whole _ _ _ _ _ _ (c.loop.invariant.gone first start gone) (rw c.if-count-eq0.true at none.0) (none.1 c.if-count-eq0.true (omega arith)) _ _ c.in-Ok-finish.ensures.ok refl)
 
 -- a run that came to its end was started, and does not end by a fault
 ended_well : (noted : Bool) (status : Status) → status ≡ (if noted then Noted else Done) → IfUnstarted status ⊥ × (status ≢ ReadFault)

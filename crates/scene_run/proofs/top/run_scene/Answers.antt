@@ -3,18 +3,20 @@ use Rattle.gui_base.specs.Bounded.{bounds_of}
 use Rattle.gui_core.specs.Machines.{machine_of}
 use Rattle.scene_run.specs.Effects.{output}
 use Rattle.scene_run.specs.Headline.{outside, MadeEnded}
-use Rattle.scene_run.proofs.Headlines.{since_opening, fault_since, headline_given}
+use Rattle.scene_run.proofs.Headlines.{since_opening, fault_since, not_asked, runs_usage, runs_no_memory, runs_panel_fault, runs_started}
 use Rattle.scene_run.proofs.top.run_scene.Given.{Over}
 use Rattle.scene_run.proofs.top.run_scene.Goals as goal
 use Rattle.scene_run.proofs.top.run_scene.Goals.{After-run_made}
 
-pub returns-in-None-clause-headline : goal.returns-in-None-clause-headline
-returns-in-None-clause-headline g c =
+pub returns-in-None-clause-runs : goal.returns-in-None-clause-runs
+returns-in-None-clause-runs g c =
     let closed = g.P.Panel.state c.args.panel.now in
-    headline_given _ (bounds_of c.in-Ok-Some.limits) (machine_of c.in-Ok.gui) (outside (g.S.Source.state c.args.source.now) (g.L.Sink.state c.args.log.now) closed)
-    (outside (g.S.Source.state c.read_script.new.source) (g.L.Sink.state c.read_script.new.log) (g.P.Panel.state c.read_script.new.panel))
+    let after = g.P.Panel.state c.read_script.new.panel in
+    runs_started _ (bounds_of c.in-Ok-Some.limits) (machine_of c.in-Ok.gui) (outside (g.S.Source.state c.args.source.now) (g.L.Sink.state c.args.log.now) closed)
+    (outside (g.S.Source.state c.read_script.new.source) (g.L.Sink.state c.read_script.new.log) after)
     c.read_script.result (ap (option_map bounds_of) (sym c.in-Ok-Some.field-0-is) ∙ c.in-Ok-Some.ensures) c.in-Ok.ensures.machine
-    (rw c.in-None.is (c.read_script.ensures.runs closed (since_opening closed (g.P.Panel.state c.open-2.new.self) _ _ _ c.in-Ok-open.ensures)))
+    (rw c.in-None.is (c.read_script.ensures.runs closed (since_opening closed (g.P.Panel.state c.open-2.new.self) _ _ _ c.in-Ok-open.ensures))) c.read_script.ensures.started c.read_script.ensures.read_fault
+    (λ e. fault_since closed (g.P.Panel.state c.open-2.new.self) _ _ _ c.in-Ok-open.ensures _ _ (c.read_script.ensures.write_fault e))
 
 module _ (g : Over) (c : After-run_made g) where
   made_ended : MadeEnded c.in-Some.k (machine_of c.in-Ok.gui) (output (g.L.Sink.state c.args.log.now) (g.P.Panel.state c.args.panel.now)) (output (g.L.Sink.state c.run_made.new.log) (g.P.Panel.state c.run_made.new.panel)) c.run_made.result
@@ -22,17 +24,32 @@ module _ (g : Over) (c : After-run_made g) where
       let closed = g.P.Panel.state c.args.panel.now in
       c.run_made.ensures.runs closed (since_opening closed (g.P.Panel.state c.open-2.new.self) _ _ _ c.in-Ok-open.ensures)
 
-pub returns-in-Ok-open-clause-headline : goal.returns-in-Ok-open-clause-headline
-returns-in-Ok-open-clause-headline g c =
-    headline_given _ (bounds_of c.in-Ok-Some.limits) (machine_of c.in-Ok.gui) (outside (g.S.Source.state c.args.source.now) (g.L.Sink.state c.args.log.now) (g.P.Panel.state c.args.panel.now))
+pub returns-in-Ok-open-clause-runs : goal.returns-in-Ok-open-clause-runs
+returns-in-Ok-open-clause-runs g c =
+    let closed = g.P.Panel.state c.args.panel.now in
+    runs_started _ (bounds_of c.in-Ok-Some.limits) (machine_of c.in-Ok.gui) (outside (g.S.Source.state c.args.source.now) (g.L.Sink.state c.args.log.now) closed)
     (outside (g.S.Source.state c.args.source.now) (g.L.Sink.state c.run_made.new.log) (g.P.Panel.state c.run_made.new.panel))
-    c.run_made.result (ap (option_map bounds_of) (sym c.in-Ok-Some.field-0-is) ∙ c.in-Ok-Some.ensures) c.in-Ok.ensures.machine (rw c.in-Some.is (record { unread = refl; ended = made_ended g c }))
+    c.run_made.result (ap (option_map bounds_of) (sym c.in-Ok-Some.field-0-is) ∙ c.in-Ok-Some.ensures) c.in-Ok.ensures.machine (rw c.in-Some.is (record { unread = refl; ended = made_ended g c })) c.run_made.ensures.started
+    (λ e. absurd (rw e at (made_ended g c)))
+    (λ e. fault_since closed (g.P.Panel.state c.open-2.new.self) _ _ _ c.in-Ok-open.ensures _ _ (c.run_made.ensures.write_fault e))
 
-pub returns-in-Ok-open-clause-read_fault : goal.returns-in-Ok-open-clause-read_fault
-returns-in-Ok-open-clause-read_fault g c = λ e. absurd (rw e at (made_ended g c))
+pub returns-in-Ok-None-clause-runs : goal.returns-in-Ok-None-clause-runs
+returns-in-Ok-None-clause-runs g c = runs_usage _ (outside (g.S.Source.state c.args.source.now) (g.L.Sink.state c.args.log.now) (g.P.Panel.state c.args.panel.now))
+    (sym (ap (option_map bounds_of) (sym c.in-Ok-None.field-0-is) ∙ c.in-Ok-None.ensures)) c.requires
 
-pub returns-in-None-clause-write_fault : goal.returns-in-None-clause-write_fault
-returns-in-None-clause-write_fault g c = λ e. fault_since _ (g.P.Panel.state c.open-2.new.self) _ _ _ c.in-Ok-open.ensures _ _ (c.read_script.ensures.write_fault e)
+pub returns-in-Err-clause-runs : goal.returns-in-Err-clause-runs
+returns-in-Err-clause-runs g c = runs_no_memory _ (g.S.Source.state c.args.source.now) (g.L.Sink.state c.args.log.now) _ _ (not_asked (g.P.Panel.state c.args.panel.now) c.requires)
 
-pub returns-in-Ok-open-clause-write_fault : goal.returns-in-Ok-open-clause-write_fault
-returns-in-Ok-open-clause-write_fault g c = λ e. fault_since _ (g.P.Panel.state c.open-2.new.self) _ _ _ c.in-Ok-open.ensures _ _ (c.run_made.ensures.write_fault e)
+pub returns-in-Err-open-clause-runs : goal.returns-in-Err-open-clause-runs
+returns-in-Err-open-clause-runs g c = runs_no_memory _ (g.S.Source.state c.args.source.now) (g.L.Sink.state c.args.log.now) _ _ (not_asked (g.P.Panel.state c.args.panel.now) c.requires)
+
+pub returns-in-Err-Failed-clause-runs : goal.returns-in-Err-Failed-clause-runs
+returns-in-Err-Failed-clause-runs g c =
+    let opens = rw c.in-Err-Failed.field-0-is at c.in-Err-Failed.ensures in
+    runs_panel_fault _ (bounds_of c.in-Ok-Some.limits) (g.S.Source.state c.args.source.now) (g.L.Sink.state c.args.log.now) (g.P.Panel.state c.args.panel.now) (g.P.Panel.state c.open-2.new.self)
+    (ap (option_map bounds_of) (sym c.in-Ok-Some.field-0-is) ∙ c.in-Ok-Some.ensures) opens.0 opens.1
+
+pub returns-clause-runs : goal.returns-clause-runs
+returns-clause-runs g c =
+    let opens = rw c.in-Err-NoMemory.field-0-is at c.in-Err-NoMemory.ensures in
+    runs_no_memory _ (g.S.Source.state c.args.source.now) (g.L.Sink.state c.args.log.now) (g.P.Panel.state c.args.panel.now) (g.P.Panel.state c.open-2.new.self) opens.0

@@ -20,7 +20,7 @@ returns-clause-ok g c =
     let e = c.in_ok-end.ensures in
     let n = c.count.ensures in
     let one = counts_one old.moment said outcome _ e.asked refl in
-    let on = goes_on_one old new said outcome c.in_ok-end.end.noted e.ok e.asked e.noted (ap machine_of n.gui ∙ e.machine) (omega (arith, n.lines)) (omega (arith, n.frames, n.faults, one.1.1)) n.noted
+    let on = goes_on_one old new said outcome c.in_ok-end.end.noted e.ok e.asked e.noted (ap machine_of n.gui ∙ e.machine) (omega (arith, n.lines)) (omega (arith, n.frames, n.faults, one.1.1)) refl
     e.sizes (rw n.gui e.agrees) (rw n.gui e.counts) in record {
       from = λ first start lines h.
           let us = told (entry old.moment said ∷ []) (option_to_list outcome) in

@@ -1,4 +1,4 @@
-use Rattle.std.proofs.Common.{ap, subst, ◌∙◌}
+use Rattle.std.proofs.Common.{ap, subst, ◌∙◌, Some}
 use Rattle.gui_edge.proofs.Prefixes.{on_err}
 use Rattle.gui_core.specs.Machines.{machine_of, pending_in}
 use Rattle.scene_run.specs.Effects.{output}
@@ -12,7 +12,7 @@ returns-clause-ok g c =
     let new = running c.go_on.new.self (g.L.Sink.state c.answer.new.log) (g.P.Panel.state c.answer.new.panel) in
     subst (GoesOn old new) c.in-Some.ensures.says
     (goes_on_one old new c.in-Some.said c.in_ok-end.end.outcome c.in_ok-end.end.noted c.in_ok-end.ensures.ok c.in_ok-end.ensures.asked c.in_ok-end.ensures.noted
-    (ap machine_of c.go_on.ensures.gui ∙ c.in_ok-end.ensures.machine) c.go_on.ensures.number c.go_on.ensures.frame c.go_on.ensures.noted c.in_ok-end.ensures.sizes
+    (ap machine_of c.go_on.ensures.gui ∙ c.in_ok-end.ensures.machine) c.go_on.ensures.number c.go_on.ensures.frame (ap Some c.go_on.ensures.noted) c.in_ok-end.ensures.sizes
     (rw c.go_on.ensures.gui c.in_ok-end.ensures.agrees) (rw c.go_on.ensures.gui c.in_ok-end.ensures.counts))
 
 pub returns-in_err-end-clause-err : goal.returns-in_err-end-clause-err

@@ -54,6 +54,12 @@ module _ (box : ℕ → Box) (widths : List ℕ) where
   widths_hold naturals [] (Tree h cs rest) = (refl, widths_hold naturals [] cs, widths_hold naturals [] rest)
   widths_hold naturals (s ∷ ss) (Tree h cs rest) = (refl, widths_hold naturals (kid_slots (tall_at box widths naturals h) s (roots (talls box widths naturals cs))) cs, widths_hold naturals ss rest)
 
+  -- and one of natural heights has those
+  pub naturals_hold : (naturals : List ℕ) (ss : List Slot) (f : Forest ℕ) → Holds (λ (p : Placed). p.tall.box.handle) (λ (p : Placed). p.tall.natural_height) 0 naturals (with_slots ss (talls box widths naturals f))
+  naturals_hold naturals ss Empty = tt
+  naturals_hold naturals [] (Tree h cs rest) = (refl, naturals_hold naturals [] cs, naturals_hold naturals [] rest)
+  naturals_hold naturals (s ∷ ss) (Tree h cs rest) = (refl, naturals_hold naturals (kid_slots (tall_at box widths naturals h) s (roots (talls box widths naturals cs))) cs, naturals_hold naturals ss rest)
+
 -- a change of one object's entry alone, and then of those of its trees
 pub keeps_set : {V : Type 0} (d : V) (old between new : List V) (h : ℕ) (v : V) (f : Forest ℕ) → has f h ≡ true → between ≡ set old h v → KeepsOthers d between new f → KeepsOthers d old new f
 keeps_set d old between new h v f inside is keeps = record {

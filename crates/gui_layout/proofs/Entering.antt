@@ -77,7 +77,7 @@ module _ (scene : Scene) (valid : IsValid scene) where
   boxed_are = map-agree (λ h. record (scene_box scene h) { handle = h }) (scene_box scene) forest (λ h there. scene_named scene h) ∙ sym (boxes_are scene valid.trees.once)
 
 -- one object whose width and slot are known
-joined : (o : Option Placed) (v : Option Position) (w : ℕ) → option_map (λ (p : Placed). p.tall.width) o ≡ Some w → option_map (λ (p : Placed). p.slot) o ≡ Some (slot_or v) → is_some v ≡ true →
+pub joined : (o : Option Placed) (v : Option Position) (w : ℕ) → option_map (λ (p : Placed). p.tall.width) o ≡ Some w → option_map (λ (p : Placed). p.slot) o ≡ Some (slot_or v) → is_some v ≡ true →
     option_map (λ (q : Position). area_at q.x q.y w q.height) v ≡ option_map place_of o
 joined None v w wide at some = cc
 joined (Some p) None w wide at some = absurd (false≢true some)
@@ -86,7 +86,7 @@ joined (Some p) (Some q) w wide at some =
     let slot : slot_of q ≡ p.slot = cc in
     ap (λ (s : Slot). Some (area_at s.x s.y w s.height)) slot ∙ ap (λ n. Some (area_at p.slot.x p.slot.y n p.slot.height)) width
 
-row_none : (test : Placed → Bool) (f : Forest Placed) → has_by test f ≡ false → row_by test f ≡ None
+pub row_none : {A : Type 0} (test : A → Bool) (f : Forest A) → has_by test f ≡ false → row_by test f ≡ None
 row_none test Empty out = refl
 row_none test (Tree p cs rest) out =
     let here : (test p ≡ false) × ((has_by test cs || has_by test rest) ≡ false) = or_parts _ _ out in

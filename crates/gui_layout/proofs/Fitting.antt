@@ -5,12 +5,13 @@ use Rattle.gui_base.specs.Forest.{Forest, Empty, Tree, roots}
 use Rattle.layout_defs.specs.declared.Course.{Course}
 use Rattle.layout_defs.specs.declared.Course.TheVariants.{Free, Across, Down}
 use Rattle.layout_defs.specs.Boxes.{Box, course_of, inner}
-use Rattle.layout_defs.specs.Solving.{Wide, Tall, Slot, solved, wide_box, tall_box, width_in, own_slot, dealt, natural_width, natural_height, kid_widths_by, kid_widths, kid_slots, room_of, flow_slots, taking_part, row_widths, with_widths, with_natural_heights, with_slots}
+use Rattle.layout_defs.specs.Solving.{Wide, Tall, Placed, Slot, solved, wide_box, tall_box, width_in, own_slot, dealt, natural_width, natural_height, kid_widths_by, kid_widths, kid_slots, room_of, flow_slots, taking_part, row_widths, with_widths, with_natural_heights, with_slots}
+use Rattle.layout_defs.specs.Tables.{Holds}
 use Rattle.gui_layout.specs.Found.{HoldsNaturalWidths, HoldsWidths, boxed, widths_of}
 use Rattle.gui_layout.specs.Settled.{Known, wide_of, tall_of, width_of, slot_of, AllFit, Layout, known_at, known, corner, AllFill, IsSettled}
 use Rattle.gui_layout.specs.Slots.{HoldsPlaced, HoldsSlots, talls, tall_at}
 use Rattle.gui_layout.specs.Talls.{HoldsNaturalHeights, heights_of}
-use Rattle.gui_layout.proofs.Bridges.{widths_given, heights_given, widths_hold}
+use Rattle.gui_layout.proofs.Bridges.{widths_given, heights_given, naturals_hold, widths_hold}
 
 -- Lists of sizes and slots are as long as those of the children.
 dealt-length : {A B : Type 0} (box : A → Box) (own : A → B) (kids : List A) (ys : List B) → length (dealt box own kids ys) ≡ length kids
@@ -151,8 +152,9 @@ module _ (box : ℕ → Box) (l : Layout) where
     fill_slots (k ∷ ks) [] long fill = absurd (omega arith)
     fill_slots (k ∷ ks) (x ∷ xs) long fill = ap (λ n. n ∷ map (λ _. corner height) xs) (sym fill.0.at_corner) ∙ ap (λ ns. k.slot ∷ ns) (fill_slots ks xs (omega arith) fill.1)
 
-    pub settled_placed : (f : Forest ℕ) → IsSettled width height (knows f) → HoldsPlaced l.widths l.slots (solved width height (boxed box f))
-    settled_placed f settled =
+    -- the trees that are solved are those that the tables tell
+    solved_is : (f : Forest ℕ) → IsSettled width height (knows f) → solved width height (boxed box f) ≡ with_slots (map slot_of (roots (knows f))) (talls box l.widths l.natural_heights f)
+    solved_is f settled =
         let holds = holds_of f settled.fit in
         let wide = widths_of box f in
         let roots_of : length (roots wide) ≡ length (roots (knows f)) = ap length (wide_roots f holds.natural_widths) ∙ mapped-length wide_of (roots (knows f)) in
@@ -161,8 +163,19 @@ module _ (box : ℕ → Box) (l : Layout) where
         let high = talls box l.widths l.natural_heights f in
         let tall : with_natural_heights (with_widths ws wide) ≡ high = ap with_natural_heights (widths_given box l.widths ws f given) ∙ heights_given box l.widths l.natural_heights f holds.natural_heights in
         let tops : length (roots high) ≡ length (roots (knows f)) = ap length (tall_roots f) ∙ mapped-length tall_of (roots (knows f)) in
-        let ss = map slot_of (roots (knows f)) in
-        let is : solved width height (boxed box f) ≡ with_slots ss high =
         ap (λ (t : Forest Tall). with_slots (map (λ _. corner height) (roots t)) t) tall
-        ∙ ap (λ (us : List Slot). with_slots us high) (fill_slots (roots (knows f)) (roots high) tops settled.fill) in
-        subst (HoldsPlaced l.widths l.slots) (sym is) (widths_hold box l.widths l.natural_heights ss f, holds.slots)
+        ∙ ap (λ (us : List Slot). with_slots us high) (fill_slots (roots (knows f)) (roots high) tops settled.fill)
+
+    pub settled_placed : (f : Forest ℕ) → IsSettled width height (knows f) → HoldsPlaced l.widths l.slots (solved width height (boxed box f))
+    settled_placed f settled =
+        let ss = map slot_of (roots (knows f)) in
+        subst (HoldsPlaced l.widths l.slots) (sym (solved_is f settled)) (widths_hold box l.widths l.natural_heights ss f, (holds_of f settled.fit).slots)
+
+    -- and so are their natural sizes
+    pub settled_wide : (f : Forest ℕ) → IsSettled width height (knows f) → HoldsNaturalWidths box l.natural_widths f
+    settled_wide f settled = (holds_of f settled.fit).natural_widths
+
+    pub settled_high : (f : Forest ℕ) → IsSettled width height (knows f) → Holds (λ (p : Placed). p.tall.box.handle) (λ (p : Placed). p.tall.natural_height) 0 l.natural_heights (solved width height (boxed box f))
+    settled_high f settled =
+        let ss = map slot_of (roots (knows f)) in
+        subst (Holds (λ (p : Placed). p.tall.box.handle) (λ (p : Placed). p.tall.natural_height) 0 l.natural_heights) (sym (solved_is f settled)) (naturals_hold box l.widths l.natural_heights ss f)

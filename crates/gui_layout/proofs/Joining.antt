@@ -69,6 +69,24 @@ listed-few n t hs f these some =
     each : (k : ℕ) → times hs k ≤ count f k
     each k = let a = these.each k in let b = one k (is_some (value_at t k)) (sym (some k)) in omega arith
 
+-- where none but objects of a forest have values, and one of them has none, fewer are listed than there are
+pub listed-fewer : {T : Type 0} (n : ℕ) (t : Table T) (hs : List Handle) (h : Handle) (f : Forest ℕ) → HasThese n t hs → ((k : ℕ) → is_some (value_at t k) ≡ true → has f k ≡ true) → has f h.0 ≡ true → is_some (value_at t h.0) ≡ false → length hs < size f
+listed-fewer n t hs h f these some there none =
+    let short = no-longer (h ∷ hs) (preorder f) (λ k. let a = times-preorder f k in let b = each k in omega arith) in
+    omega (arith, length-preorder f)
+  where
+    one : (k : ℕ) (b : Bool) → is_some (value_at t k) ≡ b → cond (eqb h.0 k) 1 0 + cond b 1 0 ≤ count f k
+    one k true is =
+        let other : eqb h.0 k ≡ false = false_from_ne_true (eqb h.0 k) (λ e. both_ways (is_some (value_at t k)) (subst (λ j. is_some (value_at t j) ≡ false) (eqb-true h.0 k e) none) is) in
+        rw other (count-has f k (some k is))
+    one k false is = elim (cases_Bool (eqb h.0 k)) [
+      | inl same ↦ rw same (count-has f k (subst (λ j. has f j ≡ true) (eqb-true h.0 k same) there))
+      | inr other ↦ rw other (omega arith)
+    ]
+
+    each : (k : ℕ) → times (h ∷ hs) k ≤ count f k
+    each k = let a = these.each k in let b = one k (is_some (value_at t k)) refl in omega arith
+
 -- A value more in a table.
 module _ {T : Type 0} (t : Table T) (h : Handle) (v : T) (within : h.0 < length t.values) (vacant : value_at t h.0 ≡ None) where
   pub these_joined : (n : ℕ) (hs : List Handle) → HasThese n t hs → 0 < t.spare → HasThese n (value_inserted t h.0 v) (hs ++ h ∷ [])
@@ -76,7 +94,7 @@ module _ {T : Type 0} (t : Table T) (h : Handle) (v : T) (within : h.0 < length 
       let room = these.room in
       let long = length-append hs (h ∷ []) in
       record {
-        keys = length-set t.values h.0 (Some v) ∙ these.keys;
+        keys = rw (length-set t.values h.0 (Some v)) these.keys;
         room = omega arith;
         each = λ k. let a = inserted-count t h.0 k v within vacant in let b = these.each k in let c = times-both hs (h ∷ []) k in omega arith;
       }

@@ -19,6 +19,7 @@ pub mod Heightens
 pub mod Columns
 pub mod Bridges
 pub mod OwnHeights
+pub mod Within
 pub mod Solves
 pub mod Fitting
 pub mod Settling
@@ -28,3 +29,14 @@ pub mod Climbing
 pub mod Renewals
 pub mod Painted
 pub mod Ranged
+pub mod Marking
+pub mod Grades
+pub mod Finishing
+pub mod Stepping
+pub mod Apart
+pub mod NaturalSizes
+pub mod Before
+pub mod Entered
+pub mod Staying
+pub mod Closing
+pub mod Pendings

@@ -15,13 +15,14 @@ use Rattle.scene_defs.specs.Scene.{Scene}
 use Rattle.gui_layout.specs.declared.layout_box.LayoutBox.{LayoutBox}
 use Rattle.gui_layout.specs.Found.{HoldsNaturalWidths, HoldsWidths, boxed, widths_of}
 use Rattle.gui_layout.specs.OwnHeights.{IsFixed, AreFixed, KeepsFixed}
-use Rattle.gui_layout.specs.Scenes.{HoldsBoxes, scene_box}
+use Rattle.gui_layout.specs.Renewed.{KeepsRenewed}
+use Rattle.gui_layout.specs.Scenes.{scene_box}
 use Rattle.gui_layout.specs.Slots.{HoldsSlots, talls, tall_at}
 use Rattle.gui_layout.specs.Tables.{listing_of}
 use Rattle.gui_layout.specs.Talls.{HoldsNaturalHeights, heights_of, widened_at}
 use Rattle.gui_layout.specs.Views.{box_of, box_or, box_at}
 use Rattle.gui_layout.proofs.Listed.{some_listed, listed_replaced}
-use Rattle.gui_layout.proofs.Parts.{IsPart, has-part, here}
+use Rattle.gui_layout.proofs.Parts.{here}
 use Rattle.gui_layout.proofs.These.{value-set, within_of}
 
 -- what a table holds of rows that are made of others
@@ -111,11 +112,11 @@ module _ (scene : Scene) (widths : List ℕ) where
   pub record Fixes (old new : Table LayoutBox) (h : ℕ) : Type 0 where
     pub fixed : IsFixed (scene_box scene) widths new h
     pub kept : KeepsFixed (scene_box scene) widths old new
-    pub boxes : HoldsBoxes new scene
+    pub boxes : KeepsRenewed scene old new
     pub listed : listing_of new ≡ listing_of old
 
-  pub fixes_none : (t : Table LayoutBox) (h : ℕ) → IsFixed (scene_box scene) widths t h → HoldsBoxes t scene → Fixes t t h
-  fixes_none t h fixed boxes = record { fixed = fixed; kept = λ k is. is; boxes = boxes; listed = refl }
+  pub fixes_none : (t : Table LayoutBox) (h : ℕ) → IsFixed (scene_box scene) widths t h → Fixes t t h
+  fixes_none t h fixed = record { fixed = fixed; kept = λ k is. is; boxes = λ k is. is; listed = refl }
 
   module _ (t : Table LayoutBox) (h : ℕ) (made : LayoutBox) (some : IsSome (value_at t h)) (is : box_of h made ≡ fixed_at (get_or widths h 0) (scene_box scene h)) where
     value : (k : ℕ) → value_at (value_replaced t h made) k ≡ cond (eqb h k) (Some made) (value_at t k)
@@ -127,11 +128,11 @@ module _ (scene : Scene) (widths : List ℕ) where
       | inr differs ↦ rw differs other
     ])
 
-    pub fixes_replaced : HoldsBoxes t scene → Fixes t (value_replaced t h made) h
-    fixes_replaced boxes = record {
+    pub fixes_replaced : Fixes t (value_replaced t h made) h
+    fixes_replaced = record {
       fixed = subst (λ (o : Option LayoutBox). box_or h o ≡ fixed_at (get_or widths h 0) (scene_box scene h)) (sym (value h)) (rw (eq-eqb h h refl) is);
       kept = λ k fixed. of_each (λ m o. box_or m o ≡ fixed_at (get_or widths m 0) (scene_box scene m)) k is fixed;
-      boxes = λ k. of_each (λ m o. IsSome o → but_height (box_or m o) ≡ but_height (scene_box scene m)) k (λ _. ap but_height is) (boxes k);
+      boxes = λ k was. of_each (λ m o. but_height (box_or m o) ≡ but_height (scene_box scene m)) k (ap but_height is) was;
       listed = listed_replaced t h made (some_listed t h some);
     }
 
@@ -161,6 +162,6 @@ module _ (P : ℕ → Type 0) where
         | inr inside ↦ let inner : (has cs k ≡ true) ⊎ (has rest k ≡ true) = or_cases _ _ inside in elim inner [ inl e ↦ first k (or_right _ _ (or_left _ _ e)) | inr e ↦ later k e ]
       ]
 
--- what stands in a tree of a forest stands in the forest
-pub tree_inside : (f : Forest ℕ) (h : ℕ) (cs rest : Forest ℕ) → IsPart f (Tree h cs rest) → (k : ℕ) → has (Tree h cs Empty) k ≡ true → has f k ≡ true
-tree_inside f h cs rest part k there = has-part part k (each_top (λ m. has (Tree h cs rest) m ≡ true) h cs (here h cs rest) (λ m i. or_right _ _ (or_left _ _ i)) k there)
+-- what stands in the first of these trees stands among them
+pub tree_first : (h : ℕ) (cs rest : Forest ℕ) (k : ℕ) → has (Tree h cs Empty) k ≡ true → has (Tree h cs rest) k ≡ true
+tree_first h cs rest k there = each_top (λ m. has (Tree h cs rest) m ≡ true) h cs (here h cs rest) (λ m i. or_right _ _ (or_left _ _ i)) k there

@@ -9,16 +9,12 @@ use Rattle.layout_defs.specs.declared.Course.TheVariants.{Free}
 use Rattle.layout_defs.specs.Boxes.{Box, course_of, inner, inset, is_reversed}
 use Rattle.layout_defs.specs.Solving.{Wide, Tall, Slot, tall_box, width_in, own_slot, dealt, natural_size, natural_width, natural_height, kid_widths, kid_widths_by, kid_slots, kids_width, kids_height, room_of, flow_slots, ordered_slots, in_order, taking_part, wide_box}
 use Rattle.gui_layout.specs.Settled.{Known, wide_of, tall_of, width_of, slot_of, Fits, AllFit, StandsFree, IsSteady, is_content}
+pub use Rattle.gui_layout.specs.Marked.{is_root}
 use Rattle.gui_layout.proofs.Finds.{elsewhere}
 use Rattle.gui_layout.proofs.Lists.{dealt-none}
 use Rattle.gui_layout.proofs.Parts.{IsDistinct}
 
 -- Roots and trees.
-
--- whether u is a root of these trees
-abbrev pub is_root : ℕ → Forest ℕ → Bool
-is_root u Empty = false
-is_root u (Tree h cs rest) = eqb h u || is_root u rest
 
 pub root-has : (u : ℕ) (f : Forest ℕ) → is_root u f ≡ true → has f u ≡ true
 root-has u Empty is = is
@@ -169,17 +165,17 @@ parent-in u p k above (Tree h cs rest) distinct there is = elim (cases_Bool (eqb
 
 -- Steady parents.
 
-size-steady : (s : Length) (n a b : ℕ) → is_content s ≡ false → natural_size s n a ≡ natural_size s n b
+pub size-steady : (s : Length) (n a b : ℕ) → is_content s ≡ false → natural_size s n a ≡ natural_size s n b
 size-steady (Pixels m) n a b is = refl
 size-steady (Percent m) n a b is = refl
 size-steady Content n a b is = cc
 
-width-steady : (box : Box) (some others : List Wide) → is_content box.across.size ≡ false → natural_width box some ≡ natural_width box others
+pub width-steady : (box : Box) (some others : List Wide) → is_content box.across.size ≡ false → natural_width box some ≡ natural_width box others
 width-steady box some others is =
     size-steady box.across.size (inset box.across) (max box.own_width (kids_width (course_of box.flow) box (taking_part wide_box some)))
     (max box.own_width (kids_width (course_of box.flow) box (taking_part wide_box others))) is
 
-height-steady : (box : Box) (width : ℕ) (some others : List Tall) → is_content box.down.size ≡ false → natural_height box width some ≡ natural_height box width others
+pub height-steady : (box : Box) (width : ℕ) (some others : List Tall) → is_content box.down.size ≡ false → natural_height box width some ≡ natural_height box width others
 height-steady box width some others is =
     let room = inner box.across width in
     size-steady box.down.size (inset box.down) (max (box.own_height room) (kids_height (course_of box.flow) box room (taking_part tall_box some)))
@@ -189,10 +185,10 @@ none-in_order : {A : Type 0} (back : Bool) → in_order {A = A} back [] ≡ []
 none-in_order true = refl
 none-in_order false = refl
 
-free-widths : (box : Box) (width : ℕ) (kids : List Wide) → course_of box.flow ≡ Free → kid_widths box width kids ≡ map (width_in (inner box.across width)) kids
+pub free-widths : (box : Box) (width : ℕ) (kids : List Wide) → course_of box.flow ≡ Free → kid_widths box width kids ≡ map (width_in (inner box.across width)) kids
 free-widths box width kids free = ap (λ course. kid_widths_by course box (inner box.across width) kids) free
 
-free-slots : (tall : Tall) (slot : Slot) (kids : List Tall) → course_of tall.box.flow ≡ Free → kid_slots tall slot kids ≡ map (own_slot (room_of tall slot)) kids
+pub free-slots : (tall : Tall) (slot : Slot) (kids : List Tall) → course_of tall.box.flow ≡ Free → kid_slots tall slot kids ≡ map (own_slot (room_of tall slot)) kids
 free-slots tall slot kids free =
     let room = room_of tall slot in
     let back = is_reversed tall.box.flow in
@@ -215,11 +211,11 @@ all-free p (k ∷ ks) wide slot =
     let slots : map slot_of ks ≡ map (own_slot (room_of (tall_of p) p.slot)) (map tall_of ks) = cc in
     (record { is_wide = width; stands = stands }, all-free p ks wides slots)
 
-free-wide : (p : Known) (ks : List Known) → AllFree p ks → map width_of ks ≡ map (width_in (inner p.box.across p.width)) (map wide_of ks)
+pub free-wide : (p : Known) (ks : List Known) → AllFree p ks → map width_of ks ≡ map (width_in (inner p.box.across p.width)) (map wide_of ks)
 free-wide p [] all = refl
 free-wide p (k ∷ ks) all = ap (λ n. n ∷ map width_of ks) all.0.is_wide ∙ ap (λ ns. width_in (inner p.box.across p.width) (wide_of k) ∷ ns) (free-wide p ks all.1)
 
-free-stand : (p : Known) (ks : List Known) → AllFree p ks → map slot_of ks ≡ map (own_slot (room_of (tall_of p) p.slot)) (map tall_of ks)
+pub free-stand : (p : Known) (ks : List Known) → AllFree p ks → map slot_of ks ≡ map (own_slot (room_of (tall_of p) p.slot)) (map tall_of ks)
 free-stand p [] all = refl
 free-stand p (k ∷ ks) all = ap (λ n. n ∷ map slot_of ks) all.0.stands ∙ ap (λ ns. own_slot (room_of (tall_of p) p.slot) (tall_of k) ∷ ns) (free-stand p ks all.1)
 

@@ -1,6 +1,6 @@
 -- Tables while the values of listed handles are taken out or put in.
 use Rattle.std.proofs.Common.{◌≡◌, ◌∙◌, sym, ap, refl, ℕ, ◌+◌, ◌<◌, ◌≤◌, true, false, true≢false, cond, eqb, eq-eqb, Bool, List, [], ◌∷◌, ◌++◌, length, map, set, get_or, arith}
-use Rattle.std.specs.Prelude.{Option, Some, None, is_some, IsSome}
+use Rattle.std.specs.Prelude.{Option, Some, None, is_some, IsSome, IfNone}
 use Rattle.std.specs.Option.{OnSome}
 use Rattle.std.proofs.lemmas.Bool.Decides.{nat_tests}
 use Rattle.std.proofs.lemmas.List.{get_or-set_same, get_or-set_other, length-set, length-append, length-map, get_or_past}
@@ -37,7 +37,7 @@ module _ {T : Type 0} where
       let some = first_some objects t h hs these in
       let room = these.room in
       record {
-        keys = length-set t.values h.0 None ∙ these.keys;
+        keys = rw (length-set t.values h.0 None) these.keys;
         room = omega arith;
         each = λ k. let a = removed-count t h.0 k some in let b = these.each k in omega arith;
       }
@@ -47,9 +47,14 @@ module _ {T : Type 0} where
   these_after objects t u h hs None is removes these = let some = first_some objects t h hs these in absurd (true≢false (sym some ∙ ap is_some (sym is)))
   these_after objects t u h hs (Some v) is removes these = rw removes (these_removed objects t h hs these)
 
+  -- there are as many keys as before
+  pub keys_after : (t u : Table T) (h : ℕ) (result : Option T) → OnSome result (u ≡ value_removed t h) → IfNone result (u ≡ t) → length u.values ≡ length t.values
+  keys_after t u h None removes same = ap (λ (v : Table T). length v.values) same
+  keys_after t u h (Some v) removes same = rw removes (length-set t.values h None)
+
   -- all of these have values but those that are left, which have none
   pub record HasBut (objects : ℕ) (t : Table T) (hs rest : List Handle) : Type 0 where
-    pub keys : length t.values ≡ HANDLE.high + 1
+    pub keys : HANDLE.high + 1 ≤ length t.values
     pub room : t.spare + length hs ≡ objects + length rest
     pub each : (k : ℕ) → value_count t k + times rest k ≡ times hs k
 
@@ -93,7 +98,7 @@ module _ {T : Type 0} where
       let room = but.room in
       let some = may.room in
       rw is (record {
-        keys = length-set t.values h.0 (Some v) ∙ but.keys;
+        keys = rw (length-set t.values h.0 (Some v)) but.keys;
         room = omega arith;
         each = λ k. let a = inserted-count t h.0 k v may.within may.vacant in let b = but.each k in omega arith;
       })
@@ -155,6 +160,10 @@ module _ (hs : List Handle) (f : Forest ℕ) (listed : numbers hs ≡ preorder f
     pub are_listed : AreListed (listing_of t) f
     are_listed h there = get_or-map is_some t.values h None ∙ (has_value h ∙ there)
 
+-- a table for as many keys
+pub length_kept : {T : Type 0} (t u : Table T) → listing_of u ≡ listing_of t → length u.values ≡ length t.values
+length_kept t u same = sym (length-map u.values is_some) ∙ (ap (λ (l : Listing). length l.flags) same ∙ length-map t.values is_some)
+
 -- the same handles have values still
 pub these_kept : {T : Type 0} (objects : ℕ) (t u : Table T) (hs : List Handle) → listing_of u ≡ listing_of t → HasThese objects t hs → HasThese objects u hs
 these_kept objects t u hs same these =
@@ -162,7 +171,7 @@ these_kept objects t u hs same these =
     let spare : u.spare ≡ t.spare = ap (λ (l : Listing). l.spare) same in
     let room = these.room in
     record {
-      keys = sym (length-map u.values is_some) ∙ (ap length flags ∙ (length-map t.values is_some ∙ these.keys));
+      keys = rw (length_kept t u same) these.keys;
       room = omega arith;
       each = λ k. ap (λ b. cond b 1 0) (sym (get_or-map is_some u.values k None) ∙ (ap (λ bs. get_or bs k false) flags ∙ get_or-map is_some t.values k None)) ∙ these.each k;
     }

@@ -16,7 +16,16 @@ pub mod Kept
 pub mod Kids
 pub mod Moved
 pub mod Solved
+pub mod Naturals
 pub mod Settled
 pub mod Frames
 pub mod Layouts
 pub mod Renewed
+pub mod Marked
+pub mod Pending
+pub mod Raised
+pub mod Settles
+pub mod SettledBut
+pub mod Marks
+pub mod Same
+pub mod Gone

@@ -22,7 +22,7 @@ value_count t k = if is_some (value_at t k) then 1 else 0
 
 -- a table has a value for each of these handles and for no other; so many fit in all
 pub record HasThese {T : Type 0} (objects : ℕ) (t : Table T) (hs : List Handle) : Type 0 where
-  pub keys : length t.values ≡ HANDLE.high + 1
+  pub keys : HANDLE.high + 1 ≤ length t.values
   pub room : t.spare + length hs ≡ objects
   pub each : (k : ℕ) → value_count t k ≡ times hs k
 

@@ -101,7 +101,7 @@ fn fill_row(
     requires few { size tree.now.forest ≤ 4000 }
     requires found { BelowHaveHeights boxes.now widths.now naturals.now tree.now.forest h.0 }
     requires capacity { size tree.now.forest ≤ vec_capacity items.old }
-    requires listed_boxes { AreListed (listing_of boxes.now) tree.now.forest }
+    requires listed_boxes { AreListed (listing_of boxes.now) (tree_at tree.now.forest h.0) }
     ensures items { items_of items.new.items
         ≡ map height_item (taking_part tall_box (high_kids boxes.now widths.now tree.now.forest h.0)) }
     ensures few { vec_len items.new ≤ 4000 }
@@ -156,7 +156,7 @@ fn row_height(
     requires few { size tree.now.forest ≤ 4000 }
     requires found { BelowHaveHeights boxes.now widths.now naturals.now tree.now.forest h.0 }
     requires capacity { size tree.now.forest ≤ vec_capacity items.old }
-    requires listed_boxes { AreListed (listing_of boxes.now) tree.now.forest }
+    requires listed_boxes { AreListed (listing_of boxes.now) (tree_at tree.now.forest h.0) }
     ensures value { result ≡ kids_height Across (box_of h.0 own.now)
         (slice_index (sizes_of widths.now) h.0 - (own.now.left + own.now.right))
         (taking_part tall_box (high_kids boxes.now widths.now tree.now.forest h.0)) }
@@ -187,7 +187,7 @@ fn kids_height(
         ≡ kids_column (course_of own.now.flow) (high_kids boxes.now widths.now tree.now.forest h.0) }
     requires size { row.size ≤ 70000 * row.count }
     requires count { row.count ≤ 4000 }
-    requires listed_boxes { AreListed (listing_of boxes.now) tree.now.forest }
+    requires listed_boxes { AreListed (listing_of boxes.now) (tree_at tree.now.forest h.0) }
     ensures value { result ≡ kids_height (course_of own.now.flow) (box_of h.0 own.now)
         (slice_index (sizes_of widths.now) h.0 - (own.now.left + own.now.right))
         (taking_part tall_box (high_kids boxes.now widths.now tree.now.forest h.0)) }
@@ -224,7 +224,7 @@ fn natural_height(
         ≡ kids_column (course_of own.now.flow) (high_kids boxes.now widths.now tree.now.forest h.0) }
     requires size { row.size ≤ 70000 * row.count }
     requires count { row.count ≤ 4000 }
-    requires listed_boxes { AreListed (listing_of boxes.now) tree.now.forest }
+    requires listed_boxes { AreListed (listing_of boxes.now) (tree_at tree.now.forest h.0) }
     ensures value { result ≡ natural_height (box_at boxes.now h.0) (slice_index (sizes_of widths.now) h.0)
         (high_kids boxes.now widths.now tree.now.forest h.0) }
     ensures small { result ≤ 8191 }
@@ -250,12 +250,12 @@ pub(crate) fn find_natural_heights(
     own: &LayoutBox,
 ) -> u16
     requires once { StandsOnce tree.now.forest }
-    requires listed { AreListed (listing_of naturals.old) tree.now.forest }
+    requires listed { AreListed (listing_of naturals.old) (tree_at tree.now.forest h.0) }
     requires few { size tree.now.forest ≤ 4000 }
     requires there { has tree.now.forest h.0 ≡ true }
     requires capacity { size tree.now.forest ≤ vec_capacity items.old }
     requires own { box_of h.0 own.now ≡ box_at boxes.now h.0 }
-    requires listed_boxes { AreListed (listing_of boxes.now) tree.now.forest }
+    requires listed_boxes { AreListed (listing_of boxes.now) (tree_at tree.now.forest h.0) }
     ensures value { result ≡ natural_height (box_at boxes.now h.0) (slice_index (sizes_of widths.now) h.0)
         (high_kids boxes.now widths.now tree.now.forest h.0) }
     ensures found { HoldsNaturalHeights (box_at boxes.now) (sizes_of widths.now) (sizes_of naturals.new)

@@ -10,7 +10,10 @@
 //! go by its children. All else stays. Where an object has come, is gone or has gone elsewhere among its
 //! siblings, and these stand by themselves in such a parent, all others stay as they are.
 //!
-//! All memory is taken at [`Places::open`].
+//! Where any objects have changed, come or gone, they are marked ([`Marks`]), and the places are settled for all
+//! of them at once: each mark has one such tree solved, and a tree without marks stays as it is.
+//!
+//! All memory is taken at [`Places::open`] and [`Marks::open`].
 #![tactic(auto)]
 
 mod all;
@@ -23,12 +26,16 @@ mod inside;
 mod layout_box;
 mod listing;
 mod looks;
+mod mark;
+mod marks;
 mod natural;
 mod objects;
 mod own_heights;
+mod pending;
 mod places;
 mod position;
 mod positions;
+mod raising;
 mod renewal;
 mod size;
 mod steady;
@@ -36,4 +43,5 @@ mod tables;
 mod tree;
 mod widths;
 
+pub use marks::Marks;
 pub use places::Places;

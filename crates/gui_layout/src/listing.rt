@@ -47,7 +47,8 @@ pub(crate) fn are_same(some: &[Handle], others: &[Handle]) -> bool
 
 /// Takes the values of all listed objects out of a table.
 pub(crate) fn clear<T: Drop>(table: &mut Table<T>, listed: &[Handle])
-    ensures { (objects : ℕ) → HasThese objects table.old listed.now → HasThese objects table.new [] }
+    ensures these { (objects : ℕ) → HasThese objects table.old listed.now → HasThese objects table.new [] }
+    ensures keys { length table.new.values ≡ length table.old.values }
 {
     for h in listed {
         let _ = table.remove(h.0 as u32);

@@ -124,11 +124,11 @@ pub(crate) fn find_natural_widths(
     own: &LayoutBox,
 ) -> u16
     requires once { StandsOnce tree.now.forest }
-    requires listed { AreListed (listing_of naturals.old) tree.now.forest }
+    requires listed { AreListed (listing_of naturals.old) (tree_at tree.now.forest h.0) }
     requires few { size tree.now.forest ≤ 4000 }
     requires there { has tree.now.forest h.0 ≡ true }
     requires own { box_of h.0 own.now ≡ box_at boxes.now h.0 }
-    requires listed_boxes { AreListed (listing_of boxes.now) tree.now.forest }
+    requires listed_boxes { AreListed (listing_of boxes.now) (tree_at tree.now.forest h.0) }
     ensures value { result ≡ natural_width (box_at boxes.now h.0) (wide_kids boxes.now tree.now.forest h.0) }
     ensures found { HoldsNaturalWidths (box_at boxes.now) (sizes_of naturals.new)
         (tree_at tree.now.forest h.0) }

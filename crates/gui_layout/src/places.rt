@@ -1,6 +1,6 @@
 //! The places of the objects of a store.
-ghost use Rattle.std.specs.Prelude.{◌≡◌, ◌≤◌, ◌+ℤ◌, ◌-ℤ◌, pos, ℕ, [], true, false, None, Some, IfOk};
-ghost use Rattle.std.specs.Prelude.{IfSome, option_map};
+ghost use Rattle.std.specs.Prelude.{◌≡◌, ◌≤◌, ◌+ℤ◌, ◌-ℤ◌, pos, ℕ, Bool, [], true, false, None, Some, IfOk};
+ghost use Rattle.std.specs.Prelude.{IfSome, eqb, is_some, option_map};
 ghost use Rattle.std.specs.Prelude.{◌<◌, ◌+◌, length, vec_capacity};
 ghost use Rattle.std.specs.Option.{ForSome};
 ghost use Rattle.gui_base.specs.Area.{area_at, is_empty, width_of};
@@ -20,6 +20,8 @@ ghost use Rattle.gui_widgets.specs.Looks.{IsLook, widget_of};
 ghost use Rattle.gui_store.specs.Views.{scene_of};
 ghost use Rattle.gui_layout.specs.Painted.{PaintsLike};
 ghost use Rattle.gui_layout.specs.Kept.{AddsEntries, AreEntries, KeepEntries};
+ghost use Rattle.gui_layout.specs.Same.{SameEntries};
+ghost use Rattle.scene_defs.specs.Place.{place};
 ghost use Rattle.scene_defs.specs.Visible.{some_area, met, visible};
 ghost use Rattle.gui_layout.specs.Frames.{FrameIsNearby, IsFrameOf, Encloses};
 ghost use Rattle.gui_layout.specs.declared.frame.Frame.TheVariants.{Content};
@@ -27,23 +29,30 @@ ghost use Rattle.gui_layout.specs.Settled.{known_at, tall_of, is_steady, IsStead
 ghost use Rattle.gui_layout.specs.Slots.{room_in};
 ghost use Rattle.gui_layout.specs.Views.{box_at};
 ghost use Rattle.gui_layout.specs.Reaches.{IsPlaced};
-ghost use Rattle.gui_layout.specs.Renewed.{IsRenewed};
+ghost use Rattle.gui_layout.specs.Renewed.{AreRenewed, IsRenewed, KeepsRenewed};
+ghost use Rattle.gui_layout.specs.Marked.{marked_trees};
+ghost use Rattle.gui_layout.specs.Pending.{is_any, is_marked_in, is_partly, is_pending};
+ghost use Rattle.gui_pool.specs.Table.{value_at};
 ghost use Rattle.gui_layout.specs.Scenes.{HoldsBoxes, scene_box, shown_panel};
 ghost use Rattle.gui_layout.specs.Listing.{AreProper, HasThese, times};
 ghost use Rattle.gui_layout.specs.Tables.{AreListed, IsListed, listing_of};
 
 use crate::all::solve_trees;
-use crate::boxes::{empty_box, known_box};
+use crate::boxes::{empty_box, has_box, known_box};
 use crate::frame::Frame;
-use crate::gone::take_gone;
+use crate::gone::{have_left, take_gone};
 use crate::inside::Inside;
 use crate::layout_box::LayoutBox;
 use crate::listing::{are_same, clear, fill, list_trees, put};
 use crate::looks::{look_in, paint_look_in};
+use crate::mark::Mark;
+use crate::marks::{Marks, clear_marks};
 use crate::objects::{box_in, set_boxes};
+use crate::pending::{finish_tree, is_pending};
 use crate::position::{CORNER, Position};
 use crate::positions::inside_of;
-use crate::renewal::renew_boxes;
+use crate::raising::raise_marks;
+use crate::renewal::{renew_boxes, renew_marked};
 use crate::size::Size;
 use crate::steady::{is_nearby, is_steady};
 use crate::tables::{position_at, size_at};
@@ -167,6 +176,11 @@ impl Places {
     ghost use Rattle.gui_layout.specs.Solved.{limits_of, layout_of, place_at, AreSolved, AreSettled};
     ghost use Rattle.gui_layout.specs.Solved.{entries_of, AreSettledBefore, AreSettledBut, AreSettledElse};
     ghost use Rattle.gui_layout.specs.Solved.{AreSettledWithout};
+    ghost use Rattle.gui_layout.specs.Naturals.{naturals, naturals_at};
+    ghost use Rattle.gui_layout.specs.Marks.{is_changed, is_marked, is_parent, mark_count, most_marks};
+    ghost use Rattle.gui_layout.specs.SettledBut.{AreRightBut, AreRightButChanged, AreSettledButMarks};
+    ghost use Rattle.gui_layout.specs.SettledBut.{SettlesChanged, SettlesMarks, in_marked, nobody};
+    ghost use Rattle.gui_layout.specs.Settles.{Settles, SolvesTree};
 
     /// No object has a place. It takes all the memory that solving will need, or answers NoMemory where there
     /// is too little.
@@ -201,6 +215,7 @@ impl Places {
         requires { limits_of self.old ≡ (scene_of store.now).limits }
         ensures settled { AreSettled self.new (scene_of store.now) }
         ensures solved { AreSolved self.new (scene_of store.now) }
+        ensures naturals { (h : ℕ) → naturals_at self.new h ≡ naturals (scene_of store.now) h }
         ensures limits { limits_of self.new ≡ limits_of self.old }
     {
         self.enter(store);
@@ -239,6 +254,43 @@ impl Places {
             frame,
         );
         top
+    }
+
+    /// Settles the places of a store in which marked objects alone may differ from what they were when the
+    /// places were settled: objects that have changed, come or gone, and those whose children are others. Of
+    /// a tree in which none is marked all places stay as they were. Where the list of children alone is
+    /// another, nothing is solved for an object whose sizes are not those of its content and whose children
+    /// stand by themselves. The marks are let go.
+    pub fn settle_marks(&mut self, store: &Store, marks: &mut Marks)
+        requires limits { limits_of self.old ≡ (scene_of store.now).limits }
+        requires but { AreRightBut self.old (scene_of store.now)
+            (in_marked (is_marked marks.old) (scene_of store.now)) (is_changed marks.old) (is_parent marks.old) }
+        ensures solved { (k : ℕ) → in_marked (is_marked marks.old) (scene_of store.now) k ≡ true →
+            place_at self.new k ≡ place (scene_of store.now) k }
+        ensures gone { (k : ℕ) → is_marked marks.old k ≡ true → is_there (scene_of store.now) k ≡ false →
+            place_at self.new k ≡ None }
+        ensures others { (k : ℕ) → is_there (scene_of store.now) k ≡ true →
+            in_marked (is_marked marks.old) (scene_of store.now) k ≡ false →
+            place_at self.new k ≡ place_at self.old k }
+        ensures naturals { (k : ℕ) → in_marked (is_marked marks.old) (scene_of store.now) k ≡ true →
+            naturals_at self.new k ≡ naturals (scene_of store.now) k }
+        ensures gone_naturals { (k : ℕ) → is_marked marks.old k ≡ true →
+            is_there (scene_of store.now) k ≡ false → naturals_at self.new k ≡ None }
+        ensures other_naturals { (k : ℕ) → is_there (scene_of store.now) k ≡ true →
+            in_marked (is_marked marks.old) (scene_of store.now) k ≡ false →
+            naturals_at self.new k ≡ naturals_at self.old k }
+        ensures right { (s : ℕ → Bool) →
+            AreRightBut self.old (scene_of store.now) s (is_changed marks.old) (is_parent marks.old) →
+            AreRightBut self.new (scene_of store.now) s nobody nobody }
+        ensures settled { AreSettledButMarks self.old (scene_of store.now) (is_changed marks.old) (is_parent marks.old) →
+            AreSettled self.new (scene_of store.now) }
+        ensures empty { (k : ℕ) → is_marked marks.new k ≡ false }
+        ensures count { mark_count marks.new ≡ 0 }
+        ensures most { most_marks marks.new ≡ most_marks marks.old }
+        ensures limits { limits_of self.new ≡ limits_of self.old }
+    {
+        self.settle_listed(store, marks.listed.as_slice(), &mut marks.pending);
+        clear_marks(&mut marks.pending, &mut marks.listed);
     }
 
     /// Whether the places stay settled for a store in which a child of an object went elsewhere among its
@@ -417,7 +469,8 @@ impl Places {
     fn frame_of(&self, tree: &Tree, h: Handle) -> (Handle, Frame)
         requires once { StandsOnce tree.now.forest }
         requires there { has tree.now.forest h.0 ≡ true }
-        requires listed { AreListed (listing_of self.now.boxes) tree.now.forest }
+        requires listed { (k : ℕ) → Encloses tree.now.forest k h.0 → has tree.now.forest k ≡ true →
+            IsListed (listing_of self.now.boxes) k }
         ensures there { has tree.now.forest result.0.0 ≡ true }
         ensures encloses { Encloses tree.now.forest result.0.0 h.0 }
         ensures near { FrameIsNearby result.1 }
@@ -430,6 +483,215 @@ impl Places {
         match self.steady_inside(parent) {
             Some(inside) => (h, Frame::Content(inside)),
             None => self.frame_of(tree, parent),
+        }
+    }
+
+    /// Takes out the entries of objects that are gone, where a marked one is.
+    fn leave_gone(&mut self, tree: &Tree, marked: &[Handle])
+        ensures kept { (k : ℕ) → has tree.now.forest k ≡ true →
+            SameEntries k (entries_of self.old) (entries_of self.new) }
+        ensures gone { (k : ℕ) → 0 < times marked.now k → has tree.now.forest k ≡ false →
+            is_some (value_at self.new.positions k) ≡ false }
+        ensures none { (k : ℕ) → is_some (value_at self.old.positions k) ≡ false →
+            is_some (value_at self.new.positions k) ≡ false }
+        ensures limits { limits_of self.new ≡ limits_of self.old }
+    {
+        if have_left(tree, &self.positions, marked) {
+            return;
+        }
+        self.leave(tree);
+    }
+
+    /// Makes room for the entries of an object that is there and has none.
+    fn make_room(&mut self, store: &Store, h: Handle)
+        requires limits { limits_of self.old ≡ (scene_of store.now).limits }
+        requires there { has (handles_of (scene_of store.now).trees) h.0 ≡ true }
+        requires new { is_some (value_at self.old.boxes h.0) ≡ false }
+        ensures room { length self.new.listed.items < self.new.limits.objects }
+        ensures new { is_some (value_at self.new.boxes h.0) ≡ false }
+        ensures kept { (k : ℕ) → has (handles_of (scene_of store.now).trees) k ≡ true →
+            SameEntries k (entries_of self.old) (entries_of self.new) }
+        ensures none { (k : ℕ) → is_some (value_at self.old.positions k) ≡ false →
+            is_some (value_at self.new.positions k) ≡ false }
+        ensures limits { limits_of self.new ≡ limits_of self.old }
+    {
+        let tree = store.tree();
+        if self.listed.as_slice().len() < self.limits.objects as usize {
+            return;
+        }
+        self.leave(tree);
+    }
+
+    /// Gives entries to an object, if it is there and has none.
+    fn enter_one(&mut self, store: &Store, h: Handle)
+        requires limits { limits_of self.old ≡ (scene_of store.now).limits }
+        ensures own { has (handles_of (scene_of store.now).trees) h.0 ≡ true →
+            is_some (value_at self.new.boxes h.0) ≡ true }
+        ensures others { (k : ℕ) → has (handles_of (scene_of store.now).trees) k ≡ true →
+            eqb k h.0 ≡ false → SameEntries k (entries_of self.old) (entries_of self.new) }
+        ensures kept { (k : ℕ) → has (handles_of (scene_of store.now).trees) k ≡ true →
+            is_some (value_at self.old.boxes k) ≡ true →
+            SameEntries k (entries_of self.old) (entries_of self.new) }
+        ensures none { (k : ℕ) → has (handles_of (scene_of store.now).trees) k ≡ false →
+            is_some (value_at self.old.positions k) ≡ false →
+            is_some (value_at self.new.positions k) ≡ false }
+        ensures limits { limits_of self.new ≡ limits_of self.old }
+    {
+        let tree = store.tree();
+        if !tree.has(h) {
+            return;
+        }
+        if has_box(&self.boxes, h) {
+            return;
+        }
+        self.make_room(store, h);
+        self.add_entries(store, h);
+    }
+
+    /// Gives entries to the marked objects that are there and have none.
+    fn enter_marked(&mut self, store: &Store, marked: &[Handle])
+        requires limits { limits_of self.old ≡ (scene_of store.now).limits }
+        ensures own { (k : ℕ) → 0 < times marked.now k →
+            has (handles_of (scene_of store.now).trees) k ≡ true →
+            is_some (value_at self.new.boxes k) ≡ true }
+        ensures others { (k : ℕ) → has (handles_of (scene_of store.now).trees) k ≡ true →
+            times marked.now k ≡ 0 → SameEntries k (entries_of self.old) (entries_of self.new) }
+        ensures kept { (k : ℕ) → has (handles_of (scene_of store.now).trees) k ≡ true →
+            is_some (value_at self.old.boxes k) ≡ true →
+            SameEntries k (entries_of self.old) (entries_of self.new) }
+        ensures none { (k : ℕ) → has (handles_of (scene_of store.now).trees) k ≡ false →
+            is_some (value_at self.old.positions k) ≡ false →
+            is_some (value_at self.new.positions k) ≡ false }
+        ensures limits { limits_of self.new ≡ limits_of self.old }
+    {
+        for h in marked {
+            self.enter_one(store, *h);
+        }
+    }
+
+    /// Makes the boxes of the listed objects anew that are there and whose marks are pending.
+    fn renew_marked(&mut self, store: &Store, marked: &[Handle], pending: &Table<Mark>)
+        requires entries { (k : ℕ) → 0 < times marked.now k → is_pending pending.now k ≡ true →
+            has (handles_of (scene_of store.now).trees) k ≡ true →
+            is_some (value_at self.old.boxes k) ≡ true }
+        ensures own { (k : ℕ) → 0 < times marked.now k → is_pending pending.now k ≡ true →
+            has (handles_of (scene_of store.now).trees) k ≡ true →
+            IsRenewed (scene_of store.now) self.new.boxes k }
+        ensures kept { KeepsRenewed (scene_of store.now) self.old.boxes self.new.boxes }
+        ensures listed_boxes { listing_of self.new.boxes ≡ listing_of self.old.boxes }
+        ensures layout { layout_of self.new ≡ layout_of self.old }
+        ensures positions { self.new.positions ≡ self.old.positions }
+        ensures limits { limits_of self.new ≡ limits_of self.old }
+    {
+        renew_marked(store.tree(), &mut self.boxes, store, marked, pending);
+    }
+
+    /// Settles the places of a store in which marked objects alone may differ, each of which is listed.
+    fn settle_listed(&mut self, store: &Store, marked: &[Handle], pending: &mut Table<Mark>)
+        requires limits { limits_of self.old ≡ (scene_of store.now).limits }
+        requires marked { (k : ℕ) → 0 < times marked.now k → is_any (value_at pending.old k) ≡ true }
+        requires listed { (k : ℕ) → is_any (value_at pending.old k) ≡ true → 0 < times marked.now k }
+        requires but { AreRightBut self.old (scene_of store.now)
+            (in_marked (is_marked_in pending.old) (scene_of store.now))
+            (is_pending pending.old) (is_partly pending.old) }
+        ensures settles { SettlesMarks self.old self.new (scene_of store.now)
+            (is_marked_in pending.old) (is_pending pending.old) (is_partly pending.old) }
+        ensures marks { listing_of pending.new ≡ listing_of pending.old }
+        ensures limits { limits_of self.new ≡ limits_of self.old }
+    {
+        raise_marks(store.tree(), &self.boxes, pending, marked);
+        self.settle_changed(store, marked, pending);
+    }
+
+    /// Settles the places of a store in which pending objects alone may differ, each of which is listed. What
+    /// else is listed has entries.
+    fn settle_changed(&mut self, store: &Store, marked: &[Handle], pending: &mut Table<Mark>)
+        requires limits { limits_of self.old ≡ (scene_of store.now).limits }
+        requires listed { (k : ℕ) → is_pending pending.old k ≡ true → 0 < times marked.now k }
+        requires entries { (k : ℕ) → 0 < times marked.now k → is_pending pending.old k ≡ false →
+            is_some (value_at self.old.boxes k) ≡ true }
+        requires but { AreRightButChanged self.old (scene_of store.now)
+            (in_marked (is_pending pending.old) (scene_of store.now)) (is_pending pending.old) }
+        ensures settles { SettlesChanged self.old self.new (scene_of store.now) (is_pending pending.old) }
+        ensures marks { listing_of pending.new ≡ listing_of pending.old }
+        ensures limits { limits_of self.new ≡ limits_of self.old }
+    {
+        let tree = store.tree();
+        self.leave_gone(tree, marked);
+        self.enter_marked(store, marked);
+        self.renew_marked(store, marked, pending);
+        self.settle_marked(store, marked, pending);
+    }
+
+    /// Solves the tree in which an object lies that is marked, from the nearest one upward that stands by
+    /// itself, and nothing else. The answer is that one.
+    fn settle_at(&mut self, store: &Store, h: Handle) -> Handle
+        requires limits { limits_of self.old ≡ (scene_of store.now).limits }
+        requires there { has (handles_of (scene_of store.now).trees) h.0 ≡ true }
+        requires entries { (u : ℕ) → Encloses (handles_of (scene_of store.now).trees) u h.0 →
+            AreListed (listing_of self.old.boxes) (tree_at (handles_of (scene_of store.now).trees) u) }
+        requires boxes { (u : ℕ) → Encloses (handles_of (scene_of store.now).trees) u h.0 →
+            AreRenewed (scene_of store.now) self.old.boxes
+            (tree_at (handles_of (scene_of store.now).trees) u) }
+        ensures { SolvesTree self.old self.new (scene_of store.now) h.0 result.0 }
+    {
+        let tree = store.tree();
+        let (top, frame) = self.frame_of(tree, h);
+        solve_tree(
+            tree,
+            &mut self.boxes,
+            store,
+            &mut self.natural_widths,
+            &mut self.widths,
+            &mut self.natural_heights,
+            &mut self.positions,
+            &mut self.items,
+            top,
+            frame,
+        );
+        top
+    }
+
+    /// Settles what the mark of an object concerns, if it is there and its mark is pending.
+    fn settle_mark(&mut self, store: &Store, pending: &mut Table<Mark>, h: Handle)
+        requires limits { limits_of self.old ≡ (scene_of store.now).limits }
+        requires entries { AreListed (listing_of self.old.boxes)
+            (marked_trees (is_pending pending.old) (handles_of (scene_of store.now).trees)) }
+        requires boxes { AreRenewed (scene_of store.now) self.old.boxes
+            (marked_trees (is_pending pending.old) (handles_of (scene_of store.now).trees)) }
+        ensures settles { Settles self.old self.new (scene_of store.now)
+            (is_pending pending.old) (is_pending pending.new) }
+        ensures own { has (handles_of (scene_of store.now).trees) h.0 ≡ true →
+            is_pending pending.new h.0 ≡ false }
+        ensures marks { listing_of pending.new ≡ listing_of pending.old }
+    {
+        let tree = store.tree();
+        if !is_pending(pending, h) {
+            return;
+        }
+        if !tree.has(h) {
+            return;
+        }
+        let top = self.settle_at(store, h);
+        finish_tree(tree, pending, top);
+    }
+
+    /// Settles what the marks of these objects concern, of those that are there.
+    fn settle_marked(&mut self, store: &Store, marked: &[Handle], pending: &mut Table<Mark>)
+        requires limits { limits_of self.old ≡ (scene_of store.now).limits }
+        requires entries { AreListed (listing_of self.old.boxes)
+            (marked_trees (is_pending pending.old) (handles_of (scene_of store.now).trees)) }
+        requires boxes { AreRenewed (scene_of store.now) self.old.boxes
+            (marked_trees (is_pending pending.old) (handles_of (scene_of store.now).trees)) }
+        requires marked { (k : ℕ) → is_pending pending.old k ≡ true → 0 < times marked.now k }
+        ensures settles { Settles self.old self.new (scene_of store.now)
+            (is_pending pending.old) (is_pending pending.new) }
+        ensures all { (k : ℕ) → has (handles_of (scene_of store.now).trees) k ≡ true →
+            is_pending pending.new k ≡ false }
+        ensures marks { listing_of pending.new ≡ listing_of pending.old }
+    {
+        for h in marked {
+            self.settle_mark(store, pending, *h);
         }
     }
 
@@ -548,6 +810,7 @@ impl Places {
         requires listed { numbers self.old.listed.items ≡ preorder (handles_of (scene_of store.now).trees) }
         requires boxes { HoldsBoxes self.old.boxes (scene_of store.now) }
         ensures settled { AreSettled self.new (scene_of store.now) }
+        ensures naturals { (h : ℕ) → naturals_at self.new h ≡ naturals (scene_of store.now) h }
         ensures limits { limits_of self.new ≡ limits_of self.old }
     {
         solve_trees(

@@ -333,7 +333,7 @@ fn fill_flow(
     requires once { StandsOnce tree.now.forest }
     requires few { size tree.now.forest ≤ 4000 }
     requires capacity { size tree.now.forest ≤ vec_capacity items.old }
-    requires listed_boxes { AreListed (listing_of boxes.now) tree.now.forest }
+    requires listed_boxes { AreListed (listing_of boxes.now) (tree_at tree.now.forest h.0) }
     ensures items { items_of items.new.items
         ≡ map (flow_item course room) (taking_part tall_box
         (tall_kids boxes.now widths.now naturals.now tree.now.forest h.0)) }
@@ -369,7 +369,7 @@ fn place_flow(
     requires once { StandsOnce tree.now.forest }
     requires few { size tree.now.forest ≤ 4000 }
     requires capacity { size tree.now.forest ≤ vec_capacity items.old }
-    requires listed_boxes { AreListed (listing_of boxes.now) tree.now.forest }
+    requires listed_boxes { AreListed (listing_of boxes.now) (tree_at tree.now.forest h.0) }
     ensures slots { map (item_slot (course_of own.now.flow) (room_in inside)) items.new.items
         ≡ flow_slots (box_of h.0 own.now) (room_in inside) (taking_part tall_box
         (tall_kids boxes.now widths.now naturals.now tree.now.forest h.0)) }
@@ -426,8 +426,8 @@ fn deal_positions(
     inside: Inside,
 )
     requires once { StandsOnce tree.now.forest }
-    requires listed { AreListed (listing_of places.old) tree.now.forest }
-    requires listed_boxes { AreListed (listing_of boxes.now) tree.now.forest }
+    requires listed { AreListed (listing_of places.old) (tree_at tree.now.forest h.0) }
+    requires listed_boxes { AreListed (listing_of boxes.now) (tree_at tree.now.forest h.0) }
     ensures deals { Deals (box_at boxes.now) (sizes_of widths.now) (sizes_of naturals.now) (room_in inside)
         (slots_of places.old) (slots_of places.new) (children_of tree.now.forest h.0)
         (map (item_slot course (room_in inside)) items.now) }
@@ -494,11 +494,11 @@ fn set_kid_positions(
     h: Handle,
 )
     requires once { StandsOnce tree.now.forest }
-    requires listed { AreListed (listing_of places.old) tree.now.forest }
+    requires listed { AreListed (listing_of places.old) (tree_at tree.now.forest h.0) }
     requires few { size tree.now.forest ≤ 4000 }
     requires capacity { size tree.now.forest ≤ vec_capacity items.old }
     requires room { HasRoom (slot_at (slots_of places.old) h.0) 1 }
-    requires listed_boxes { AreListed (listing_of boxes.now) tree.now.forest }
+    requires listed_boxes { AreListed (listing_of boxes.now) (tree_at tree.now.forest h.0) }
     requires there { has tree.now.forest h.0 ≡ true }
     ensures kids { at_roots (slots_of places.new) (children_of tree.now.forest h.0)
         ≡ kid_slots (tall_at (box_at boxes.now) (sizes_of widths.now) (sizes_of naturals.now) h.0)
@@ -538,12 +538,12 @@ pub(crate) fn find_places(
     h: Handle,
 )
     requires once { StandsOnce tree.now.forest }
-    requires listed { AreListed (listing_of places.old) tree.now.forest }
+    requires listed { AreListed (listing_of places.old) (tree_at tree.now.forest h.0) }
     requires few { size tree.now.forest ≤ 4000 }
     requires there { has tree.now.forest h.0 ≡ true }
     requires capacity { size tree.now.forest ≤ vec_capacity items.old }
     requires room { HasRoom (slot_at (slots_of places.old) h.0) (height (tree_at tree.now.forest h.0)) }
-    requires listed_boxes { AreListed (listing_of boxes.now) tree.now.forest }
+    requires listed_boxes { AreListed (listing_of boxes.now) (tree_at tree.now.forest h.0) }
     ensures found { HoldsSlots (box_at boxes.now) (sizes_of widths.now) (sizes_of naturals.now)
         (slot_at (slots_of places.old) h.0 ∷ []) (slots_of places.new) (tree_at tree.now.forest h.0) }
     ensures others { KeepsOthers nowhere (slots_of places.old) (slots_of places.new)

@@ -4,7 +4,8 @@ ghost use Rattle.gui_base.specs.Forest.{StandsOnce, has, height, size, tree_at};
 ghost use Rattle.gui_store.specs.Views.{scene_of};
 ghost use Rattle.gui_layout.specs.Frames.{FrameIsNearby, StandsIn};
 ghost use Rattle.gui_layout.specs.Layouts.{told, KeepsRest};
-ghost use Rattle.gui_layout.specs.Scenes.{scene_box, HoldsBoxes};
+ghost use Rattle.gui_layout.specs.Renewed.{AreRenewed, KeepsRenewed};
+ghost use Rattle.gui_layout.specs.Scenes.{scene_box};
 ghost use Rattle.gui_layout.specs.Settled.{known, known_at, AllFit};
 ghost use Rattle.gui_layout.specs.Tables.{listing_of, AreListed};
 
@@ -40,12 +41,12 @@ pub(crate) fn solve_tree(
     frame: Frame,
 )
     requires once { StandsOnce tree.now.forest }
-    requires boxes { HoldsBoxes boxes.old (scene_of store.now) }
-    requires listed_boxes { AreListed (listing_of boxes.old) tree.now.forest }
-    requires listed { AreListed (listing_of natural_widths.old) tree.now.forest }
-    requires listed_widths { AreListed (listing_of widths.old) tree.now.forest }
-    requires listed_heights { AreListed (listing_of natural_heights.old) tree.now.forest }
-    requires listed_places { AreListed (listing_of places.old) tree.now.forest }
+    requires boxes { AreRenewed (scene_of store.now) boxes.old (tree_at tree.now.forest h.0) }
+    requires listed_boxes { AreListed (listing_of boxes.old) (tree_at tree.now.forest h.0) }
+    requires listed { AreListed (listing_of natural_widths.old) (tree_at tree.now.forest h.0) }
+    requires listed_widths { AreListed (listing_of widths.old) (tree_at tree.now.forest h.0) }
+    requires listed_heights { AreListed (listing_of natural_heights.old) (tree_at tree.now.forest h.0) }
+    requires listed_places { AreListed (listing_of places.old) (tree_at tree.now.forest h.0) }
     requires few { size tree.now.forest ≤ 4000 }
     requires low { height tree.now.forest ≤ 16 }
     requires there { has tree.now.forest h.0 ≡ true }
@@ -57,7 +58,7 @@ pub(crate) fn solve_tree(
         (told natural_widths.new widths.new natural_heights.new places.new) h.0) }
     ensures others { KeepsRest (told natural_widths.old widths.old natural_heights.old places.old)
         (told natural_widths.new widths.new natural_heights.new places.new) (tree_at tree.now.forest h.0) }
-    ensures boxes { HoldsBoxes boxes.new (scene_of store.now) }
+    ensures boxes { KeepsRenewed (scene_of store.now) boxes.old boxes.new }
     ensures listed_boxes { listing_of boxes.new ≡ listing_of boxes.old }
     ensures listed { listing_of natural_widths.new ≡ listing_of natural_widths.old }
     ensures listed_widths { listing_of widths.new ≡ listing_of widths.old }

@@ -127,7 +127,7 @@ fn fill_row(
     requires few { size tree.now.forest ≤ 4000 }
     requires found { BelowHaveWidths boxes.now naturals.now tree.now.forest h.0 }
     requires capacity { size tree.now.forest ≤ vec_capacity items.old }
-    requires listed_boxes { AreListed (listing_of boxes.now) tree.now.forest }
+    requires listed_boxes { AreListed (listing_of boxes.now) (tree_at tree.now.forest h.0) }
     ensures items { items_of items.new.items
         ≡ map (width_item room) (taking_part wide_box (wide_kids boxes.now tree.now.forest h.0)) }
     ensures few { vec_len items.new ≤ 4000 }
@@ -158,9 +158,9 @@ fn deal_widths(
     room: u16,
 )
     requires once { StandsOnce tree.now.forest }
-    requires listed { AreListed (listing_of widths.old) tree.now.forest }
+    requires listed { AreListed (listing_of widths.old) (tree_at tree.now.forest h.0) }
     requires found { BelowHaveWidths boxes.now naturals.now tree.now.forest h.0 }
-    requires listed_boxes { AreListed (listing_of boxes.now) tree.now.forest }
+    requires listed_boxes { AreListed (listing_of boxes.now) (tree_at tree.now.forest h.0) }
     ensures dealt { map (slice_index (sizes_of widths.new)) (roots (children_of tree.now.forest h.0))
         ≡ dealt wide_box (width_in room) (wide_kids boxes.now tree.now.forest h.0)
         (main_sizes (items_of items.now)) }
@@ -201,7 +201,7 @@ fn row_shares(
     requires found { BelowHaveWidths boxes.now naturals.now tree.now.forest h.0 }
     requires capacity { size tree.now.forest ≤ vec_capacity items.old }
     requires room { room ≤ 8191 }
-    requires listed_boxes { AreListed (listing_of boxes.now) tree.now.forest }
+    requires listed_boxes { AreListed (listing_of boxes.now) (tree_at tree.now.forest h.0) }
     ensures dealt { let kids = wide_kids boxes.now tree.now.forest h.0
         in dealt wide_box (width_in room) kids (main_sizes (items_of items.new.items))
         ≡ kid_widths_by (course_of own.now.flow) (box_of h.0 own.now) room kids }
@@ -228,11 +228,11 @@ fn set_kid_widths(
     h: Handle,
 )
     requires once { StandsOnce tree.now.forest }
-    requires listed { AreListed (listing_of widths.old) tree.now.forest }
+    requires listed { AreListed (listing_of widths.old) (tree_at tree.now.forest h.0) }
     requires few { size tree.now.forest ≤ 4000 }
     requires found { BelowHaveWidths boxes.now naturals.now tree.now.forest h.0 }
     requires capacity { size tree.now.forest ≤ vec_capacity items.old }
-    requires listed_boxes { AreListed (listing_of boxes.now) tree.now.forest }
+    requires listed_boxes { AreListed (listing_of boxes.now) (tree_at tree.now.forest h.0) }
     requires there { has tree.now.forest h.0 ≡ true }
     ensures kids { map (slice_index (sizes_of widths.new)) (roots (children_of tree.now.forest h.0))
         ≡ kid_widths (box_at boxes.now h.0) (slice_index (sizes_of widths.old) h.0)
@@ -258,13 +258,13 @@ pub(crate) fn find_widths(
     h: Handle,
 )
     requires once { StandsOnce tree.now.forest }
-    requires listed { AreListed (listing_of widths.old) tree.now.forest }
+    requires listed { AreListed (listing_of widths.old) (tree_at tree.now.forest h.0) }
     requires few { size tree.now.forest ≤ 4000 }
     requires there { has tree.now.forest h.0 ≡ true }
     requires naturals_found { HoldsNaturalWidths (box_at boxes.now) (sizes_of naturals.now)
         (tree_at tree.now.forest h.0) }
     requires capacity { size tree.now.forest ≤ vec_capacity items.old }
-    requires listed_boxes { AreListed (listing_of boxes.now) tree.now.forest }
+    requires listed_boxes { AreListed (listing_of boxes.now) (tree_at tree.now.forest h.0) }
     ensures found { HoldsWidths (box_at boxes.now) (slice_index (sizes_of widths.old) h.0 ∷ [])
         (sizes_of widths.new) (tree_at tree.now.forest h.0) }
     ensures others { KeepsOthers 0 (sizes_of widths.old) (sizes_of widths.new) (tree_at tree.now.forest h.0) }

@@ -5,7 +5,7 @@ ghost use Rattle.gui_store.specs.Views.{scene_of};
 ghost use Rattle.gui_layout.specs.Solved.{AreSolved, limits_of};
 
 use gui_base::{Area, Flag, Flow, Handle, Kind, Length, Limits};
-use gui_layout::Places;
+use gui_layout::{Marks, Places};
 use gui_store::Store;
 use scene_defs::Change;
 use std::alloc::Global;
@@ -173,5 +173,25 @@ fn removed_objects_have_no_place(rt: HostRuntime) -> Result<(), Fail> {
     let places = solved_again(rt.alloc())?;
     assert!(rt; places.place(Handle(11)).is_none());
     assert!(rt; stand(&places, &[(12, [0, 0, 4, 4]), (13, [0, 0, 99, 49])]));
+    Ok(())
+}
+
+/// Places that were settled after that, with no marks.
+fn settled_unmarked(alloc: Global) -> Result<Places, &'static str> {
+    let mut store = changed(alloc, &Limits::with_sizes(16, 8, 8), &REMOVED)?;
+    let mut places = solved(alloc, &store)?;
+    remove(&mut store)?;
+    let Ok(mut marks) = Marks::open(alloc, 4) else {
+        return Err("no memory");
+    };
+    places.settle_marks(&store, &mut marks);
+    Ok(places)
+}
+
+#[test]
+fn with_no_marks_all_places_stay(rt: HostRuntime) -> Result<(), Fail> {
+    let places = settled_unmarked(rt.alloc())?;
+    assert!(rt; stand(&places, &[(10, [0, 0, 3, 3]), (12, [0, 0, 4, 4])]));
+    assert!(rt; places.place(Handle(13)).is_none());
     Ok(())
 }

@@ -6,6 +6,9 @@ use Rattle.gui_layout.specs.Settled.{Layout, known, AllFit}
 use Rattle.gui_store.specs.Views.{scene_of}
 use Rattle.gui_layout.specs.Scenes.{scene_box}
 use Rattle.gui_layout.proofs.Parts.{whole, distinct_once, distinct-part, has-part, here, first_of, IsHead, next_head, next_first, IsNext, GoesOn, trees_from, trees_from-first_of, walk_goes_on}
+use Rattle.gui_layout.proofs.Renewals.{holds-still, renewed-in}
+use Rattle.gui_layout.specs.Tables.{Listing, IsListed, AreListed}
+use Rattle.gui_layout.proofs.Settling.{tree-in}
 use Rattle.gui_layout.proofs.Solves.{Solves, solves_none, solves_first}
 use Rattle.gui_layout.proofs.all.solve_trees.Goals as goal
 use Rattle.gui_layout.proofs.all.solve_trees.Goals.{In-Some, After-next-next}
@@ -31,6 +34,27 @@ loop-next-init c =
 
 head : (c : In-Some) → IsHead c.args.tree.now.forest c.in-Some.root
 head c = next_head c.args.tree.now.forest c.in-Some.root (subst (IsNext c.args.tree.now.forest) c.in-Some.is c.loop-next.invariant.next_is)
+
+pub solve_tree-requires-clause-boxes : goal.solve_tree-requires-clause-boxes
+solve_tree-requires-clause-boxes c =
+    let f = c.args.tree.now.forest in
+    let inv = c.loop-next.invariant in
+    renewed-in (scene_of c.args.store.now) c.loop-next.boxes f c.in-Some.root.0 inv.boxes (subst (λ (ks : Listing). AreListed ks f) (sym inv.listed_boxes) c.requires.listed_boxes)
+
+pub solve_tree-requires-clause-listed_boxes : goal.solve_tree-requires-clause-listed_boxes
+solve_tree-requires-clause-listed_boxes c k i = subst (λ (ks : Listing). IsListed ks k) (sym c.loop-next.invariant.listed_boxes) (c.requires.listed_boxes k (tree-in c.in-Some.root.0 k c.args.tree.now.forest i))
+
+pub solve_tree-requires-clause-listed : goal.solve_tree-requires-clause-listed
+solve_tree-requires-clause-listed c k i = subst (λ (ks : Listing). IsListed ks k) (sym c.loop-next.invariant.listed) (c.requires.listed k (tree-in c.in-Some.root.0 k c.args.tree.now.forest i))
+
+pub solve_tree-requires-clause-listed_widths : goal.solve_tree-requires-clause-listed_widths
+solve_tree-requires-clause-listed_widths c k i = subst (λ (ks : Listing). IsListed ks k) (sym c.loop-next.invariant.listed_widths) (c.requires.listed_widths k (tree-in c.in-Some.root.0 k c.args.tree.now.forest i))
+
+pub solve_tree-requires-clause-listed_heights : goal.solve_tree-requires-clause-listed_heights
+solve_tree-requires-clause-listed_heights c k i = subst (λ (ks : Listing). IsListed ks k) (sym c.loop-next.invariant.listed_heights) (c.requires.listed_heights k (tree-in c.in-Some.root.0 k c.args.tree.now.forest i))
+
+pub solve_tree-requires-clause-listed_places : goal.solve_tree-requires-clause-listed_places
+solve_tree-requires-clause-listed_places c k i = subst (λ (ks : Listing). IsListed ks k) (sym c.loop-next.invariant.listed_places) (c.requires.listed_places k (tree-in c.in-Some.root.0 k c.args.tree.now.forest i))
 
 pub solve_tree-requires-clause-there : goal.solve_tree-requires-clause-there
 solve_tree-requires-clause-there c =
@@ -71,7 +95,7 @@ loop-next-preserved c =
     } in
     record {
       next_is = g.next_is;
-      boxes = c.solve_tree.ensures.boxes;
+      boxes = holds-still (scene_of c.args.store.now) c.loop-next.boxes c.solve_tree.new.boxes inv.boxes c.solve_tree.ensures.boxes c.solve_tree.ensures.listed_boxes;
       listed_boxes = c.solve_tree.ensures.listed_boxes ∙ inv.listed_boxes;
       listed = c.solve_tree.ensures.listed ∙ inv.listed;
       listed_widths = c.solve_tree.ensures.listed_widths ∙ inv.listed_widths;

@@ -3,13 +3,15 @@ use Rattle.std.specs.List.{fold}
 use Rattle.gui_base.specs.Forest.{Forest, Empty, Tree, children_of, roots, size, tree_at}
 use Rattle.gui_base.specs.declared.Handle.{Handle}
 use Rattle.gui_layout.proofs.Listed.{sizes_short}
-use Rattle.gui_layout.specs.Tables.{Listing, IsListed, sizes_of, AreListed}
+use Rattle.gui_layout.specs.Tables.{Listing, IsListed, listing_of, sizes_of, AreListed}
 use Rattle.gui_layout.specs.Views.{box_at}
 use Rattle.layout_defs.specs.Boxes.{Box}
 use Rattle.layout_defs.specs.Solving.{natural_height}
 use Rattle.layout_defs.specs.Tables.{KeepsOthers}
 use Rattle.gui_layout.specs.Talls.{HoldsNaturalHeights, heights_of}
+use Rattle.gui_layout.proofs.Climbing.{in_own_tree}
 use Rattle.gui_layout.proofs.Parts.{distinct_once, distinct-part, has-part, here, IsHead, next_head, IsNext, GoesOn, trees_from, walk_begins, walk_goes_on, there, found, part_children, size-part}
+use Rattle.gui_layout.proofs.Within.{begins_within, child_within, goes_within, tree_within}
 use Rattle.layout_defs.specs.declared.Course.{Course}
 use Rattle.gui_layout.specs.Columns.{with_kid_down, kids_column}
 use Rattle.gui_layout.specs.Rows.{row_of}
@@ -31,6 +33,7 @@ loop-next-init t c =
     let most = c.requires.few in
     record {
       next_is = begins.next_is;
+      inside = begins_within f c.args.h.0 c.first_child-next.result begins.all;
       small = rw (begins.all, known.children, known.tree) (omega arith);
       few = rw begins.all (omega arith);
       sized = omega arith;
@@ -50,7 +53,7 @@ pub known_box-kid-requires : goal.known_box-kid-requires
 known_box-kid-requires t c =
     let e = head t (goal.at.known_box-kid-requires t c).In-Some in
     let h = c.in-Some.child.0 in
-    c.requires.listed_boxes h (has-part e.part h (here h e.children e.rest))
+    c.requires.listed_boxes h (child_within c.args.tree.now.forest (tree_at c.args.tree.now.forest c.args.h.0) c.in-Some.child c.loop-next.next c.in-Some.is c.loop-next.invariant.inside e)
 
 pub find_natural_heights-natural-requires : goal.find_natural_heights-natural-requires
 find_natural_heights-natural-requires t c =
@@ -60,10 +63,12 @@ find_natural_heights-natural-requires t c =
     let known = found e.part (distinct_once f c.requires.once) in
     let small : size (Tree c.in-Some.child.0 e.children e.rest) < size (tree_at f c.args.h.0) = rw (c.in-Some.is, e.is) at c.loop-next.invariant.small in
     let smaller : size (tree_at f c.in-Some.child.0) < size (tree_at f c.args.h.0) = rw known.tree (omega arith) in
-    let listed = subst (λ (ks : Listing). AreListed ks f) (sym c.loop-next.invariant.listed) c.requires.listed in
+    let lies = tree_within f (tree_at f c.args.h.0) c.in-Some.child c.loop-next.next c.in-Some.is c.loop-next.invariant.inside (distinct_once f c.requires.once) e in
+    let listed : AreListed (listing_of c.loop-next.naturals) (tree_at f c.in-Some.child.0) = λ k i. subst (λ (ks : Listing). IsListed ks k) (sym c.loop-next.invariant.listed) (c.requires.listed k (lies k i)) in
+    let boxes : AreListed (listing_of c.args.boxes.now) (tree_at f c.in-Some.child.0) = λ k i. c.requires.listed_boxes k (lies k i) in
     let capacity = c.loop-next.invariant.capacity in
     let room = c.requires.capacity in
-    (search rules, (c.requires.once, (listed, (c.requires.few, (has-part e.part c.in-Some.child.0 (here c.in-Some.child.0 e.children e.rest), (omega arith, (c.known_box-kid.ensures, c.requires.listed_boxes)))))))
+    (search rules, (c.requires.once, (listed, (c.requires.few, (has-part e.part c.in-Some.child.0 (here c.in-Some.child.0 e.children e.rest), (omega arith, (c.known_box-kid.ensures, boxes)))))))
 
 goes : (t : ℕ) (c : After-next-next t) → GoesOn c.args.tree.now.forest c.in-Some.child c.next-next.result
 goes t c =
@@ -107,6 +112,7 @@ loop-next-preserved t c =
     let kid = found_is c.args.boxes.now w h width _ c.known_box-kid.result.now g.children c.known_box-kid.ensures refl natural in
     record {
       next_is = g.next_is;
+      inside = goes_within f (tree_at f c.args.h.0) c.in-Some.child c.loop-next.next c.in-Some.is inv.inside c.next-next.result g;
       small = rw g.later (omega arith);
       few = rw g.later (omega arith);
       sized = c.with_kid-row.ensures.size;
@@ -156,7 +162,7 @@ all_found t c =
     let b = (sizes_of c.loop-next.naturals) in
     let n = c.natural_height-natural.result in
     let below : Heightens box (sizes_of c.args.widths.now) a b at.children = subst (Heightens box (sizes_of c.args.widths.now) a b) known.children (below_found t (goal.at.After-set_size t c).In_default) in
-    let listed = subst (λ (ks : Listing). IsListed ks h) (sym c.loop-next.invariant.listed) (c.requires.listed h c.requires.there) in
+    let listed = subst (λ (ks : Listing). IsListed ks h) (sym c.loop-next.invariant.listed) (c.requires.listed h (in_own_tree f h c.requires.once c.requires.there)) in
     let short = sizes_short c.loop-next.naturals h listed in
     let is : n ≡ natural_height (record (box h) { handle = h }) (get_or (sizes_of c.args.widths.now) h 0) (roots (heights_of box (sizes_of c.args.widths.now) at.children)) =
     c.natural_height-natural.ensures.value ∙ (ap (λ (t : Forest ℕ). natural_height (box h) (get_or (sizes_of c.args.widths.now) h 0) (roots (heights_of box (sizes_of c.args.widths.now) t))) known.children ∙ ap (λ (b : Box). natural_height b (get_or (sizes_of c.args.widths.now) h 0) (roots (heights_of box (sizes_of c.args.widths.now) at.children))) (sym (named c.args.boxes.now h))) in
@@ -169,4 +175,4 @@ pub returns-clause-others : goal.returns-clause-others
 returns-clause-others t c = (all_found t (goal.at.returns-clause-others t c).After-set_size).others
 
 pub set_size-requires-clause-listed : goal.set_size-requires-clause-listed
-set_size-requires-clause-listed t c = subst (λ (ks : Listing). IsListed ks c.args.h.0) (sym c.loop-next.invariant.listed) (c.requires.listed c.args.h.0 c.requires.there)
+set_size-requires-clause-listed t c = subst (λ (ks : Listing). IsListed ks c.args.h.0) (sym c.loop-next.invariant.listed) (c.requires.listed c.args.h.0 (in_own_tree c.args.tree.now.forest c.args.h.0 c.requires.once c.requires.there))

@@ -7,6 +7,7 @@ use Rattle.gui_layout.specs.Talls.{heights_of}
 use Rattle.gui_layout.specs.Tables.{sizes_of, listing_of}
 use Rattle.gui_layout.specs.Views.{box_at}
 use Rattle.gui_layout.proofs.Parts.{IsNext, trees_from}
+use Rattle.gui_layout.proofs.Within.{LieIn}
 use Rattle.gui_layout.proofs.Heightens.{Heightens}
 use Rattle.gui_layout.proofs.heights.+find_natural_heights.Given as goal
 
@@ -20,6 +21,7 @@ invariant-loop-next l =
     let box = box_at l.boxes in
     record {
       next_is : IsNext f l.next;
+      inside : LieIn (trees_from l.next f) (tree_at f l.h.0);
       small : size trees < size (tree_at f l.h.0);
       few : l.row.count + size trees ≤ 4000;
       sized : l.row.size ≤ 70000 * l.row.count;

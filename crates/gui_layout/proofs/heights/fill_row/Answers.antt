@@ -1,12 +1,13 @@
 use Rattle.std.proofs.Common.{◌≡◌, ◌≤◌, ◌+◌, ◌∙◌, ◌++◌, ◌∷◌, sym, ap, subst, refl, ℕ, Option, map, vec_len, append_assoc, arith}
-use Rattle.gui_base.specs.Forest.{Forest, Tree, roots, size}
+use Rattle.gui_base.specs.Forest.{Forest, Tree, roots, size, tree_at}
 use Rattle.gui_base.specs.declared.Handle.{Handle}
 use Rattle.layout_defs.specs.Solving.{Tall, tall_box, taking_part, height_item}
 use Rattle.gui_flex.specs.Items.{items_of}
 use Rattle.gui_layout.specs.Tables.{sizes_of}
 use Rattle.gui_layout.specs.Views.{box_at}
 use Rattle.gui_layout.specs.Talls.{HoldsNaturalHeights, heights_of}
-use Rattle.gui_layout.proofs.Parts.{distinct_once, has-part, here, IsHead, next_head, IsNext, GoesOn, trees_from, walk_begins, walk_goes_on, part_children, size-part}
+use Rattle.gui_layout.proofs.Parts.{distinct_once, IsHead, next_head, IsNext, GoesOn, trees_from, walk_begins, walk_goes_on, part_children, size-part}
+use Rattle.gui_layout.proofs.Within.{begins_within, child_within, goes_within}
 use Rattle.gui_layout.proofs.Columns.{found_is}
 use Rattle.gui_layout.proofs.Lists.{part_taken_by}
 use Rattle.gui_layout.proofs.heights.fill_row.Goals as goal
@@ -35,6 +36,7 @@ loop-next-init c =
     let none = c.clear.ensures.len in
     record {
       next_is = begins.next_is;
+      inside = begins_within f c.args.h.0 c.first_child-next.result begins.all;
       few = rw begins.all (omega arith);
       capacity = c.clear.ensures.capacity;
       holds = subst (HoldsNaturalHeights box (sizes_of c.args.widths.now) (sizes_of c.args.naturals.now)) (sym begins.all) c.requires.found;
@@ -56,6 +58,7 @@ loop-next-preserved c =
     let kid = found_is c.args.boxes.now (sizes_of c.args.widths.now) h _ _ c.known_box.result.now g.children c.known_box.ensures c.size_at.ensures.value (c.size_at-in-Some.ensures.value ∙ holds.0) in
     record {
       next_is = g.next_is;
+      inside = goes_within c.args.tree.now.forest (tree_at c.args.tree.now.forest c.args.h.0) c.in-Some.child c.loop-next.next c.in-Some.is inv.inside c.next-next.result g;
       few = rw g.later (omega arith);
       capacity = c.push_kid.ensures.capacity ∙ inv.capacity;
       holds = subst (HoldsNaturalHeights box (sizes_of c.args.widths.now) (sizes_of c.args.naturals.now)) (sym g.later) holds.2;
@@ -72,4 +75,4 @@ pub known_box-requires : goal.known_box-requires
 known_box-requires c =
     let e = head (goal.at.known_box-requires c).In-Some in
     let h = c.in-Some.child.0 in
-    c.requires.listed_boxes h (has-part e.part h (here h e.children e.rest))
+    c.requires.listed_boxes h (child_within c.args.tree.now.forest (tree_at c.args.tree.now.forest c.args.h.0) c.in-Some.child c.loop-next.next c.in-Some.is c.loop-next.invariant.inside e)

@@ -1,11 +1,12 @@
 use Rattle.std.proofs.Common.{◌≡◌, ◌≤◌, ◌+◌, ◌++◌, map, vec_len, vec_capacity}
-use Rattle.gui_base.specs.Forest.{roots, size, children_of}
+use Rattle.gui_base.specs.Forest.{roots, size, tree_at, children_of}
 use Rattle.layout_defs.specs.Solving.{tall_box, taking_part, height_item}
 use Rattle.gui_flex.specs.Items.{items_of}
 use Rattle.gui_layout.specs.Tables.{sizes_of}
 use Rattle.gui_layout.specs.Views.{box_at}
 use Rattle.gui_layout.specs.Talls.{HoldsNaturalHeights, heights_of}
 use Rattle.gui_layout.proofs.Parts.{IsNext, trees_from}
+use Rattle.gui_layout.proofs.Within.{LieIn}
 use Rattle.gui_layout.proofs.heights.fill_row.Given as goal
 
 abbrev pub invariant-loop-next : goal.invariant-loop-next
@@ -15,6 +16,7 @@ invariant-loop-next l =
     let box = box_at l.boxes in
     record {
       next_is : IsNext f l.next;
+      inside : LieIn (trees_from l.next f) (tree_at f l.fn.h.0);
       few : vec_len l.items + size later ≤ size f;
       capacity : vec_capacity l.items ≡ vec_capacity l.fn.items;
       holds : HoldsNaturalHeights box (sizes_of l.widths) (sizes_of l.naturals) later;

@@ -3,13 +3,15 @@ use Rattle.std.specs.List.{fold}
 use Rattle.gui_base.specs.Forest.{Forest, Empty, Tree, children_of, roots, size, tree_at}
 use Rattle.gui_base.specs.declared.Handle.{Handle}
 use Rattle.gui_layout.proofs.Listed.{sizes_short}
-use Rattle.gui_layout.specs.Tables.{Listing, IsListed, sizes_of, AreListed}
+use Rattle.gui_layout.specs.Tables.{Listing, IsListed, listing_of, sizes_of, AreListed}
 use Rattle.gui_layout.specs.Views.{box_at}
 use Rattle.layout_defs.specs.Boxes.{Box}
 use Rattle.layout_defs.specs.Solving.{natural_width}
 use Rattle.layout_defs.specs.Tables.{KeepsOthers}
 use Rattle.gui_layout.specs.Found.{HoldsNaturalWidths, widths_of}
+use Rattle.gui_layout.proofs.Climbing.{in_own_tree}
 use Rattle.gui_layout.proofs.Parts.{distinct_once, distinct-part, has-part, here, IsHead, next_head, IsNext, GoesOn, trees_from, walk_begins, walk_goes_on, there, found, part_children, size-part}
+use Rattle.gui_layout.proofs.Within.{begins_within, child_within, goes_within, tree_within}
 use Rattle.layout_defs.specs.declared.Course.{Course}
 use Rattle.gui_layout.specs.Rows.{row_of, with_kid, kids_row}
 use Rattle.gui_layout.proofs.Kids.{named, first_kid}
@@ -29,6 +31,7 @@ loop-next-init t c =
     let most = c.requires.few in
     record {
       next_is = begins.next_is;
+      inside = begins_within f c.args.h.0 c.first_child-next.result begins.all;
       listed = refl;
       small = rw (begins.all, known.children, known.tree) (omega arith);
       few = rw begins.all (omega arith);
@@ -47,7 +50,7 @@ pub known_box-kid-requires : goal.known_box-kid-requires
 known_box-kid-requires t c =
     let e = head t (goal.at.known_box-kid-requires t c).In-Some in
     let h = c.in-Some.child.0 in
-    c.requires.listed_boxes h (has-part e.part h (here h e.children e.rest))
+    c.requires.listed_boxes h (child_within c.args.tree.now.forest (tree_at c.args.tree.now.forest c.args.h.0) c.in-Some.child c.loop-next.next c.in-Some.is c.loop-next.invariant.inside e)
 
 pub find_natural_widths-natural-requires : goal.find_natural_widths-natural-requires
 find_natural_widths-natural-requires t c =
@@ -57,8 +60,10 @@ find_natural_widths-natural-requires t c =
     let known = found e.part (distinct_once f c.requires.once) in
     let small : size (Tree c.in-Some.child.0 e.children e.rest) < size (tree_at f c.args.h.0) = rw (c.in-Some.is, e.is) at c.loop-next.invariant.small in
     let smaller : size (tree_at f c.in-Some.child.0) < size (tree_at f c.args.h.0) = rw known.tree (omega arith) in
-    let listed = subst (λ (ks : Listing). AreListed ks f) (sym c.loop-next.invariant.listed) c.requires.listed in
-    (search rules, (c.requires.once, (listed, (c.requires.few, (has-part e.part c.in-Some.child.0 (here c.in-Some.child.0 e.children e.rest), (c.known_box-kid.ensures, c.requires.listed_boxes))))))
+    let lies = tree_within f (tree_at f c.args.h.0) c.in-Some.child c.loop-next.next c.in-Some.is c.loop-next.invariant.inside (distinct_once f c.requires.once) e in
+    let listed : AreListed (listing_of c.loop-next.naturals) (tree_at f c.in-Some.child.0) = λ k i. subst (λ (ks : Listing). IsListed ks k) (sym c.loop-next.invariant.listed) (c.requires.listed k (lies k i)) in
+    let boxes : AreListed (listing_of c.args.boxes.now) (tree_at f c.in-Some.child.0) = λ k i. c.requires.listed_boxes k (lies k i) in
+    (search rules, (c.requires.once, (listed, (c.requires.few, (has-part e.part c.in-Some.child.0 (here c.in-Some.child.0 e.children e.rest), (c.known_box-kid.ensures, boxes))))))
 
 goes : (t : ℕ) (c : After-next-next t) → GoesOn c.args.tree.now.forest c.in-Some.child c.next-next.result
 goes t c =
@@ -98,6 +103,7 @@ loop-next-preserved t c =
     c.find_natural_widths-natural.ensures.value ∙ (ap (λ (t : Forest ℕ). natural_width (box h) (roots (widths_of box t))) g.below ∙ ap (λ (b : Box). natural_width b (roots (widths_of box g.children))) (sym (named c.args.boxes.now h))) in
     record {
       next_is = g.next_is;
+      inside = goes_within f (tree_at f c.args.h.0) c.in-Some.child c.loop-next.next c.in-Some.is inv.inside c.next-next.result g;
       listed = c.find_natural_widths-natural.ensures.listed ∙ inv.listed;
       small = rw g.later (omega arith);
       few = rw g.later (omega arith);
@@ -134,7 +140,7 @@ all_found t c =
     let n = c.natural_width-natural.result in
     let none : trees_from c.loop-next.next f ≡ Empty = ap (λ (o : Option Handle). trees_from o f) c.in_default.is in
     let below : Finds box a b at.children = subst (Finds box a b) known.children (c.loop-next.invariant.later b (subst (Finds box b b) (sym none) (finds_none box b))) in
-    let listed = subst (λ (ks : Listing). IsListed ks h) (sym c.loop-next.invariant.listed) (c.requires.listed h c.requires.there) in
+    let listed = subst (λ (ks : Listing). IsListed ks h) (sym c.loop-next.invariant.listed) (c.requires.listed h (in_own_tree f h c.requires.once c.requires.there)) in
     let short = sizes_short c.loop-next.naturals h listed in
     let is : n ≡ natural_width (record (box h) { handle = h }) (roots (widths_of box at.children)) =
     width_is t (goal.at.After-set_size t c).After-natural_width-natural ∙ (ap (λ (t : Forest ℕ). natural_width (box h) (roots (widths_of box t))) known.children ∙ ap (λ (b : Box). natural_width b (roots (widths_of box at.children))) (sym (named c.args.boxes.now h))) in
@@ -150,4 +156,4 @@ pub returns-clause-others : goal.returns-clause-others
 returns-clause-others t c = (all_found t (goal.at.returns-clause-others t c).After-set_size).others
 
 pub set_size-requires-clause-listed : goal.set_size-requires-clause-listed
-set_size-requires-clause-listed t c = subst (λ (ks : Listing). IsListed ks c.args.h.0) (sym c.loop-next.invariant.listed) (c.requires.listed c.args.h.0 c.requires.there)
+set_size-requires-clause-listed t c = subst (λ (ks : Listing). IsListed ks c.args.h.0) (sym c.loop-next.invariant.listed) (c.requires.listed c.args.h.0 (in_own_tree c.args.tree.now.forest c.args.h.0 c.requires.once c.requires.there))

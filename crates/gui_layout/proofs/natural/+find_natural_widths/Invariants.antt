@@ -6,6 +6,7 @@ use Rattle.gui_layout.specs.Rows.{row_of, with_kid, kids_row}
 use Rattle.gui_layout.specs.Tables.{sizes_of, listing_of}
 use Rattle.gui_layout.specs.Views.{box_at}
 use Rattle.gui_layout.proofs.Parts.{IsNext, trees_from}
+use Rattle.gui_layout.proofs.Within.{LieIn}
 use Rattle.gui_layout.proofs.Finds.{Finds}
 use Rattle.gui_layout.proofs.natural.+find_natural_widths.Given as goal
 
@@ -19,6 +20,7 @@ invariant-loop-next l =
     let box = box_at l.boxes in
     record {
       next_is : IsNext f l.next;
+      inside : LieIn (trees_from l.next f) (tree_at f l.h.0);
       listed : listing_of l.naturals ≡ listing_of l.fn.naturals;
       small : size trees < size (tree_at f l.h.0);
       few : l.row.count + size trees ≤ 4000;

@@ -6,14 +6,20 @@ use Rattle.gui_store.specs.Views.{scene_of}
 use Rattle.gui_layout.specs.declared.layout_box.LayoutBox.{LayoutBox}
 use Rattle.gui_layout.specs.OwnHeights.{IsFixed, AreFixed}
 use Rattle.gui_layout.specs.Scenes.{scene_box}
-use Rattle.gui_layout.specs.Tables.{Listing, sizes_of, AreListed}
+use Rattle.gui_layout.specs.Tables.{Listing, IsListed, listing_of, sizes_of, AreListed}
+use Rattle.gui_layout.proofs.Climbing.{in_own_tree}
 use Rattle.gui_layout.proofs.OwnHeights.{each_none, each_top, each_first}
+use Rattle.gui_layout.specs.Renewed.{AreRenewed}
 use Rattle.gui_layout.proofs.Parts.{distinct_once, has-part, here, IsHead, next_head, IsNext, GoesOn, trees_from, walk_begins, walk_goes_on, there, found}
+use Rattle.gui_layout.proofs.Within.{begins_within, goes_within, tree_within}
 use Rattle.gui_layout.proofs.own_heights.+set_own_heights.Goals as goal
 use Rattle.gui_layout.proofs.own_heights.+set_own_heights.Goals.{In-Some, After-next-next}
 
+pub set_own_height-requires-clause-boxes : goal.set_own_height-requires-clause-boxes
+set_own_height-requires-clause-boxes t c = c.requires.boxes c.args.h.0 (in_own_tree c.args.tree.now.forest c.args.h.0 c.requires.once c.requires.there)
+
 pub set_own_height-requires-clause-listed : goal.set_own_height-requires-clause-listed
-set_own_height-requires-clause-listed t c = c.requires.listed c.args.h.0 c.requires.there
+set_own_height-requires-clause-listed t c = c.requires.listed c.args.h.0 (in_own_tree c.args.tree.now.forest c.args.h.0 c.requires.once c.requires.there)
 
 pub loop-next-init : goal.loop-next-init
 loop-next-init t c =
@@ -27,6 +33,7 @@ loop-next-init t c =
     record {
       next_is = begins.next_is;
       small = rw (begins.all, known.children, known.tree) (omega arith);
+      inside = begins_within f c.args.h.0 c.first_child-next.result begins.all;
       boxes = c.set_own_height.ensures.boxes;
       listed = c.set_own_height.ensures.listed;
       kept = c.set_own_height.ensures.kept;
@@ -48,8 +55,11 @@ set_own_heights-requires t c =
     let known = found e.part (distinct_once f c.requires.once) in
     let small : size (Tree c.in-Some.child.0 e.children e.rest) < size (tree_at f c.args.h.0) = rw (c.in-Some.is, e.is) at c.loop-next.invariant.small in
     let smaller : size (tree_at f c.in-Some.child.0) < size (tree_at f c.args.h.0) = rw known.tree (omega arith) in
-    let listed = subst (λ (ks : Listing). AreListed ks f) (sym c.loop-next.invariant.listed) c.requires.listed in
-    (search rules, (c.requires.once, (listed, (has-part e.part c.in-Some.child.0 (here c.in-Some.child.0 e.children e.rest), c.loop-next.invariant.boxes))))
+    let inv = c.loop-next.invariant in
+    let lies = tree_within f (tree_at f c.args.h.0) c.in-Some.child c.loop-next.next c.in-Some.is inv.inside (distinct_once f c.requires.once) e in
+    let listed : AreListed (listing_of c.loop-next.boxes) (tree_at f c.in-Some.child.0) = λ k i. subst (λ (ks : Listing). IsListed ks k) (sym inv.listed) (c.requires.listed k (lies k i)) in
+    let renewed : AreRenewed (scene_of c.args.store.now) c.loop-next.boxes (tree_at f c.in-Some.child.0) = λ k i. inv.boxes k (c.requires.boxes k (lies k i)) in
+    (search rules, (c.requires.once, (listed, (has-part e.part c.in-Some.child.0 (here c.in-Some.child.0 e.children e.rest), renewed))))
 
 goes : (t : ℕ) (c : After-next-next t) → GoesOn c.args.tree.now.forest c.in-Some.child c.next-next.result
 goes t c =
@@ -79,7 +89,8 @@ loop-next-preserved t c =
     record {
       next_is = g.next_is;
       small = rw g.later (omega arith);
-      boxes = done.boxes;
+      inside = goes_within f (tree_at f c.args.h.0) c.in-Some.child c.loop-next.next c.in-Some.is inv.inside c.next-next.result g;
+      boxes = λ k was. done.boxes k (inv.boxes k was);
       listed = done.listed ∙ inv.listed;
       kept = λ k is. done.kept k (inv.kept k is);
       top = done.kept c.args.h.0 inv.top;

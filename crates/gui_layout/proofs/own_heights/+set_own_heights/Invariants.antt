@@ -4,9 +4,11 @@ use Rattle.gui_pool.specs.Table.{Table}
 use Rattle.gui_store.specs.Views.{scene_of}
 use Rattle.gui_layout.specs.declared.layout_box.LayoutBox.{LayoutBox}
 use Rattle.gui_layout.specs.OwnHeights.{IsFixed, AreFixed, KeepsFixed}
-use Rattle.gui_layout.specs.Scenes.{scene_box, HoldsBoxes}
+use Rattle.gui_layout.specs.Renewed.{KeepsRenewed}
+use Rattle.gui_layout.specs.Scenes.{scene_box}
 use Rattle.gui_layout.specs.Tables.{sizes_of, listing_of}
 use Rattle.gui_layout.proofs.Parts.{IsNext, trees_from}
+use Rattle.gui_layout.proofs.Within.{LieIn}
 use Rattle.gui_layout.proofs.own_heights.+set_own_heights.Given as goal
 
 abbrev pub decreases-set_own_heights : goal.decreases-set_own_heights
@@ -20,7 +22,8 @@ invariant-loop-next l =
     record {
       next_is : IsNext f l.next;
       small : size (trees_from l.next f) < size (tree_at f l.fn.h.0);
-      boxes : HoldsBoxes l.boxes (scene_of l.store);
+      inside : LieIn (trees_from l.next f) (tree_at f l.fn.h.0);
+      boxes : KeepsRenewed (scene_of l.store) l.fn.boxes l.boxes;
       listed : listing_of l.boxes ≡ listing_of l.fn.boxes;
       kept : KeepsFixed box w l.fn.boxes l.boxes;
       top : IsFixed box w l.boxes l.fn.h.0;

@@ -5,10 +5,11 @@ use Rattle.gui_base.specs.Forest.{Forest, Empty, Tree, roots, size, height, tree
 use Rattle.gui_base.specs.declared.Handle.{Handle}
 use Rattle.layout_defs.specs.Solving.{Slot, nowhere, kid_slots}
 use Rattle.layout_defs.specs.Tables.{KeepsOthers}
-use Rattle.gui_layout.specs.Tables.{Listing, sizes_of, AreListed}
+use Rattle.gui_layout.specs.Tables.{Listing, IsListed, listing_of, sizes_of, AreListed}
 use Rattle.gui_layout.specs.Views.{box_at}
 use Rattle.gui_layout.specs.Slots.{slots_of, slot_at, at_roots, tall_at, talls, HoldsSlots, IsBelow}
 use Rattle.gui_layout.proofs.Parts.{distinct_once, distinct-part, has-part, here, IsHead, next_head, IsNext, GoesOn, trees_from, walk_begins, walk_goes_on, there, found, leaf_is}
+use Rattle.gui_layout.proofs.Within.{begins_within, goes_within, tree_within}
 use Rattle.gui_layout.proofs.Stands.{Stands, stands_none, stands_first, stands_top, later_kept, room_below, room_fewer, stands_leaf}
 use Rattle.gui_layout.proofs.positions.+find_places.Goals as goal
 use Rattle.gui_layout.proofs.positions.+find_places.Goals.{In-Some, In_default, After-next-next, Then-is_none}
@@ -31,6 +32,7 @@ loop-next-init t c =
     let known = found at.part distinct in
     record {
       next_is = begins.next_is;
+      inside = begins_within f c.args.h.0 c.first_child-next.result begins.all;
       fewer = rw (begins.all, known.children, known.tree) (omega arith);
       lower = rw (begins.all, known.children, known.tree) (omega arith);
       listed = c.set_kid_positions.ensures.listed;
@@ -59,10 +61,12 @@ find_places-requires t c =
     let child = slot_at (slots_of c.loop-next.places) h in
     let near : All (IsBelow parent) (at_roots (slots_of c.loop-next.places) (Tree h e.children e.rest)) = subst (λ (g : Forest ℕ). All (IsBelow parent) (at_roots (slots_of c.loop-next.places) g)) now inv.near in
     let below : IsBelow parent child = All-head (IsBelow parent) child (at_roots (slots_of c.loop-next.places) e.rest) near in
-    let listed = subst (λ (ks : Listing). AreListed ks f) (sym inv.listed) c.requires.listed in
+    let lies = tree_within f (tree_at f c.args.h.0) c.in-Some.child c.loop-next.next c.in-Some.is c.loop-next.invariant.inside (distinct_once f c.requires.once) e in
+    let listed : AreListed (listing_of c.loop-next.places) (tree_at f c.in-Some.child.0) = λ k i. subst (λ (ks : Listing). IsListed ks k) (sym inv.listed) (c.requires.listed k (lies k i)) in
+    let boxes : AreListed (listing_of c.args.boxes.now) (tree_at f c.in-Some.child.0) = λ k i. c.requires.listed_boxes k (lies k i) in
     let capacity = inv.capacity in
     let room = c.requires.capacity in
-    (search rules, (c.requires.once, (listed, (c.requires.few, (has-part e.part h (here h e.children e.rest), (omega arith, (room_below parent child (height (tree_at f h)) (height (tree_at f c.args.h.0)) c.requires.room below low, c.requires.listed_boxes)))))))
+    (search rules, (c.requires.once, (listed, (c.requires.few, (has-part e.part h (here h e.children e.rest), (omega arith, (room_below parent child (height (tree_at f h)) (height (tree_at f c.args.h.0)) c.requires.room below low, boxes)))))))
 
 goes : (t : ℕ) (c : After-next-next t) → GoesOn c.args.tree.now.forest c.in-Some.child c.next-next.result
 goes t c =
@@ -101,6 +105,7 @@ loop-next-preserved t c =
     let all = distinct-part g.part distinct in
     record {
       next_is = g.next_is;
+      inside = goes_within f (tree_at f c.args.h.0) c.in-Some.child c.loop-next.next c.in-Some.is inv.inside c.next-next.result g;
       fewer = rw g.later (omega arith);
       lower = rw g.later (omega arith);
       listed = c.find_places.ensures.listed ∙ inv.listed;

@@ -6,6 +6,7 @@ use Rattle.gui_layout.specs.Tables.{sizes_of, listing_of}
 use Rattle.gui_layout.specs.Views.{box_at}
 use Rattle.gui_layout.specs.Slots.{slots_of, slot_at, at_roots, IsBelow}
 use Rattle.gui_layout.proofs.Parts.{IsNext, trees_from}
+use Rattle.gui_layout.proofs.Within.{LieIn}
 use Rattle.gui_layout.proofs.Stands.{Stands}
 use Rattle.gui_layout.proofs.positions.+find_places.Given as goal
 
@@ -18,6 +19,7 @@ invariant-loop-next l =
     let box = box_at l.boxes in
     record {
       next_is : IsNext f l.next;
+      inside : LieIn (trees_from l.next f) (tree_at f l.fn.h.0);
       fewer : size (trees_from l.next f) < size (tree_at f l.fn.h.0);
       lower : height (trees_from l.next f) + 1 ≤ height (tree_at f l.fn.h.0);
       listed : listing_of l.places ≡ listing_of l.fn.places;

@@ -1,12 +1,13 @@
 use Rattle.std.proofs.Common.{◌≡◌, ◌∙◌, sym, ap, subst, ℕ, List, Option, map, refl, drop, arith}
-use Rattle.gui_base.specs.Forest.{Forest, Empty, Tree, roots}
+use Rattle.gui_base.specs.Forest.{Forest, Empty, Tree, roots, tree_at}
 use Rattle.gui_base.specs.declared.Handle.{Handle}
 use Rattle.layout_defs.specs.Solving.{Slot}
 use Rattle.gui_layout.proofs.Listed.{slots_short}
 use Rattle.gui_layout.specs.Tables.{Listing, IsListed, sizes_of}
 use Rattle.gui_layout.specs.Views.{box_at}
 use Rattle.gui_layout.specs.Slots.{talls, slot_of, slots_of, room_in, item_slot, Deals}
-use Rattle.gui_layout.proofs.Parts.{distinct_once, distinct-part, has-part, here, IsHead, next_head, IsNext, GoesOn, trees_from, walk_begins, walk_goes_on}
+use Rattle.gui_layout.proofs.Parts.{distinct_once, distinct-part, IsHead, next_head, IsNext, GoesOn, trees_from, walk_begins, walk_goes_on}
+use Rattle.gui_layout.proofs.Within.{begins_within, child_within, goes_within}
 use Rattle.gui_layout.proofs.Flows.{tall_is, slots_none, slots_first}
 use Rattle.gui_layout.proofs.positions.deal_positions.Goals as goal
 use Rattle.gui_layout.proofs.positions.deal_positions.Goals.{In-Some, After-next-next}
@@ -30,6 +31,7 @@ loop-next-init c =
     let begins = walk_begins f c.args.h.0 c.first_child-next.result (distinct_once f c.requires.once) c.first_child-next.ensures in
     record {
       next_is = begins.next_is;
+      inside = begins_within f c.args.h.0 c.first_child-next.result begins.all;
       listed = refl;
       within = omega arith;
       later = λ (u : List Slot) rest. subst (λ (t : Forest ℕ). Deals (box_at c.args.boxes.now) (sizes_of c.args.widths.now) (sizes_of c.args.naturals.now) (room_in c.args.inside) (slots_of c.args.places.now) u t (map (item_slot c.args.course (room_in c.args.inside)) c.args.items.now)) begins.all rest;
@@ -49,9 +51,10 @@ loop-next-preserved c =
     let h = c.in-Some.child.0 in
     let p = c.dealt_position-later.result.0 in
     let a = slots_of c.loop-next.places in
-    let short = slots_short c.loop-next.places h (subst (λ (ks : Listing). IsListed ks h) (sym inv.listed) (c.requires.listed h (has-part g.part h (here h g.children g.rest)))) in
+    let short = slots_short c.loop-next.places h (subst (λ (ks : Listing). IsListed ks h) (sym inv.listed) (c.requires.listed h (child_within f (tree_at f c.args.h.0) c.in-Some.child c.loop-next.next c.in-Some.is inv.inside (next_head f c.in-Some.child (subst (IsNext f) c.in-Some.is inv.next_is))))) in
     record {
       next_is = g.next_is;
+      inside = goes_within f (tree_at f c.args.h.0) c.in-Some.child c.loop-next.next c.in-Some.is inv.inside c.next-next.result g;
       listed = c.set_position.ensures.listed ∙ inv.listed;
       within = c.dealt_position-later.ensures.within;
       later = λ (u : List Slot) rest.
@@ -80,10 +83,10 @@ pub set_position-requires : goal.set_position-requires
 set_position-requires c =
     let e = head (goal.at.set_position-requires c).In-Some in
     let h = c.in-Some.child.0 in
-    subst (λ (ks : Listing). IsListed ks h) (sym c.loop-next.invariant.listed) (c.requires.listed h (has-part e.part h (here h e.children e.rest)))
+    subst (λ (ks : Listing). IsListed ks h) (sym c.loop-next.invariant.listed) (c.requires.listed h (child_within c.args.tree.now.forest (tree_at c.args.tree.now.forest c.args.h.0) c.in-Some.child c.loop-next.next c.in-Some.is c.loop-next.invariant.inside e))
 
 pub known_box-requires : goal.known_box-requires
 known_box-requires c =
     let e = head (goal.at.known_box-requires c).In-Some in
     let h = c.in-Some.child.0 in
-    c.requires.listed_boxes h (has-part e.part h (here h e.children e.rest))
+    c.requires.listed_boxes h (child_within c.args.tree.now.forest (tree_at c.args.tree.now.forest c.args.h.0) c.in-Some.child c.loop-next.next c.in-Some.is c.loop-next.invariant.inside e)

@@ -1,12 +1,13 @@
 use Rattle.std.proofs.Common.{◌≡◌, ◌≤◌, ◌+◌, ◌∙◌, ◌++◌, ◌∷◌, sym, ap, subst, refl, ℕ, Option, map, vec_len, append_assoc, arith}
-use Rattle.gui_base.specs.Forest.{Forest, Tree, roots, size}
+use Rattle.gui_base.specs.Forest.{Forest, Tree, roots, size, tree_at}
 use Rattle.gui_base.specs.declared.Handle.{Handle}
 use Rattle.layout_defs.specs.Solving.{Tall, tall_box, taking_part}
 use Rattle.gui_flex.specs.Items.{items_of}
 use Rattle.gui_layout.specs.Tables.{sizes_of}
 use Rattle.gui_layout.specs.Views.{box_at}
 use Rattle.gui_layout.specs.Slots.{talls, flow_item}
-use Rattle.gui_layout.proofs.Parts.{distinct_once, has-part, here, IsHead, next_head, IsNext, GoesOn, trees_from, walk_begins, walk_goes_on, part_children, size-part}
+use Rattle.gui_layout.proofs.Parts.{distinct_once, IsHead, next_head, IsNext, GoesOn, trees_from, walk_begins, walk_goes_on, part_children, size-part}
+use Rattle.gui_layout.proofs.Within.{begins_within, child_within, goes_within}
 use Rattle.gui_layout.proofs.Lists.{part_taken_by}
 use Rattle.gui_layout.proofs.Flows.{tall_is}
 use Rattle.gui_layout.proofs.positions.fill_flow.Goals as goal
@@ -34,6 +35,7 @@ loop-next-init c =
     let none = c.clear.ensures.len in
     record {
       next_is = begins.next_is;
+      inside = begins_within f c.args.h.0 c.first_child-next.result begins.all;
       few = rw begins.all (omega arith);
       capacity = c.clear.ensures.capacity;
       left = rw (begins.all, c.clear.ensures.items) refl;
@@ -55,6 +57,7 @@ loop-next-preserved c =
     let kid = tall_is c.args.boxes.now w n h _ _ c.known_box.result.now c.known_box.ensures c.size_at.ensures.value c.size_at-in-Some.ensures.value in
     record {
       next_is = g.next_is;
+      inside = goes_within c.args.tree.now.forest (tree_at c.args.tree.now.forest c.args.h.0) c.in-Some.child c.loop-next.next c.in-Some.is inv.inside c.next-next.result g;
       few = rw g.later (omega arith);
       capacity = c.push_kid.ensures.capacity ∙ inv.capacity;
       left =
@@ -70,4 +73,4 @@ pub known_box-requires : goal.known_box-requires
 known_box-requires c =
     let e = head (goal.at.known_box-requires c).In-Some in
     let h = c.in-Some.child.0 in
-    c.requires.listed_boxes h (has-part e.part h (here h e.children e.rest))
+    c.requires.listed_boxes h (child_within c.args.tree.now.forest (tree_at c.args.tree.now.forest c.args.h.0) c.in-Some.child c.loop-next.next c.in-Some.is c.loop-next.invariant.inside e)

@@ -8,6 +8,7 @@ use Rattle.gui_layout.specs.Tables.{sizes_of}
 use Rattle.gui_layout.specs.Views.{box_at}
 use Rattle.gui_layout.specs.Slots.{talls, slot_of, slots_of, slot_at, at_roots, room_in, item_slot, tall_at, IsClose, IsAtCorner, IsBelow}
 use Rattle.gui_layout.specs.Kids.{tall_kid}
+use Rattle.gui_layout.proofs.Climbing.{in_own_tree}
 use Rattle.gui_layout.proofs.Flows.{tall_is}
 use Rattle.gui_layout.proofs.Stands.{kid_slots_are, close_below}
 use Rattle.gui_layout.proofs.positions.set_kid_positions.Goals as goal
@@ -41,4 +42,4 @@ returns-clause-near c =
     All-weaker (IsClose room.x room.y) (IsBelow parent) (close_below parent room corner) (at_roots (slots_of c.deal_positions.new.places) (children_of c.args.tree.now.forest h)) c.deal_positions.ensures.deals.close
 
 pub known_box-own-requires : goal.known_box-own-requires
-known_box-own-requires c = c.requires.listed_boxes c.args.h.0 c.requires.there
+known_box-own-requires c = c.requires.listed_boxes c.args.h.0 (in_own_tree c.args.tree.now.forest c.args.h.0 c.requires.once c.requires.there)

@@ -15,14 +15,29 @@ use Rattle.gui_layout.specs.Tables.{Listing, IsListed, sizes_of}
 use Rattle.gui_layout.specs.Talls.{HoldsNaturalHeights}
 use Rattle.gui_layout.specs.Views.{box_of, box_at}
 use Rattle.gui_layout.proofs.Bridges.{entry_set, keeps_set}
+use Rattle.gui_layout.proofs.Climbing.{in_own_tree}
 use Rattle.gui_layout.proofs.Fitting.{HoldsAll, fit_of}
 use Rattle.gui_layout.proofs.Alone.{same_width, same_slot}
-use Rattle.gui_layout.proofs.Listed.{sizes_short, slots_short, listed_some}
-use Rattle.gui_layout.proofs.OwnHeights.{same_naturals, same_widths, same_heights, same_slots, tree_inside}
+use Rattle.gui_layout.proofs.Listed.{sizes_short, slots_short}
+use Rattle.gui_layout.proofs.OwnHeights.{same_naturals, same_widths, same_heights, same_slots}
 use Rattle.gui_layout.proofs.Parts.{IsThere, IsFound, there, found, distinct_once, height-part, here}
 use Rattle.gui_layout.proofs.Stands.{room_fewer}
 use Rattle.gui_layout.proofs.tree.solve_tree.Goals as goal
 use Rattle.gui_layout.proofs.tree.solve_tree.Goals.{After-find_places}
+
+pub known_box-own-requires : goal.known_box-own-requires
+known_box-own-requires c = c.requires.listed_boxes c.args.h.0 (in_own_tree c.args.tree.now.forest c.args.h.0 c.requires.once c.requires.there)
+
+pub set_size-requires-clause-listed : goal.set_size-requires-clause-listed
+set_size-requires-clause-listed c = c.requires.listed_widths c.args.h.0 (in_own_tree c.args.tree.now.forest c.args.h.0 c.requires.once c.requires.there)
+
+pub known_box-own-requires-2 : goal.known_box-own-requires-2
+known_box-own-requires-2 c =
+    let own = in_own_tree c.args.tree.now.forest c.args.h.0 c.requires.once c.requires.there in
+    subst (λ (ks : Listing). IsListed ks c.args.h.0) (sym c.set_own_heights.ensures.listed) (c.requires.listed_boxes c.args.h.0 own)
+
+pub set_position-requires : goal.set_position-requires
+set_position-requires c = c.requires.listed_places c.args.h.0 (in_own_tree c.args.tree.now.forest c.args.h.0 c.requires.once c.requires.there)
 
 pub find_places-requires-clause-room : goal.find_places-requires-clause-room
 find_places-requires-clause-room c =
@@ -30,7 +45,7 @@ find_places-requires-clause-room c =
     let h = c.args.h.0 in
     let at = there f h c.requires.there in
     let is = found at.part (distinct_once f c.requires.once) in
-    let short = slots_short c.args.places.now h (c.requires.listed_places h c.requires.there) in
+    let short = slots_short c.args.places.now h (c.requires.listed_places h (in_own_tree c.args.tree.now.forest h c.requires.once c.requires.there)) in
     let slot = entry_set nowhere (slots_of c.args.places.now) (slots_of c.set_position.new.places) h _ short c.set_position.ensures.set in
     let high = height-part at.part in
     let low = c.requires.low in
@@ -69,11 +84,8 @@ module _ (c : After-find_places) where
   abbrev l : Layout
   l = told c.find_natural_widths.new.naturals c.find_widths.new.widths c.find_natural_heights.new.naturals c.find_places.new.places
 
-  inside : (k : ℕ) → has tree k ≡ true → has f k ≡ true
-  inside k i = tree_inside f h at.children at.rest at.part k i
-
   same : (k : ℕ) → has tree k ≡ true → but_height (box_at c.args.boxes.now k) ≡ but_height (box k)
-  same k i = c.requires.boxes k (listed_some c.args.boxes.now k (c.requires.listed_boxes k (inside k i)))
+  same k i = c.requires.boxes k (subst (λ (t : Forest ℕ). has t k ≡ true) (sym is.tree) i)
 
   fixed : AreFixed box w c.set_own_heights.new.boxes tree
   fixed = subst (AreFixed box w c.set_own_heights.new.boxes) is.tree c.set_own_heights.ensures.fixed
@@ -104,7 +116,7 @@ module _ (c : After-find_places) where
 
   -- its own width and its own slot
   set_width : get_or w h 0 ≡ c.framed_width-width.result
-  set_width = wide.0 ∙ entry_set 0 (sizes_of c.args.widths.now) (sizes_of c.set_size.new.sizes) h _ (sizes_short c.args.widths.now h (c.requires.listed_widths h c.requires.there)) c.set_size.ensures.set
+  set_width = wide.0 ∙ entry_set 0 (sizes_of c.args.widths.now) (sizes_of c.set_size.new.sizes) h _ (sizes_short c.args.widths.now h (c.requires.listed_widths h (in_own_tree f h c.requires.once c.requires.there))) c.set_size.ensures.set
 
   own : but_height (box_of h c.known_box-own.result.now) ≡ but_height (box h)
   own = ap but_height c.known_box-own.ensures ∙ same h (here h at.children Empty)
@@ -113,8 +125,7 @@ module _ (c : After-find_places) where
   set_own : but_height (box_of h c.known_box-own-2.result.now) ≡ but_height (box h)
   set_own =
       let boxes = c.set_own_heights.new.boxes in
-      let listed = subst (λ (ks : Listing). IsListed ks h) (sym c.set_own_heights.ensures.listed) (c.requires.listed_boxes h c.requires.there) in
-      ap but_height c.known_box-own-2.ensures ∙ c.set_own_heights.ensures.boxes h (listed_some boxes h listed)
+      ap but_height c.known_box-own-2.ensures ∙ c.set_own_heights.ensures.boxes h (same h (here h at.children Empty))
 
 pub returns-clause-fit : goal.returns-clause-fit
 returns-clause-fit c = subst (λ t. AllFit (known (box c) (l c) t)) (sym (is c).tree) (fit_of (box c) (l c) (tree c) (all c))
@@ -124,7 +135,7 @@ returns-clause-stands c =
     let h = c.args.h.0 in
     let kid = box_of h c.known_box-own.result.now in
     let tall = box_of h c.known_box-own-2.result.now in
-    let short = slots_short c.args.places.now h (c.requires.listed_places h c.requires.there) in
+    let short = slots_short c.args.places.now h (c.requires.listed_places h (in_own_tree c.args.tree.now.forest h c.requires.once c.requires.there)) in
     let frame = c.args.frame in
     record {
       width =

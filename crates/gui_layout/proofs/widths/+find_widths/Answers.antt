@@ -4,10 +4,11 @@ use Rattle.gui_base.specs.declared.Handle.{Handle}
 use Rattle.layout_defs.specs.Boxes.{Box}
 use Rattle.layout_defs.specs.Solving.{kid_widths}
 use Rattle.layout_defs.specs.Tables.{KeepsOthers}
-use Rattle.gui_layout.specs.Tables.{Listing, sizes_of, AreListed}
+use Rattle.gui_layout.specs.Tables.{Listing, IsListed, listing_of, sizes_of, AreListed}
 use Rattle.gui_layout.specs.Views.{box_at}
 use Rattle.gui_layout.specs.Found.{HoldsNaturalWidths, HoldsWidths, widths_of}
 use Rattle.gui_layout.proofs.Parts.{distinct_once, distinct-part, has-part, here, IsHead, next_head, IsNext, GoesOn, trees_from, walk_begins, walk_goes_on, there, found, leaf_is}
+use Rattle.gui_layout.proofs.Within.{begins_within, goes_within, tree_within}
 use Rattle.gui_layout.proofs.Kids.{named}
 use Rattle.gui_layout.proofs.Widens.{Widens, at_roots, widens_none, widens_leaf, widens_first, widens_top}
 use Rattle.gui_layout.proofs.widths.+find_widths.Goals as goal
@@ -32,6 +33,7 @@ loop-next-init t c =
     let known = found at.part distinct in
     record {
       next_is = begins.next_is;
+      inside = begins_within f c.args.h.0 c.first_child-next.result begins.all;
       fewer = rw (begins.all, known.children, known.tree) (omega arith);
       holds =
           let holds : HoldsNaturalWidths box (sizes_of c.args.naturals.now) (Tree c.args.h.0 at.children Empty) = subst (HoldsNaturalWidths box (sizes_of c.args.naturals.now)) known.tree c.requires.naturals_found in
@@ -52,13 +54,15 @@ find_widths-requires t c =
     let known = found e.part (distinct_once f c.requires.once) in
     let fewer : size (Tree c.in-Some.child.0 e.children e.rest) < size (tree_at f c.args.h.0) = rw (c.in-Some.is, e.is) at c.loop-next.invariant.fewer in
     let smaller : size (tree_at f c.in-Some.child.0) < size (tree_at f c.args.h.0) = rw known.tree (omega arith) in
-    let listed = subst (λ (ks : Listing). AreListed ks f) (sym c.loop-next.invariant.listed) c.requires.listed in
+    let lies = tree_within f (tree_at f c.args.h.0) c.in-Some.child c.loop-next.next c.in-Some.is c.loop-next.invariant.inside (distinct_once f c.requires.once) e in
+    let listed : AreListed (listing_of c.loop-next.widths) (tree_at f c.in-Some.child.0) = λ k i. subst (λ (ks : Listing). IsListed ks k) (sym c.loop-next.invariant.listed) (c.requires.listed k (lies k i)) in
+    let boxes : AreListed (listing_of c.args.boxes.now) (tree_at f c.in-Some.child.0) = λ k i. c.requires.listed_boxes k (lies k i) in
     let capacity = c.loop-next.invariant.capacity in
     let box = box_at c.args.boxes.now in
     let holds : HoldsNaturalWidths box (sizes_of c.args.naturals.now) (Tree c.in-Some.child.0 e.children e.rest) = subst (HoldsNaturalWidths box (sizes_of c.args.naturals.now)) (ap (λ (o : Option Handle). trees_from o f) c.in-Some.is ∙ e.is) c.loop-next.invariant.holds in
     let own : HoldsNaturalWidths box (sizes_of c.args.naturals.now) (Tree c.in-Some.child.0 e.children Empty) = (holds.0, holds.1, tt) in
     let room = c.requires.capacity in
-    (search rules, (c.requires.once, (listed, (c.requires.few, (has-part e.part c.in-Some.child.0 (here c.in-Some.child.0 e.children e.rest), (subst (HoldsNaturalWidths box (sizes_of c.args.naturals.now)) (sym known.tree) own, (omega arith, c.requires.listed_boxes)))))))
+    (search rules, (c.requires.once, (listed, (c.requires.few, (has-part e.part c.in-Some.child.0 (here c.in-Some.child.0 e.children e.rest), (subst (HoldsNaturalWidths box (sizes_of c.args.naturals.now)) (sym known.tree) own, (omega arith, boxes)))))))
 
 goes : (t : ℕ) (c : After-next-next t) → GoesOn c.args.tree.now.forest c.in-Some.child c.next-next.result
 goes t c =
@@ -91,6 +95,7 @@ loop-next-preserved t c =
     } in
     record {
       next_is = g.next_is;
+      inside = goes_within f (tree_at f c.args.h.0) c.in-Some.child c.loop-next.next c.in-Some.is inv.inside c.next-next.result g;
       fewer = rw g.later (omega arith);
       holds =
           let holds : HoldsNaturalWidths box (sizes_of c.args.naturals.now) (Tree h g.children g.rest) = subst (HoldsNaturalWidths box (sizes_of c.args.naturals.now)) (now_is t d) inv.holds in

@@ -4,6 +4,7 @@ use Rattle.gui_layout.specs.Tables.{sizes_of, listing_of}
 use Rattle.gui_layout.specs.Views.{box_at}
 use Rattle.gui_layout.specs.Found.{HoldsNaturalWidths}
 use Rattle.gui_layout.proofs.Parts.{IsNext, trees_from}
+use Rattle.gui_layout.proofs.Within.{LieIn}
 use Rattle.gui_layout.proofs.Widens.{Widens}
 use Rattle.gui_layout.proofs.widths.+find_widths.Given as goal
 
@@ -16,6 +17,7 @@ invariant-loop-next l =
     let box = box_at l.boxes in
     record {
       next_is : IsNext f l.next;
+      inside : LieIn (trees_from l.next f) (tree_at f l.fn.h.0);
       fewer : size (trees_from l.next f) < size (tree_at f l.fn.h.0);
       holds : HoldsNaturalWidths box (sizes_of l.naturals) (trees_from l.next f);
       listed : listing_of l.widths ≡ listing_of l.fn.widths;

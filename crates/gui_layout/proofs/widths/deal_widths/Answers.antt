@@ -1,5 +1,5 @@
 use Rattle.std.proofs.Common.{◌≡◌, ◌∙◌, sym, ap, subst, ℕ, List, Option, set, refl, drop, arith}
-use Rattle.gui_base.specs.Forest.{Forest, Tree, roots}
+use Rattle.gui_base.specs.Forest.{Forest, Tree, roots, tree_at}
 use Rattle.gui_base.specs.declared.Handle.{Handle}
 use Rattle.layout_defs.specs.Solving.{main_sizes}
 use Rattle.gui_flex.specs.Items.{items_of}
@@ -7,7 +7,8 @@ use Rattle.gui_layout.proofs.Listed.{sizes_short}
 use Rattle.gui_layout.specs.Tables.{Listing, IsListed, sizes_of}
 use Rattle.gui_layout.specs.Views.{box_at}
 use Rattle.gui_layout.specs.Found.{HoldsNaturalWidths, widths_of}
-use Rattle.gui_layout.proofs.Parts.{distinct_once, distinct-part, has-part, here, IsHead, next_head, IsNext, GoesOn, trees_from, walk_begins, walk_goes_on}
+use Rattle.gui_layout.proofs.Parts.{distinct_once, distinct-part, IsHead, next_head, IsNext, GoesOn, trees_from, walk_begins, walk_goes_on}
+use Rattle.gui_layout.proofs.Within.{begins_within, child_within, goes_within}
 use Rattle.gui_layout.proofs.Kids.{kid_is}
 use Rattle.gui_layout.proofs.Dealt.{Deals, deals_first}
 use Rattle.gui_layout.proofs.widths.deal_widths.Goals as goal
@@ -33,6 +34,7 @@ loop-next-init c =
     let begins = walk_begins f c.args.h.0 c.first_child-next.result (distinct_once f c.requires.once) c.first_child-next.ensures in
     record {
       next_is = begins.next_is;
+      inside = begins_within f c.args.h.0 c.first_child-next.result begins.all;
       within = omega arith;
       listed = refl;
       holds = subst (HoldsNaturalWidths box (sizes_of c.args.naturals.now)) (sym begins.all) c.requires.found;
@@ -50,9 +52,10 @@ loop-next-preserved c =
     let holds : HoldsNaturalWidths box (sizes_of c.args.naturals.now) (Tree h g.children g.rest) = subst (HoldsNaturalWidths box (sizes_of c.args.naturals.now)) (now_is d) inv.holds in
     let kids = roots (widths_of box g.rest) in
     let kid = kid_is c.args.boxes.now h _ c.known_box.result.now g.children c.known_box.ensures holds.0 in
-    let short = sizes_short c.loop-next.widths h (subst (λ (ks : Listing). IsListed ks h) (sym inv.listed) (c.requires.listed h (has-part g.part h (here h g.children g.rest)))) in
+    let short = sizes_short c.loop-next.widths h (subst (λ (ks : Listing). IsListed ks h) (sym inv.listed) (c.requires.listed h (child_within f (tree_at f c.args.h.0) c.in-Some.child c.loop-next.next c.in-Some.is inv.inside (next_head f c.in-Some.child (subst (IsNext f) c.in-Some.is inv.next_is))))) in
     record {
       next_is = g.next_is;
+      inside = goes_within f (tree_at f c.args.h.0) c.in-Some.child c.loop-next.next c.in-Some.is inv.inside c.next-next.result g;
       within = c.dealt_width-width.ensures.within;
       listed = c.set_size.ensures.listed ∙ inv.listed;
       holds = subst (HoldsNaturalWidths box (sizes_of c.args.naturals.now)) (sym g.later) holds.2;
@@ -72,10 +75,10 @@ pub set_size-requires-clause-listed : goal.set_size-requires-clause-listed
 set_size-requires-clause-listed c =
     let e = head (goal.at.set_size-requires-clause-listed c).In-Some in
     let h = c.in-Some.child.0 in
-    subst (λ (ks : Listing). IsListed ks h) (sym c.loop-next.invariant.listed) (c.requires.listed h (has-part e.part h (here h e.children e.rest)))
+    subst (λ (ks : Listing). IsListed ks h) (sym c.loop-next.invariant.listed) (c.requires.listed h (child_within c.args.tree.now.forest (tree_at c.args.tree.now.forest c.args.h.0) c.in-Some.child c.loop-next.next c.in-Some.is c.loop-next.invariant.inside e))
 
 pub known_box-requires : goal.known_box-requires
 known_box-requires c =
     let e = head (goal.at.known_box-requires c).In-Some in
     let h = c.in-Some.child.0 in
-    c.requires.listed_boxes h (has-part e.part h (here h e.children e.rest))
+    c.requires.listed_boxes h (child_within c.args.tree.now.forest (tree_at c.args.tree.now.forest c.args.h.0) c.in-Some.child c.loop-next.next c.in-Some.is c.loop-next.invariant.inside e)

@@ -1,11 +1,12 @@
 use Rattle.std.proofs.Common.{ℕ, List, ◌≡◌, ◌≤◌, length, drop}
-use Rattle.gui_base.specs.Forest.{size, children_of}
+use Rattle.gui_base.specs.Forest.{size, tree_at, children_of}
 use Rattle.layout_defs.specs.Solving.{main_sizes}
 use Rattle.gui_flex.specs.Items.{items_of}
 use Rattle.gui_layout.specs.Tables.{sizes_of, listing_of}
 use Rattle.gui_layout.specs.Views.{box_at}
 use Rattle.gui_layout.specs.Found.{HoldsNaturalWidths}
 use Rattle.gui_layout.proofs.Parts.{IsNext, trees_from}
+use Rattle.gui_layout.proofs.Within.{LieIn}
 use Rattle.gui_layout.proofs.Dealt.{Deals}
 use Rattle.gui_layout.proofs.widths.deal_widths.Given as goal
 
@@ -15,6 +16,7 @@ invariant-loop-next l =
     let box = box_at l.boxes in
     record {
       next_is : IsNext f l.next;
+      inside : LieIn (trees_from l.next f) (tree_at f l.fn.h.0);
       within : l.i ≤ length l.items;
       listed : listing_of l.widths ≡ listing_of l.fn.widths;
       holds : HoldsNaturalWidths box (sizes_of l.naturals) (trees_from l.next f);

@@ -1,4 +1,5 @@
-use Rattle.std.proofs.Common.{◌≡◌, ◌≤◌, ◌<◌, ◌∙◌, sym, ap, subst, ℕ, true, length, get_or, arith}
+use Rattle.std.proofs.Common.{◌≡◌, ◌≤◌, ◌<◌, ◌∙◌, sym, ap, subst, ℕ, true, length, get_or, arith, eqb, Option, inl, inr}
+use Rattle.std.proofs.lemmas.Bool.{cases_Bool, eqb-true}
 use Rattle.std.specs.Prelude.{IsSome, is_some, slice_index_or}
 use Rattle.gui_base.specs.Forest.{Forest, has, size, tree_at}
 use Rattle.gui_base.specs.Limits.{Bounds}
@@ -10,16 +11,18 @@ use Rattle.scene_defs.specs.Scene.{handles_of}
 use Rattle.gui_layout.specs.Kept.{Entries}
 use Rattle.gui_layout.specs.Layouts.{KeepsRest, told}
 use Rattle.gui_layout.specs.Listing.{HasThese}
-use Rattle.gui_layout.specs.Scenes.{scene_box}
+use Rattle.gui_layout.specs.Scenes.{scene_box, HoldsBoxes}
+use Rattle.gui_layout.specs.declared.layout_box.LayoutBox.{LayoutBox}
 use Rattle.gui_layout.specs.Settled.{known, known_at, tall_of, wide_of, AllFit, IsSettled, IsSteady, StandsFree}
 use Rattle.gui_layout.specs.Slots.{room_in}
 use Rattle.gui_layout.specs.Solved.{entries_of, layout_of}
 use Rattle.gui_layout.specs.Tables.{listing_of, AreListed}
-use Rattle.gui_layout.specs.Views.{box_at}
+use Rattle.gui_layout.specs.Views.{box_at, box_or}
 use Rattle.gui_layout.proofs.Entering.{few, flat, low, all_placed}
 use Rattle.gui_layout.proofs.Fitting.{settled_placed}
 use Rattle.gui_layout.proofs.Joining.{joined-listed, joined-settled, joined-size, joined-some, joined-there, listed-few}
-use Rattle.gui_layout.proofs.Renewals.{room-same, some-alike, some-kept, steady-same}
+use Rattle.gui_layout.proofs.Renewals.{holds-still, renewed-in, room-same, some-alike, some-kept, steady-same}
+use Rattle.gui_layout.proofs.Settling.{tree-in}
 use Rattle.gui_layout.proofs.These.{these_kept}
 use Rattle.gui_layout.proofs.places.Places.settle_with.Goals as goal
 use Rattle.gui_layout.proofs.places.Places.settle_with.Goals.{After-tree-tree, After-add_entries}
@@ -45,6 +48,38 @@ add_entries-requires-clause-room c =
     let objects : self.limits.objects ≡ scene.limits.objects = ap (λ (l : Bounds). l.objects) c.requires.limits in
     omega arith
 
+-- the objects of the scene have entries
+listed : (c : After-add_entries) → {T : Type 0} (t : Table T) → HasThese c.add_entries.new.self.limits.objects t c.add_entries.new.self.listed.items → AreListed (listing_of t) c.tree-tree.result.now.forest
+listed c t these =
+    let scene = scene_of c.args.store.now in
+    let b = c.requires.before in
+    let mid = c.add_entries.new.self in
+    subst (AreListed (listing_of t)) (sym c.tree-tree.ensures.forest)
+    (joined-listed scene b.before c.args.h.0 c.args.parent.0 b.new b.above b.trees b.same (entries_of c.args.self.now) (entries_of mid) c.add_entries.ensures.added b.settled.there mid.limits.objects mid.listed.items mid.kept t these)
+
+listed_in : (c : After-add_entries) → {T : Type 0} (t : Table T) → HasThese c.add_entries.new.self.limits.objects t c.add_entries.new.self.listed.items → AreListed (listing_of t) (tree_at c.tree-tree.result.now.forest c.args.h.0)
+listed_in c t these k i = listed c t these k (tree-in c.args.h.0 k c.tree-tree.result.now.forest i)
+
+-- the boxes are those of the scene
+boxes : (c : After-add_entries) → HoldsBoxes c.add_entries.new.self.boxes (scene_of c.args.store.now)
+boxes c k some =
+    let scene = scene_of c.args.store.now in
+    let h = c.args.h.0 in
+    let b = c.requires.before in
+    let t = c.add_entries.new.self.boxes in
+    elim (cases_Bool (eqb k h)) [
+      | inl is ↦ subst (λ j. but_height (box_at t j) ≡ but_height (scene_box scene j)) (sym (eqb-true k h is)) c.add_entries.ensures.own
+      | inr isnt ↦
+          let value : value_at t k ≡ value_at c.args.self.now.boxes k = c.add_entries.ensures.added.boxes.same k isnt in
+          ap (λ (o : Option LayoutBox). but_height (box_or k o)) value ∙ (b.settled.boxes k (ap is_some (sym value) ∙ some) ∙ ap but_height (sym (b.same k isnt)))
+    ]
+
+pub solve_tree-requires-clause-boxes : goal.solve_tree-requires-clause-boxes
+solve_tree-requires-clause-boxes c =
+    let d = (goal.at.solve_tree-requires-clause-boxes c).After-add_entries in
+    let mid = c.add_entries.new.self in
+    renewed-in (scene_of c.args.store.now) mid.boxes c.tree-tree.result.now.forest c.args.h.0 (boxes d) (listed d mid.boxes mid.kept.boxes)
+
 pub solve_tree-requires-clause-there : goal.solve_tree-requires-clause-there
 solve_tree-requires-clause-there c =
     ap (λ (t : Forest ℕ). has t c.args.h.0) c.tree-tree.ensures.forest ∙ own (goal.at.solve_tree-requires-clause-there c).After-tree-tree
@@ -69,29 +104,20 @@ solve_tree-requires-clause-capacity c =
     let room = c.add_entries.new.self.items_room in
     rw c.tree-tree.ensures.forest (omega arith)
 
--- the objects of the scene have entries
-listed : (c : After-add_entries) → {T : Type 0} (t : Table T) → HasThese c.add_entries.new.self.limits.objects t c.add_entries.new.self.listed.items → AreListed (listing_of t) c.tree-tree.result.now.forest
-listed c t these =
-    let scene = scene_of c.args.store.now in
-    let b = c.requires.before in
-    let mid = c.add_entries.new.self in
-    subst (AreListed (listing_of t)) (sym c.tree-tree.ensures.forest)
-    (joined-listed scene b.before c.args.h.0 c.args.parent.0 b.new b.above b.trees b.same (entries_of c.args.self.now) (entries_of mid) c.add_entries.ensures.added b.settled.there mid.limits.objects mid.listed.items mid.kept t these)
-
 pub solve_tree-requires-clause-listed_boxes : goal.solve_tree-requires-clause-listed_boxes
-solve_tree-requires-clause-listed_boxes c = listed (goal.at.solve_tree-requires-clause-listed_boxes c).After-add_entries c.add_entries.new.self.boxes c.add_entries.new.self.kept.boxes
+solve_tree-requires-clause-listed_boxes c = listed_in (goal.at.solve_tree-requires-clause-listed_boxes c).After-add_entries c.add_entries.new.self.boxes c.add_entries.new.self.kept.boxes
 
 pub solve_tree-requires-clause-listed : goal.solve_tree-requires-clause-listed
-solve_tree-requires-clause-listed c = listed (goal.at.solve_tree-requires-clause-listed c).After-add_entries c.add_entries.new.self.natural_widths c.add_entries.new.self.kept.natural_widths
+solve_tree-requires-clause-listed c = listed_in (goal.at.solve_tree-requires-clause-listed c).After-add_entries c.add_entries.new.self.natural_widths c.add_entries.new.self.kept.natural_widths
 
 pub solve_tree-requires-clause-listed_widths : goal.solve_tree-requires-clause-listed_widths
-solve_tree-requires-clause-listed_widths c = listed (goal.at.solve_tree-requires-clause-listed_widths c).After-add_entries c.add_entries.new.self.widths c.add_entries.new.self.kept.widths
+solve_tree-requires-clause-listed_widths c = listed_in (goal.at.solve_tree-requires-clause-listed_widths c).After-add_entries c.add_entries.new.self.widths c.add_entries.new.self.kept.widths
 
 pub solve_tree-requires-clause-listed_heights : goal.solve_tree-requires-clause-listed_heights
-solve_tree-requires-clause-listed_heights c = listed (goal.at.solve_tree-requires-clause-listed_heights c).After-add_entries c.add_entries.new.self.natural_heights c.add_entries.new.self.kept.natural_heights
+solve_tree-requires-clause-listed_heights c = listed_in (goal.at.solve_tree-requires-clause-listed_heights c).After-add_entries c.add_entries.new.self.natural_heights c.add_entries.new.self.kept.natural_heights
 
 pub solve_tree-requires-clause-listed_places : goal.solve_tree-requires-clause-listed_places
-solve_tree-requires-clause-listed_places c = listed (goal.at.solve_tree-requires-clause-listed_places c).After-add_entries c.add_entries.new.self.positions c.add_entries.new.self.kept.positions
+solve_tree-requires-clause-listed_places c = listed_in (goal.at.solve_tree-requires-clause-listed_places c).After-add_entries c.add_entries.new.self.positions c.add_entries.new.self.kept.positions
 
 pub invariant_of-self : goal.invariant_of-self
 invariant_of-self c =
@@ -154,7 +180,7 @@ returns-clause-settled c =
     let some : (k : ℕ) → is_some (value_at now.places k) ≡ has g k =
     λ k. some-kept mid.positions now.places k done.listed_places ∙ joined-some scene before h p b.new b.above b.trees b.same d e added b.settled.there k in
     record {
-      boxes = done.boxes;
+      boxes = holds-still scene mid.boxes now.boxes (boxes (goal.at.returns-clause-settled c).After-add_entries) done.boxes done.listed_boxes;
       settled = settled;
       there = some;
       solved = all_placed scene c.tree-tree.ensures.valid entries some (settled_placed box m scene.limits.width scene.limits.height g settled);

@@ -9,6 +9,7 @@ use Rattle.gui_layout.specs.Settled.{known, IsSettled}
 use Rattle.gui_layout.specs.Tables.{listing_of, AreListed}
 use Rattle.gui_layout.specs.Scenes.{scene_box}
 use Rattle.gui_layout.proofs.Entering.{few, flat, all_placed}
+use Rattle.gui_layout.proofs.NaturalSizes.{all-naturals}
 use Rattle.gui_layout.proofs.Fitting.{settled_placed}
 use Rattle.gui_layout.proofs.These.{are_listed, these_kept, has_value}
 use Rattle.gui_layout.proofs.places.Places.solve.Goals as goal
@@ -99,3 +100,20 @@ returns-clause-settled c =
       there = some;
       solved = all_placed scene c.tree.ensures.valid entries some (settled_placed box l scene.limits.width scene.limits.height (handles_of scene.trees) settled);
     }
+
+pub returns-clause-naturals : goal.returns-clause-naturals
+returns-clause-naturals c =
+    let scene = scene_of c.args.store.now in
+    let self = c.args.self.now in
+    let now = c.solve_trees.new in
+    let done = c.solve_trees.ensures in
+    let box = scene_box scene in
+    let l = told now.natural_widths now.widths now.natural_heights now.places in
+    let entries : Entries = record { boxes = now.boxes; natural_widths = now.natural_widths; widths = now.widths; natural_heights = now.natural_heights; positions = now.places } in
+    let wide : self.limits.width ≡ scene.limits.width = ap (λ (b : Bounds). b.width) c.requires.limits in
+    let high : self.limits.height ≡ scene.limits.height = ap (λ (b : Bounds). b.height) c.requires.limits in
+    let settled : IsSettled scene.limits.width scene.limits.height (known box l (handles_of scene.trees)) =
+    rw (← wide, ← high, ← c.tree.ensures.forest) done.settled in
+    let listed = these_kept self.limits.objects self.positions now.places self.listed.items done.listed_places self.kept.positions in
+    let some = has_value self.listed.items (handles_of scene.trees) c.requires.listed self.limits.objects now.places listed in
+    all-naturals scene c.tree.ensures.valid entries settled some

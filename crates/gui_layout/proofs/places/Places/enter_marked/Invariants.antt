@@ -1,0 +1,21 @@
+use Rattle.std.proofs.Common.{◌≡◌, ◌<◌, ℕ, true, false, drop}
+use Rattle.std.specs.Prelude.{is_some}
+use Rattle.gui_base.specs.Forest.{has}
+use Rattle.gui_pool.specs.Table.{value_at}
+use Rattle.gui_store.specs.Views.{scene_of}
+use Rattle.scene_defs.specs.Scene.{handles_of}
+use Rattle.gui_layout.specs.Same.{SameEntries}
+use Rattle.gui_layout.specs.Listing.{times}
+use Rattle.gui_layout.specs.Solved.{entries_of, limits_of}
+use Rattle.gui_layout.proofs.places.Places.enter_marked.Given as goal
+
+abbrev pub invariant-loop-h : goal.invariant-loop-h
+invariant-loop-h l =
+    let f = handles_of (scene_of l.store).trees in
+    record {
+      own : (k : ℕ) → 0 < times l.marked k → times (drop l.h-index l.marked) k ≡ 0 → has f k ≡ true → is_some (value_at l.self.boxes k) ≡ true;
+      kept : (k : ℕ) → has f k ≡ true → is_some (value_at l.fn.self.boxes k) ≡ true → SameEntries k (entries_of l.fn.self) (entries_of l.self);
+      others : (k : ℕ) → has f k ≡ true → times l.marked k ≡ 0 → SameEntries k (entries_of l.fn.self) (entries_of l.self);
+      none : (k : ℕ) → has f k ≡ false → is_some (value_at l.fn.self.positions k) ≡ false → is_some (value_at l.self.positions k) ≡ false;
+      limits : limits_of l.self ≡ limits_of l.fn.self;
+    }

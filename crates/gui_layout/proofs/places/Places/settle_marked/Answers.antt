@@ -1,0 +1,72 @@
+use Rattle.std.proofs.Common.{◌≡◌, ◌∙◌, ◌<◌, ◌+◌, ◌∷◌, [], refl, sym, ap, subst, ℕ, true, false, eqb, cond, length, add-one, drop, get_or, List, drop-cons, arith}
+use Rattle.std.proofs.lemmas.Bool.{eqb-true, both_ways, false_from_ne_true}
+use Rattle.std.proofs.lemmas.List.{drop_all}
+use Rattle.gui_base.specs.Forest.{has}
+use Rattle.gui_base.specs.declared.Handle.{Handle}
+use Rattle.gui_store.specs.Views.{scene_of}
+use Rattle.scene_defs.specs.Scene.{handles_of}
+use Rattle.gui_layout.specs.Listing.{times}
+use Rattle.gui_layout.specs.Pending.{is_pending}
+use Rattle.gui_layout.specs.Tables.{Listing, IsListed}
+use Rattle.gui_layout.proofs.Stepping.{marked-fewer, settles-none, settles-then}
+use Rattle.gui_layout.proofs.places.Places.settle_marked.Goals as goal
+
+abbrev none : Handle
+none = record { 0 = 0 }
+
+now : (hs : List Handle) (i : ℕ) → i < length hs → drop i hs ≡ get_or hs i none ∷ drop (i + 1) hs
+now hs i within = rw (add-one, drop-cons hs i none)
+
+-- a mark that is left is not this one
+later : (hs : List Handle) (h : Handle) (k : ℕ) (next : List Handle) → hs ≡ h ∷ next → eqb h.0 k ≡ false → 0 < times hs k → 0 < times next k
+later hs h k next is other some =
+    let same : times hs k ≡ 0 + times next k = ap (λ xs. times xs k) is ∙ ap (λ b. cond b 1 0 + times next k) other in omega arith
+
+pub loop-h-init : goal.loop-h-init
+loop-h-init c = record {
+  settles = settles-none (scene_of c.args.store.now) c.args.self.now (is_pending c.args.pending.now);
+  left = λ k is there. c.requires.marked k is;
+  marks = refl;
+}
+
+-- the objects of the marked trees have entries still, and their boxes are those of the scene
+pub settle_mark-requires-clause-entries : goal.settle_mark-requires-clause-entries
+settle_mark-requires-clause-entries c k is =
+    let f = handles_of (scene_of c.args.store.now).trees in
+    let inv = c.loop-h.invariant in
+    subst (λ (ks : Listing). IsListed ks k) (sym inv.settles.listed_boxes) (c.requires.entries k (marked-fewer (is_pending c.args.pending.now) (is_pending c.loop-h.pending) k f inv.settles.fewer is))
+
+pub settle_mark-requires-clause-boxes : goal.settle_mark-requires-clause-boxes
+settle_mark-requires-clause-boxes c k is =
+    let f = handles_of (scene_of c.args.store.now).trees in
+    let inv = c.loop-h.invariant in
+    inv.settles.boxes k (c.requires.boxes k (marked-fewer (is_pending c.args.pending.now) (is_pending c.loop-h.pending) k f inv.settles.fewer is))
+
+pub loop-h-preserved : goal.loop-h-preserved
+loop-h-preserved c =
+    let scene = scene_of c.args.store.now in
+    let f = handles_of scene.trees in
+    let hs = c.args.marked.now in
+    let i = c.loop-h.h-index in
+    let h = get_or hs i none in
+    let inv = c.loop-h.invariant in
+    let done = c.settle_mark.ensures in
+    let pending = c.settle_mark.new.pending in
+    record {
+      settles = settles-then scene c.args.self.now c.loop-h.self c.settle_mark.new.self (is_pending c.args.pending.now) (is_pending c.loop-h.pending) (is_pending pending) inv.settles done.settles;
+      left = λ k is there.
+          let other : eqb h.0 k ≡ false = false_from_ne_true (eqb h.0 k) (λ e.
+          let same = eqb-true h.0 k e in
+          both_ways (is_pending pending k) (subst (λ j. is_pending pending j ≡ false) same (done.own (subst (λ j. has f j ≡ true) (sym same) there))) is) in
+          later (drop i hs) h k (drop (i + 1) hs) (now hs i c.loop-h-test.true) other (inv.left k (done.settles.fewer k is) there);
+      marks = done.marks ∙ inv.marks;
+    }
+
+pub returns-clause-all : goal.returns-clause-all
+returns-clause-all c k there =
+    let hs = c.args.marked.now in
+    let pending = c.loop-h.pending in
+    let inv = c.loop-h.invariant in
+    let none_left : drop c.loop-h.h-index hs ≡ [] = drop_all c.loop-h.h-index hs c.loop-h-test.false in
+    false_from_ne_true (is_pending pending k) (λ is.
+    let some : 0 < times [] k = subst (λ xs. 0 < times xs k) none_left (inv.left k is there) in absurd (omega arith))

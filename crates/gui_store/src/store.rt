@@ -1,5 +1,6 @@
 //! The store.
-ghost use Rattle.std.specs.Prelude.{◌≡◌, ◌<◌, IfOk, IfSome, Some, None, true, length, []};
+ghost use Rattle.std.specs.Prelude.{◌≡◌, ℕ, ◌^◌, ◌<◌, IfOk, IfSome, Some, None, true, length, []};
+ghost use Rattle.std.specs.List.{list_any};
 ghost use Rattle.std.specs.Prelude.{is_some, option_map};
 ghost use Rattle.gui_base.specs.Bounded.{bounds_of};
 ghost use Rattle.gui_base.specs.Intervals.{is_counted};
@@ -14,7 +15,7 @@ ghost use Rattle.scene_defs.specs.Edits.{text_at};
 ghost use Rattle.scene_defs.specs.Change.{absent_image, unfinished_image};
 ghost use Rattle.scene_defs.specs.Texts.{is_text};
 ghost use Rattle.scene_defs.specs.Valid.{IsValid, IsChange, IsRow};
-ghost use Rattle.gui_style.specs.Styles.{uses_style};
+ghost use Rattle.gui_style.specs.Styles.{is_handle, uses_style};
 ghost use Rattle.gui_store.specs.Parts.{AreKept};
 ghost use Rattle.gui_store.specs.Removed.{removed_by};
 ghost use Rattle.gui_store.specs.Rows.{HaveRows, set_without, row_shown, object_in};
@@ -29,6 +30,7 @@ use arrayvec::ArrayVec;
 use gui_base::intervals::HANDLE;
 use gui_base::{Handle, Kind, Limits, NoMemory, Part, Pool, Prop, Refusal};
 use gui_font::{Fonts, Images};
+use gui_pool::Items;
 use gui_rows::RowTable;
 use gui_style::Styles;
 use gui_tree::Tree;
@@ -214,6 +216,15 @@ impl Store {
         ensures { result ≡ uses_style (scene_of self.now).book h.0 id }
     {
         self.styles.uses_style(h, id)
+    }
+
+    /// The objects that use a style, for any selector. One that uses it for several selectors comes once for
+    /// each of them. They come in no order, and no others are read.
+    pub fn users(&self, id: u16) -> Items<'_, Handle>
+        ensures these { (h : ℕ) → list_any (is_handle h) result ≡ uses_style (scene_of self.now).book h id }
+        ensures few { length result < 2 ^ 32 }
+    {
+        self.styles.users(id)
     }
 
     /// What wins for a part of an object that has this row, in its states.

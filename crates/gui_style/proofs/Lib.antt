@@ -1,7 +1,9 @@
 pub mod Answers
 pub mod ByProp
 pub mod Changes
+pub mod Clearing
 pub mod Keys
 pub mod OfProp
 pub mod Shared
+pub mod Users
 pub mod Views

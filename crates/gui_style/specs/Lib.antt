@@ -1,3 +1,4 @@
 pub mod Filed
 pub mod Kept
 pub mod Styles
+pub mod Users

@@ -46,6 +46,10 @@ is_of_style number u = u.style == number
 abbrev pub uses_style : Book → ℕ → ℕ → Bool
 uses_style s h number = list_any (is_of_style number) (uses_of s h)
 
+-- whether a handle is that of an object
+abbrev pub is_handle : ℕ → Handle → Bool
+is_handle h k = k.0 == h
+
 abbrev pub Answer : Type 0
 Answer = Result (Unit {0}) Refusal
 

@@ -5,6 +5,7 @@
 
 mod entries;
 mod styles;
+mod uses;
 
 pub use gui_base::{Part, Prop, Selector};
 pub use styles::Styles;

@@ -1,10 +1,10 @@
 //! The styles.
-ghost use Rattle.std.specs.Prelude.{◌≡◌, ℕ, ◌+◌, ◌<◌, [], None, length, fold, IfOk, OnOk, OnErr};
+ghost use Rattle.std.specs.Prelude.{◌≡◌, ℕ, ◌+◌, ◌^◌, ◌<◌, [], None, length, fold, IfOk, OnOk, OnErr};
+ghost use Rattle.std.specs.List.{list_any};
 ghost use Rattle.style_defs.specs.Firsts.{place_by};
 ghost use Rattle.style_defs.specs.Cascade.{has_style, sets, settings_of, setting_of, of_use, stronger};
-ghost use Rattle.gui_pool.specs.Lists.{pushed};
 ghost use Rattle.style_defs.specs.Book.{locals_of, uses_of, is_for, is_use, an_entry, a_use, a_setting};
-ghost use Rattle.gui_style.specs.Styles.{winning_at, shared_at, local_at, uses_style, full_answer};
+ghost use Rattle.gui_style.specs.Styles.{winning_at, shared_at, local_at, uses_style, is_handle};
 ghost use Rattle.gui_style.specs.Kept.{first_style};
 ghost use Rattle.gui_style.specs.Styles.{style_answer, with_style, style_prop_answer, with_prop};
 ghost use Rattle.gui_style.specs.Styles.{unset_prop_answer, without_prop, add_style_answer, with_use};
@@ -12,8 +12,9 @@ ghost use Rattle.gui_style.specs.Styles.{remove_style_answer, without_use, set_l
 ghost use Rattle.gui_style.specs.Styles.{unset_local_answer, without_local, forgotten, all_forgotten};
 
 use crate::entries::Entries;
+use crate::uses::Uses;
 use gui_base::{Handle, NoMemory, Part, Pool, Prop, Refusal, Selector};
-use gui_pool::{Lists, Table};
+use gui_pool::{Items, Table};
 use std::alloc::Global;
 use std::marker::Model;
 use style_defs::cascade::{applies, given_by, stronger};
@@ -41,9 +42,10 @@ const NO_SELECTOR: Selector = Selector {
 /// and how many more of each fit. Any handle and any number of a style may be given: what nothing was done to
 /// has no entries and uses no style.
 ///
-/// A style takes 20 to 24 bytes, an entry 56 to 64 and a use 28 to 32. Handles and numbers take no memory.
+/// A style takes 20 to 24 bytes, an entry 56 to 64 and a use 52 to 60. Handles and numbers take no memory.
 ///
-/// A call takes time by the number of entries or uses of the object or the style that it names. A look-up
+/// A call takes time by the number of entries or uses of the object or the style that it names; taking a use
+/// from an object, by the number of all uses of its style. A look-up
 /// takes time by the uses of the object, and by the entries of the property alone: those of the object and of
 /// the styles that it uses. Others are passed over where they share a bucket.
 #[derive(Drop)]
@@ -52,8 +54,8 @@ pub struct Styles {
     made: Table<()>,
     // What is set locally at each object, and then what each shared style sets.
     entries: Entries,
-    // By handle.
-    uses: Lists<Use>,
+    // By handle and by style.
+    uses: Uses,
 }
 
 impl Model for Styles {
@@ -107,7 +109,7 @@ impl Styles {
         let Ok(entries) = Entries::open(alloc, FIRST_STYLE + NUMBERS, entries) else {
             return Err(NoMemory);
         };
-        let Ok(uses) = Lists::open(alloc, NUMBERS, uses) else {
+        let Ok(uses) = Uses::open(alloc, uses) else {
             return Err(NoMemory);
         };
         Ok(Styles {
@@ -236,7 +238,7 @@ impl Styles {
     fn use_place(&self, h: Handle, used: Use) -> Option<u32>
         ensures { result ≡ place_by (is_use used) (uses_of self.now.book h.0) }
     {
-        let mut uses = self.uses.of(h.0 as u32);
+        let mut uses = self.uses.of(h);
         let mut place = 0;
         while let Some(other) = uses.next() {
             if *other == used {
@@ -268,10 +270,7 @@ impl Styles {
         if self.use_place(h, used).is_some() {
             return Err(Refusal::Taken);
         }
-        match self.uses.push(h.0 as u32, used) {
-            Ok(()) => Ok(()),
-            Err(_) => Err(Refusal::Full(Pool::Uses)),
-        }
+        self.uses.push(h, used)
     }
 
     /// Takes a style from an object that uses it for this selector.
@@ -290,7 +289,7 @@ impl Styles {
         };
         match self.use_place(h, used) {
             Some(place) => {
-                self.uses.remove(h.0 as u32, place);
+                self.uses.remove(h, place);
                 Ok(())
             }
             None => Err(Refusal::Unknown),
@@ -301,13 +300,22 @@ impl Styles {
     pub fn uses_style(&self, h: Handle, id: u16) -> bool
         ensures { result ≡ uses_style self.now.book h.0 id }
     {
-        let mut uses = self.uses.of(h.0 as u32);
+        let mut uses = self.uses.of(h);
         while let Some(used) = uses.next() {
             if used.style == id {
                 return true;
             }
         }
         false
+    }
+
+    /// The objects that use a style, for any selector. One that uses it for several selectors comes once for
+    /// each of them. They come in no order, and no others are read.
+    pub fn users(&self, id: u16) -> Items<'_, Handle>
+        ensures these { (h : ℕ) → list_any (is_handle h) result ≡ uses_style self.now.book h id }
+        ensures few { length result < 2 ^ 32 }
+    {
+        self.uses.users(id)
     }
 
     /// Where a property that is set locally for a selector stands among the entries of an object.
@@ -375,7 +383,7 @@ impl Styles {
         ensures { self.new ≡ forgotten self.old h.0 }
     {
         self.entries.clear(h.0 as u32);
-        self.uses.clear(h.0 as u32);
+        self.uses.clear(h);
     }
 
     /// Removes all that is set locally at these objects, and all uses of them. Their slots are spare from
@@ -407,7 +415,7 @@ impl Styles {
         ensures { result ≡ fold stronger None (shared_at self.now.book h.0 part states prop) }
     {
         let mut best = None;
-        let mut uses = self.uses.of(h.0 as u32);
+        let mut uses = self.uses.of(h);
         while let Some(used) = uses.next() {
             if let Some(given) = self.shared_by(used, part, states, prop) {
                 best = Some(stronger(best, given));

@@ -121,6 +121,41 @@ fn a_style_that_is_used_again_is_the_last(rt: HostRuntime) -> Result<(), Fail> {
     Ok(())
 }
 
+/// The first three users of a style.
+fn first_users(styles: &Styles, id: u16) -> [Option<Handle>; 3] {
+    let mut users = styles.users(id);
+    [
+        users.next().copied(),
+        users.next().copied(),
+        users.next().copied(),
+    ]
+}
+
+#[test]
+fn users_of_a_style_come_once_for_each_use(rt: HostRuntime) -> Result<(), Fail> {
+    let mut styles = two_styles(rt.alloc())?;
+    let other = Handle(11);
+    let answers = [
+        styles.add_style(OBJECT, 1, on(Part::Main, 0)),
+        styles.add_style(other, 1, on(Part::Main, 0)),
+        styles.add_style(OBJECT, 1, on(Part::Knob, 0)),
+        styles.add_style(other, 2, on(Part::Main, 0)),
+    ];
+    assert_eq!(rt; answers, [Ok(()); 4]);
+    assert_eq!(rt;
+        first_users(&styles, 1),
+        [Some(OBJECT), Some(other), Some(OBJECT)]
+    );
+    assert_eq!(rt; first_users(&styles, 2), [Some(other), None, None]);
+
+    assert_eq!(rt; styles.remove_style(other, 1, on(Part::Main, 0)), Ok(()));
+    assert_eq!(rt; first_users(&styles, 1), [Some(OBJECT), Some(OBJECT), None]);
+    styles.forget(OBJECT);
+    assert_eq!(rt; first_users(&styles, 1), [None; 3]);
+    assert_eq!(rt; first_users(&styles, 2), [Some(other), None, None]);
+    Ok(())
+}
+
 #[test]
 fn the_last_slot_of_each_pool(rt: HostRuntime) -> Result<(), Fail> {
     let mut styles = opened(rt.alloc(), 1)?;

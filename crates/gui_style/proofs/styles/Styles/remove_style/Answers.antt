@@ -17,7 +17,7 @@ returns-in-Some-clause-answer c =
 pub returns-in-Some-clause-ok : goal.returns-in-Some-clause-ok
 returns-in-Some-clause-ok c =
     let s = c.self.inside in
-    ap (styles_of s.made s.entries) c.remove.ensures.removed
+    ap (styles_of s.made s.entries) c.remove.ensures
     ∙ use_removed s.made s.entries s.uses c.self.invariant c.args.h.0 (a_use c.args.id c.args.selector) c.args.self.now c.self.view_is c.in-Some.place c.in-Some.ensures
 
 pub returns-in-None-clause-answer : goal.returns-in-None-clause-answer

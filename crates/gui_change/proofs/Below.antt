@@ -3,7 +3,7 @@ use Rattle.std.proofs.Common.{◌≡◌, ◌∙◌, sym, ap, subst, refl, ℕ, �
 use Rattle.std.specs.List.{list_any}
 use Rattle.std.proofs.lemmas.Bool.{cases_Bool, false≢true}
 use Rattle.std.proofs.lemmas.Bool.Decides.{nat_tests}
-use Rattle.gui_base.specs.Forest.{Forest, Empty, Tree, has, parent_by, parent_of, path_by, path_of, with_row_by, StandsOnce}
+use Rattle.gui_base.specs.Forest.{Forest, Empty, Tree, children_of, has, parent_by, parent_of, path_by, path_of, with_row_by, StandsOnce}
 use Rattle.gui_base.specs.declared.Handle.{Handle}
 use Rattle.gui_base.specs.declared.refusal.Refusal.{Refusal}
 use Rattle.gui_base.proofs.Forests.{map-path_by, map-with_row_by}
@@ -39,9 +39,13 @@ path-gone : (f : Forest ℕ) (k : ℕ) (above : List ℕ) → has f k ≡ false 
 path-gone Empty k above off = refl
 path-gone (Tree j cs rest) k above off = grind (arith, nat_tests, path-gone rest k above)
 
-parent-gone : (f : Forest ℕ) (k : ℕ) (above : Option ℕ) → has f k ≡ false → parent_by (λ j. eqb j k) above f ≡ None
+pub parent-gone : (f : Forest ℕ) (k : ℕ) (above : Option ℕ) → has f k ≡ false → parent_by (λ j. eqb j k) above f ≡ None
 parent-gone Empty k above off = refl
 parent-gone (Tree j cs rest) k above off = grind (arith, nat_tests, parent-gone rest k above)
+
+pub kids-gone : (f : Forest ℕ) (k : ℕ) → has f k ≡ false → children_of f k ≡ Empty
+kids-gone Empty k off = refl
+kids-gone (Tree j cs rest) k off = grind (arith, nat_tests, kids-gone rest k)
 
 -- one step up from k
 pub record Climbs (f : Forest ℕ) (test : ℕ → Bool) (k : Handle) (next : Option Handle) : Type 0 where
@@ -95,7 +99,7 @@ set-handles : (h : ℕ) (f : Object → Object) → ((object : Object) → (f ob
     handles_of (with_row_by (is_at h) f g) ≡ handles_of g
 set-handles h f stays g = map-with_row_by handle_of (λ k. true) (is_at h) f stays g
 
-after-handles : (scene : Scene) (change : Change) (setter : Option Setter) (styling : Option Styling) (assets : Option AssetChange) →
+pub after-handles : (scene : Scene) (change : Change) (setter : Option Setter) (styling : Option Styling) (assets : Option AssetChange) →
     (is_some (option_map (λ (s : Setter). s.handle) setter) || (sets_text change || (is_some styling || is_some assets))) ≡ true →
     handles_of (after_by setter styling assets scene change).trees ≡ handles_of scene.trees
 after-handles scene change (Some setter) styling assets leaves = set-handles setter.handle.0 (over_row setter.after) (λ object. refl) scene.trees

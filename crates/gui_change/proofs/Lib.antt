@@ -3,7 +3,9 @@ pub mod Below
 pub mod Changes
 pub mod Covering
 pub mod Within
+pub mod Kids
 pub mod Lending
+pub mod Marks
 pub mod Listing
 pub mod Orders
 pub mod Owing
@@ -21,3 +23,9 @@ pub mod Reordering
 pub mod Rooted
 pub mod ShownTrees
 pub mod Settlement
+pub mod Laid
+pub mod SetRows
+pub mod MainValues
+pub mod BoxesStay
+pub mod Unmoved
+pub mod Edited

@@ -5,6 +5,8 @@ pub mod Differing
 pub mod Edits
 pub mod Handles
 pub mod Looks
+pub mod Marking
+pub mod Moving
 pub mod Owed
 pub mod Reordered
 pub mod Seen

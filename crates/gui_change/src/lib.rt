@@ -6,7 +6,9 @@
 //!
 //! Most changes set one object. Then the places are settled there alone, and of what is shown only the
 //! objects are looked at again that may stand elsewhere: such a change takes time by their number. Any other
-//! takes time by the number of all objects. All memory is taken at [`Canvas::open`].
+//! marks the objects that it may move, and the trees of these alone are solved: none where layout does not go
+//! by what it sets. To look at what is shown again takes time by the number of all objects. All memory is taken
+//! at [`Canvas::open`].
 //!
 //! What is known of the objects is lent, in paint order, so that a painter need not look it up.
 #![tactic(auto)]
@@ -18,6 +20,8 @@ mod debts;
 mod differing;
 mod edits;
 mod look;
+mod marking;
+mod moving;
 mod named;
 mod renew;
 mod reorder;

@@ -1,0 +1,87 @@
+-- The values and what layout goes by where the row of one object is set in all but that.
+use Rattle.std.proofs.Common.{◌≡◌, ◌∙◌, ap, ℕ, ◌<◌, Bool, true, false, cond, nat_eq, Some, option_map, List, [], ◌∷◌, map, refl, inl, inr, w16, arith}
+use Rattle.std.proofs.lemmas.Bool.{cases_Bool}
+use Rattle.std.proofs.lemmas.Nat.{one_shl}
+use Rattle.std.proofs.lemmas.Nat.Bits.{bit_at_set_other, bit_at_clear_other}
+use Rattle.gui_base.specs.Bits.{has_bit, with_bit, flag_bit}
+use Rattle.gui_base.specs.Forest.{Forest, Empty, Tree, path_by, has_by, with_row_by}
+use Rattle.gui_base.specs.declared.words.Flag.{Flag}
+use Rattle.gui_base.specs.declared.words.Flag.TheVariants.{Hidden, Clickable, Checkable, Bubble}
+use Rattle.gui_base.specs.declared.words.Part.TheVariants.{Main}
+use Rattle.style_defs.specs.Value.{value_on}
+use Rattle.scene_defs.specs.declared.Row.{Row}
+use Rattle.scene_defs.specs.Edits.{over_row, with_row}
+use Rattle.scene_defs.specs.Row.{is_on}
+use Rattle.scene_defs.specs.Scene.{Object, Scene, is_at, object_by, path_at, styled_of}
+use Rattle.gui_change.specs.Moving.{goes_by_flag}
+use Rattle.gui_change.proofs.Laid.{LaidSame, laid}
+
+-- a bit that is set or cleared leaves the lowest one
+lowest-kept : (set k : ℕ) (on : Bool) → k < 16 → (0 ≡ k → ⊥) → has_bit (with_bit set k on) 0 ≡ has_bit set 0
+unfolding has_bit with_bit
+lowest-kept set k true fits other =
+    ap (λ (b : ℕ). nat_eq b 1) (rw (one_shl k 16 fits) at (bit_at_set_other w16 set k fits 0 other))
+lowest-kept set k false fits other =
+    ap (λ (b : ℕ). nat_eq b 1) (rw (one_shl k 16 fits) at (bit_at_clear_other w16 set k fits 0 (omega arith) other))
+
+pub hidden-kept : (flags : ℕ) (flag : Flag) (on : Bool) → goes_by_flag flag ≡ false → is_on (with_bit flags (flag_bit flag) on) Hidden ≡ is_on flags Hidden
+hidden-kept flags Hidden on off = cc
+hidden-kept flags Clickable on off = lowest-kept flags 1 on (omega arith) (λ e. omega arith)
+hidden-kept flags Checkable on off = lowest-kept flags 2 on (omega arith) (λ e. omega arith)
+hidden-kept flags Bubble on off = lowest-kept flags 3 on (omega arith) (λ e. omega arith)
+
+module _ (scene : Scene) (h : ℕ) (f : Row → Row) (kind : (row : Row) → (f row).kind ≡ row.kind) (states : (row : Row) → (f row).states ≡ row.states)
+    (same : (object : Object) → laid (over_row f object) ≡ laid object) where
+  abbrev set_one : Object → Object
+  set_one object = cond (is_at h object) (over_row f object) object
+
+  abbrev set : Forest Object → Forest Object
+  set = with_row_by (is_at h) (over_row f)
+
+  handle-set : (object : Object) → (set_one object).handle ≡ object.handle
+  handle-set object = elim (cases_Bool (is_at h object)) [ inl is ↦ rw is refl | inr isnt ↦ rw isnt refl ]
+
+  laid-set : (object : Object) → laid (set_one object) ≡ laid object
+  laid-set object = elim (cases_Bool (is_at h object)) [ inl is ↦ rw is (same object) | inr isnt ↦ rw isnt refl ]
+
+  has-set : (k : ℕ) (g : Forest Object) → has_by (is_at k) (set g) ≡ has_by (is_at k) g
+  has-set k Empty = refl
+  has-set k (Tree object cs rest) = rw (handle-set object, has-set k cs, has-set k rest) refl
+
+  path-set : (k : ℕ) (above : List Object) (g : Forest Object) → path_by (is_at k) (map set_one above) (set g) ≡ map set_one (path_by (is_at k) above g)
+  path-set k above Empty = refl
+  path-set k above (Tree object cs rest) = elim (cases_Bool (is_at k object)) [
+    | inl is ↦ rw (handle-set object, is) refl
+    | inr isnt ↦ elim (cases_Bool (has_by (is_at k) cs)) [
+      | inl below ↦ rw (handle-set object, isnt, has-set k cs, below) (path-set k (object ∷ above) cs)
+      | inr beside ↦ rw (handle-set object, isnt, has-set k cs, beside) (path-set k above rest)
+    ]
+  ]
+
+  object-set : (k : ℕ) (g : Forest Object) → option_map laid (object_by (is_at k) (set g)) ≡ option_map laid (object_by (is_at k) g)
+  object-set k Empty = refl
+  object-set k (Tree object cs rest) = elim (cases_Bool (is_at k object)) [
+    | inl is ↦ rw (handle-set object, is) (ap Some (laid-set object))
+    | inr isnt ↦ elim (cases_Bool (has_by (is_at k) cs)) [
+      | inl below ↦ rw (handle-set object, isnt, has-set k cs, below) (object-set k cs)
+      | inr beside ↦ rw (handle-set object, isnt, has-set k cs, beside) (object-set k rest)
+    ]
+  ]
+
+  -- styles see the same of each object
+  styled-set : (path : List Object) → map (styled_of scene.book) (map set_one path) ≡ map (styled_of scene.book) path
+  styled-set [] = refl
+  styled-set (object ∷ above) = elim (cases_Bool (is_at h object)) [
+    | inl is ↦ rw (is, kind object.row, states object.row, styled-set above) refl
+    | inr isnt ↦ rw (isnt, styled-set above) refl
+  ]
+
+  pub row-set : (k : ℕ) → LaidSame scene (with_row scene h f) k
+  row-set k = record {
+    fonts = refl;
+    images = refl;
+    object = object-set k scene.trees;
+    values = λ prop by.
+        ap (λ p. value_on scene.book.styles (map (styled_of scene.book) p) Main prop) (path-set k [] scene.trees)
+        ∙ ap (λ os. value_on scene.book.styles os Main prop) (styled-set (path_at scene k));
+  }

@@ -1,0 +1,25 @@
+use Rattle.std.proofs.Common.{◌≡◌, ◌∙◌, sym, ap, subst, ℕ, true, eqb}
+use Rattle.std.proofs.lemmas.Bool.{eqb-true}
+use Rattle.gui_base.specs.Forest.{Forest, has}
+use Rattle.gui_store.specs.Views.{scene_of}
+use Rattle.scene_defs.specs.Scene.{handles_of}
+use Rattle.gui_change.proofs.Marks.{also-mark, none-there, room, there-still}
+use Rattle.gui_change.proofs.marking.mark_new.Goals as goal
+
+pub mark-requires : goal.mark-requires
+mark-requires c =
+    let scene = scene_of c.args.store.now in
+    record { room = room c.args.marks.now (handles_of scene.trees) c.args.child (none-there c.args.marks.now scene c.tree-tree.ensures.valid c.requires.none) c.requires.own }
+
+pub mark_children-requires : goal.mark_children-requires
+mark_children-requires c =
+    let scene = scene_of c.args.store.now in
+    let f = handles_of scene.trees in
+    let h = c.args.child.0 in
+    let marked =
+    there-still c.args.marks.now c.mark.new.self f (λ k. eqb h k) (none-there c.args.marks.now scene c.tree-tree.ensures.valid c.requires.none)
+    (also-mark c.args.marks.now c.mark.new.self h c.mark.ensures.own c.mark.ensures.others c.mark.ensures.parents) (λ k is. subst (λ j. has f j ≡ true) (eqb-true h k is) c.requires.own) c.mark.ensures.most in
+    record { room = room c.mark.new.self f c.args.parent marked c.requires.above }
+
+pub returns-clause-own : goal.returns-clause-own
+returns-clause-own c = c.mark_children.ensures.changed c.args.child.0 ∙ c.mark.ensures.own

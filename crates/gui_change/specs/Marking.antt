@@ -1,0 +1,33 @@
+-- Which objects are marked: those that may stand elsewhere.
+use Rattle.std.specs.Prelude.{◌≡◌, ◌≤◌, ℕ, List, Bool, true, false, ◌||◌}
+use Rattle.gui_base.specs.Forest.{Forest, has, size}
+use Rattle.scene_defs.specs.declared.Change.{Change}
+use Rattle.scene_defs.specs.Scene.{Scene}
+use Rattle.gui_layout.specs.declared.marks.Marks.{Marks}
+use Rattle.gui_layout.specs.declared.places.Places.{Places}
+use Rattle.gui_layout.specs.Marks.{is_changed, is_marked, is_parent, most_marks}
+use Rattle.gui_layout.specs.SettledBut.{AreSettledButMarks}
+use Rattle.gui_change.specs.Edits.{WasEdited}
+use Rattle.gui_change.specs.declared.concerned.Concerned.{Concerned}
+use Rattle.gui_change.specs.declared.edits.Edit.{Edit}
+
+-- only objects of these trees are marked, and each of them may be
+pub record AreMarked (marks : Marks) (f : Forest ℕ) : Type 0 where
+  pub there : (k : ℕ) → is_marked marks k ≡ true → has f k ≡ true
+  pub room : size f ≤ most_marks marks
+
+-- no object is marked, and so many may be
+pub record AreUnmarked (marks : Marks) (objects : ℕ) : Type 0 where
+  pub none : (k : ℕ) → is_marked marks k ≡ false
+  pub most : most_marks marks ≡ objects
+
+-- these objects are marked, besides those that were marked before
+pub record AlsoMarks (old new : Marks) (m : ℕ → Bool) : Type 0 where
+  pub changed : (k : ℕ) → is_changed new k ≡ (is_changed old k || m k)
+  pub parents : (k : ℕ) → is_parent new k ≡ true → is_parent old k ≡ true
+
+-- places that were settled before a change are right after it, but for what the marks tell
+abbrev pub MarksTell : Marks → Scene → Edit → Change → Concerned → List ℕ → Type 0
+MarksTell marks after edit made concerned removed =
+    (places : Places) → WasEdited places after edit made concerned removed →
+    AreSettledButMarks places after (is_changed marks) (is_parent marks)

@@ -119,7 +119,7 @@ fn choose_by(byte: u16, yes: u16x8, no: u16x8) -> u16x8
 /// Eight bits from bit `at` on, as a byte: some of its byte and some of the next, of which none are 1 where
 /// there is no next.
 #[inline(always)]
-fn bits_from(bits: &[u8], at: usize) -> u16
+pub(crate) fn bits_from(bits: &[u8], at: usize) -> u16
     requires { at < 8 * length bits.now }
     ensures small { result < 256 }
     ensures value { (k : ℕ) → k < 8 → (result / 2 ^ (7 - k) % 2 == 1) ≡ mask_bit bits.now (at + k) }

@@ -1,10 +1,11 @@
 //! Colours mixed over rows of pixels, each pixel with its own.
-ghost use Rattle.std.specs.Prelude.{◌≡◌, ℕ, ◌+◌, ◌*◌, ◌/◌, ◌<◌, ◌≤◌, length, slice_index, slice_index_or};
+ghost use Rattle.std.specs.Prelude.{◌≡◌, ℕ, ◌+◌, ◌-◌, ◌*◌, ◌/◌, ◌%◌, ◌^◌, ◌<◌, ◌≤◌, ◌==◌, length, slice_index, slice_index_or};
+ghost use Rattle.std.specs.Prelude.{if◌then◌else◌};
 ghost use Rattle.gui_base.specs.Color.{mix, black};
 ghost use Rattle.gui_color.specs.Masks.{mask_bit, masked};
 
-use crate::lanes::{GROUP, mix_colors, mix_masked};
-use crate::mixing::{mix, parts_of};
+use crate::lanes::{GROUP, bits_from, mix_colors, mix_masked};
+use crate::mixing::{ALL_PARTS, Veil, mix, parts_of};
 use crate::row::write_last;
 use gui_base::Rgb565;
 
@@ -68,7 +69,8 @@ fn mask_groups(row: &mut [Rgb565], bits: &[u8], first: u32, fg: Rgb565, opa: u8)
     }
 }
 
-/// The same of a row that is no group, as most rows of letters are: it is mixed as the first pixels of one.
+/// The same of a row that is no group, as most rows of letters are: its bits are taken as one byte, and each
+/// pixel is mixed by itself. Copied into a group and back, it would wait for its own writes.
 #[inline(always)]
 fn mask_short(row: &mut [Rgb565], bits: &[u8], first: u32, fg: Rgb565, opa: u8)
     requires short { length row.old < 8 }
@@ -77,10 +79,53 @@ fn mask_short(row: &mut [Rgb565], bits: &[u8], first: u32, fg: Rgb565, opa: u8)
     ensures { (k : ℕ) → k < length row.old → slice_index_or row.new k black
         ≡ masked (mask_bit bits.now (first + k)) fg opa (slice_index_or row.old k black) }
 {
-    let mut group = [Rgb565::BLACK; GROUP];
-    group[..row.len()].copy_from_slice(row);
-    mix_masked(&mut group, bits, first as usize, fg, opa);
-    row.copy_from_slice(&group[..row.len()]);
+    let byte = bits_from(bits, first as usize);
+    if parts_of(opa) == ALL_PARTS {
+        cover_masked(row, byte, fg);
+    } else {
+        blend_masked(row, byte, Veil::new(fg, opa));
+    }
+}
+
+/// Makes each pixel `fg` whose bit of `byte` is 1, the highest first.
+#[inline(always)]
+fn cover_masked(row: &mut [Rgb565], byte: u16, fg: Rgb565)
+    requires { length row.old < 8 }
+    ensures { (k : ℕ) → k < length row.old → slice_index_or row.new k black
+        ≡ (if byte / 2 ^ (7 - k) % 2 == 1 then fg else slice_index_or row.old k black) }
+{
+    for (i, pixel) in row.iter_mut().enumerate() {
+        *pixel = chosen(has_bit(byte, i), fg, *pixel);
+    }
+}
+
+/// Whether bit `i` of a byte is 1, counted from the highest.
+#[inline(always)]
+fn has_bit(byte: u16, i: usize) -> bool
+    requires { i < 8 }
+    ensures { result ≡ (byte / 2 ^ (7 - i) % 2 == 1) }
+{
+    byte >> (7 - i) & 1 == 1
+}
+
+/// One of two colours.
+#[inline(always)]
+fn chosen(test: bool, fg: Rgb565, bg: Rgb565) -> Rgb565
+    ensures { result ≡ (if test then fg else bg) }
+{
+    if test { fg } else { bg }
+}
+
+/// Mixes a colour over each pixel whose bit of `byte` is 1, the highest first.
+#[inline(always)]
+fn blend_masked(row: &mut [Rgb565], byte: u16, veil: Veil)
+    requires { length row.old < 8 }
+    ensures { (k : ℕ) → k < length row.old → slice_index_or row.new k black
+        ≡ masked (byte / 2 ^ (7 - k) % 2 == 1) veil.fg veil.opa (slice_index_or row.old k black) }
+{
+    for (i, pixel) in row.iter_mut().enumerate() {
+        *pixel = veil.over_if(has_bit(byte, i), *pixel);
+    }
 }
 
 /// Bit `k` of some bytes, counted from the highest of the first.

@@ -4,8 +4,11 @@ ghost use Rattle.std.specs.Prelude.{length, map, take, slice_index_or};
 ghost use Rattle.gui_base.specs.Color.{mix, black};
 
 use crate::lanes::{GROUP, mix_one};
-use crate::mixing::{ALL_PARTS, mix, parts_of};
+use crate::mixing::{ALL_PARTS, Veil, parts_of};
 use gui_base::Rgb565;
+
+/// The pixels of two groups.
+const PAIR: usize = 2 * GROUP;
 
 /// Mixes `fg` over each pixel with an opacity from 0 to 255.
 pub fn fill_row(row: &mut [Rgb565], fg: Rgb565, opa: u8)
@@ -41,29 +44,46 @@ fn blend_row(row: &mut [Rgb565], fg: Rgb565, opa: u8)
             write_last(row, last);
         }
         Some(_) => blend_groups(row, fg, opa),
-        None => blend_each(row, fg, opa),
+        None => blend_each(row, Veil::new(fg, opa)),
     }
 }
 
-/// Mixes a colour over the pixels of whole groups.
+/// Mixes a colour over the pixels of whole groups, two groups a turn: no group waits for another.
 #[inline(always)]
 fn blend_groups(row: &mut [Rgb565], fg: Rgb565, opa: u8)
     ensures { (k : ℕ) → k < length row.old / 8 * 8 → slice_index_or row.new k black
         ≡ mix fg (slice_index_or row.old k black) opa }
 {
-    for i in 0..row.len() / GROUP {
-        let from = i * GROUP;
+    let pairs = row.len() / PAIR;
+    for i in 0..pairs {
+        blend_pair(&mut row[i * PAIR..i * PAIR + PAIR], fg, opa);
+    }
+    let from = pairs * PAIR;
+    if from + GROUP <= row.len() {
         mix_one(&mut row[from..from + GROUP], fg, opa);
+    }
+}
+
+/// Mixes a colour over the pixels of two groups.
+#[inline(always)]
+fn blend_pair(groups: &mut [Rgb565], fg: Rgb565, opa: u8)
+    requires { length groups.old ≡ 16 }
+    ensures { (k : ℕ) → k < 16 → slice_index_or groups.new k black
+        ≡ mix fg (slice_index_or groups.old k black) opa }
+{
+    for i in 0..2 {
+        let from = i * GROUP;
+        mix_one(&mut groups[from..from + GROUP], fg, opa);
     }
 }
 
 /// Mixes a colour over each pixel, one by one.
 #[inline(always)]
-fn blend_each(row: &mut [Rgb565], fg: Rgb565, opa: u8)
-    ensures { row.new ≡ map (λ bg. mix fg bg opa) row.old }
+fn blend_each(row: &mut [Rgb565], veil: Veil)
+    ensures { row.new ≡ map (λ bg. mix veil.fg bg veil.opa) row.old }
 {
     for pixel in row.iter_mut() {
-        *pixel = mix(fg, *pixel, opa);
+        *pixel = veil.over(*pixel);
     }
 }
 

@@ -8,5 +8,5 @@ use Rattle.gui_color.proofs.row.blend_each.Goals as goal
 pub loop-pixel-preserved : goal.loop-pixel-preserved
 loop-pixel-preserved c =
     let bg : Rgb565 = slice_index_or c.loop-pixel.row c.loop-pixel.pixel-index black in
-    rw (c.mix.ensures) (map_over_more (λ p. mix c.args.fg p c.args.opa) c.args.row.now c.loop-pixel.row c.loop-pixel.pixel-index bg c.loop-pixel-test.true c.loop-pixel.invariant
+    rw (c.over.ensures) (map_over_more (λ p. mix c.args.veil.fg p c.args.veil.opa) c.args.row.now c.loop-pixel.row c.loop-pixel.pixel-index bg c.loop-pixel-test.true c.loop-pixel.invariant
     (get_or_default c.loop-pixel.row c.loop-pixel.pixel-index black bg (omega arith)))

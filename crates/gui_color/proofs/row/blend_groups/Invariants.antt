@@ -4,6 +4,6 @@ use Rattle.gui_color.proofs.row.blend_groups.Given as goal
 
 abbrev pub invariant-loop-i : goal.invariant-loop-i
 invariant-loop-i l = record {
-  done : (k : ℕ) → k < l.i * 8 → slice_index_or l.row k black ≡ mix l.fg (slice_index_or l.fn.row k black) l.opa;
-  left : (k : ℕ) → l.i * 8 ≤ k → slice_index_or l.row k black ≡ slice_index_or l.fn.row k black;
+  done : (k : ℕ) → k < l.i * 16 → slice_index_or l.row k black ≡ mix l.fg (slice_index_or l.fn.row k black) l.opa;
+  left : (k : ℕ) → l.i * 16 ≤ k → slice_index_or l.row k black ≡ slice_index_or l.fn.row k black;
 }

@@ -6,8 +6,11 @@ ghost use Rattle.text_defs.specs.Images.{color_at};
 ghost use Rattle.gui_draw.specs.Texels.{row_over};
 
 use gui_base::Rgb565;
-use gui_color::{combine, mix};
+use gui_color::{combine, mix, mix_row};
 use gui_font::color_at;
+
+/// How many texels are read before they are mixed.
+const READ: usize = 32;
 
 /// Mixes colours of two bytes, from the one of number `first` on, with one opacity.
 pub(crate) fn mix_colors(row: &mut [Rgb565], bytes: &[u8], first: usize, opa: u8)
@@ -46,16 +49,37 @@ fn blend_colors(row: &mut [Rgb565], bytes: &[u8], first: usize, opa: u8)
     }
 }
 
-/// Mixes colours of two bytes and a byte with an opacity, after which comes `opa`.
+/// Mixes colours of two bytes and a byte with an opacity, after which comes `opa`. Some of them are read, and
+/// then mixed in lanes.
 pub(crate) fn mix_shades(row: &mut [Rgb565], bytes: &[u8], first: usize, opa: u8)
     requires { (first + length row.old) * 3 ≤ length bytes.now }
     ensures { (k : ℕ) → k < length row.old → slice_index_or row.new k black
         ≡ row_over format.Rgb565Alpha bytes.now black opa (first + k) (slice_index_or row.old k black) }
 {
-    for (i, pixel) in row.iter_mut().enumerate() {
-        let at = (first + i) * 3;
-        *pixel = mix(color_at(bytes, at), *pixel, combine(bytes[at + 2], opa));
+    let whole = row.len() / READ;
+    for i in 0..whole {
+        let from = i * READ;
+        mix_read(&mut row[from..from + READ], bytes, first + from, opa);
     }
+    let from = whole * READ;
+    mix_read(&mut row[from..], bytes, first + from, opa);
+}
+
+/// The same of no more than are read at a time.
+fn mix_read(row: &mut [Rgb565], bytes: &[u8], first: usize, opa: u8)
+    requires few { length row.old ≤ 32 }
+    requires bytes { (first + length row.old) * 3 ≤ length bytes.now }
+    ensures { (k : ℕ) → k < length row.old → slice_index_or row.new k black
+        ≡ row_over format.Rgb565Alpha bytes.now black opa (first + k) (slice_index_or row.old k black) }
+{
+    let mut colors = [Rgb565::BLACK; READ];
+    let mut opas = [0_u8; READ];
+    for i in 0..row.len() {
+        let at = (first + i) * 3;
+        colors[i] = color_at(bytes, at);
+        opas[i] = combine(bytes[at + 2], opa);
+    }
+    mix_row(row, &colors[..row.len()], &opas[..row.len()]);
 }
 
 /// Mixes a colour with the opacity of each byte, after which comes `opa`.

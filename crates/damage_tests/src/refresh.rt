@@ -24,6 +24,10 @@ impl Picture for White {
 
     ghost color = { λ picture x y. white };
 
+    ghost per_pixel = { λ picture. 1 };
+
+    ghost per_slice = { λ picture. 0 };
+
     fn slice<L: Ledger>(&self, buf: &mut DrawBuf, steps: &mut Steps<L>) {
         let area = buf.area();
         fill(buf, area, area, Rgb565::WHITE, 255, steps);

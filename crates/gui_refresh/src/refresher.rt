@@ -1,5 +1,5 @@
 //! The refresher.
-ghost use Rattle.std.specs.Prelude.{◌≡◌, ◌≤◌, ◌%◌, ◌^◌, ◌+◌, true, false, ℤ, pos, sum_by, IfOk, OnOk, OnErr};
+ghost use Rattle.std.specs.Prelude.{◌≡◌, ◌≤◌, ◌%◌, ◌^◌, ◌+◌, ◌*◌, true, false, ℤ, pos, sum_by, IfOk, OnOk, OnErr};
 ghost use Rattle.gui_base.specs.Area.{area_at, has, is_empty, size_of};
 ghost use Rattle.gui_base.specs.Bounded.{bounds_of};
 ghost use Rattle.gui_base.specs.Corners.{rect_of};
@@ -7,6 +7,7 @@ ghost use Rattle.gui_color.specs.Buffer.{color_at};
 ghost use Rattle.gui_edge.specs.Panel.{CanFlush, Flushes, FlushDone, FlushFailed};
 ghost use Rattle.gui_refresh.specs.Stages.{CanRefresh, sizes_of, stage};
 ghost use Rattle.gui_refresh.specs.Refreshes.{RefreshesAt};
+ghost use Rattle.gui_refresh.specs.Slicing.{DrawsSlices};
 ghost use Rattle.gui_refresh.specs.Sums.{color_sum};
 
 use crate::Refreshed;
@@ -71,8 +72,12 @@ impl Refresher {
         ensures refreshes { RefreshesAt (Q.color picture.now)
             (stage self.old (P.state panel.old) damage.old)
             (stage self.new (P.state panel.new) damage.new) result }
+        ensures draws { DrawsSlices self.old.sizes.limit (Q.per_pixel picture.now) (Q.per_slice picture.now)
+            (P.state panel.old).sent (P.state panel.new).sent steps.old steps.new }
     {
         damage.join_all();
+        // Lending the areas tells that the list is sound.
+        let _areas = damage.areas();
         while let Some(slice) = damage.take_slice(self.limit) {
             match show(&mut self.buffer, picture, slice, panel, steps) {
                 Ok(()) => {}
@@ -117,6 +122,8 @@ fn show<Q: Picture, P: Panel, L: Ledger>(
     requires slice { CanFlush (P.state panel.old) (rect_of slice) }
     requires fits { size_of (rect_of slice) ≤ buffer.old.limit }
     ensures limit { buffer.new.limit ≡ buffer.old.limit }
+    ensures steps { steps.new ≤ steps.old
+        + (size_of (rect_of slice) * (1 + Q.per_pixel picture.now) + Q.per_slice picture.now) }
     ensures same { Flushes (P.state panel.old) (P.state panel.new) (rect_of slice) }
     ensures ok { OnOk result (FlushDone (P.state panel.old) (P.state panel.new) (rect_of slice)
         (Q.color picture.now)) }
@@ -148,6 +155,8 @@ fn paint<Q: Picture, L: Ledger>(
     ensures limit { buffer.new.limit ≡ buffer.old.limit }
     ensures colors { (x y : ℤ) → has (rect_of slice) x y ≡ true →
         color_at (rect_of slice) buffer.new.pixels x y ≡ Q.color picture.now x y }
+    ensures steps { steps.new ≤ steps.old
+        + (size_of (rect_of slice) * (1 + Q.per_pixel picture.now) + Q.per_slice picture.now) }
 {
     buffer.begin(slice, steps);
     picture.slice(buffer, steps);

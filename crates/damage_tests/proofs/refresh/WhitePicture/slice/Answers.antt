@@ -1,8 +1,9 @@
-use Rattle.std.proofs.Common.{◌≡◌, ◌∙◌, refl, sym, ap, subst, true, ℤ}
+use Rattle.std.proofs.Common.{◌≡◌, ◌∙◌, refl, sym, ap, subst, true, ℤ, arith}
 use Rattle.gui_base.specs.Area.{Rect, has}
 use Rattle.gui_base.specs.Coats.{laid, within, fill_coat}
 use Rattle.gui_base.specs.Color.{black, white, mix, mix_channel}
 use Rattle.gui_base.specs.Corners.{rect_of}
+use Rattle.damage_tests.proofs.Counting.{pixel_count_most}
 use Rattle.damage_tests.proofs.refresh.WhitePicture.slice.Goals as goal
 
 -- white over black is white
@@ -10,8 +11,8 @@ filled : (area : Rect) (x y : ℤ) → has area x y ≡ true → laid (within ar
 unfolding mix mix_channel
 filled area x y i = rw i refl
 
-pub returns : goal.returns
-returns g c =
+pub returns-clause-colors : goal.returns-clause-colors
+returns-clause-colors g c =
     let area = rect_of c.area-area.result in
     let drawn = c.fill.ensures in
     record {
@@ -19,3 +20,9 @@ returns g c =
       limit_stays = drawn.limit_stays;
       pixels = λ x y i. drawn.pixels x y i ∙ (ap (laid (within area (fill_coat area white 255) x y)) (c.requires x y i) ∙ filled area x y (subst (λ (a : Rect). has a x y ≡ true) (sym c.area-area.ensures) i));
     }
+
+pub returns-clause-steps : goal.returns-clause-steps
+returns-clause-steps g c =
+    let drawn = c.fill.ensures.steps in
+    let most = pixel_count_most c.args.buf.now.area (within (rect_of c.area-area.result) (fill_coat (rect_of c.area-area.result) white 255)) in
+    omega (arith, drawn, most)

@@ -1,6 +1,9 @@
 pub mod Coating
+pub mod Counting
 pub mod Listing
-pub mod Painted
 pub mod Plain
 pub mod Ready
+pub mod Searching
 pub mod Trees
+pub mod Waiting
+pub mod Walking

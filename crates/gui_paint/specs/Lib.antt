@@ -1,2 +1,3 @@
 pub mod Paintable
 pub mod Painting
+pub mod Walking

@@ -1,19 +1,11 @@
 -- What painting does to a draw buffer.
-use Rattle.std.specs.Prelude.{◌≡◌, ℕ, Bool, true, false, not, ◌&&◌, if◌then◌else◌, fold, List, ℤ}
+use Rattle.std.specs.Prelude.{◌≡◌, ℕ, true, if◌then◌else◌, fold, List, ℤ}
 use Rattle.gui_base.specs.declared.color.Rgb565.{Rgb565}
-use Rattle.gui_base.specs.declared.words.Flag.TheVariants.{Hidden}
 use Rattle.gui_base.specs.Area.{Rect, has}
 use Rattle.gui_base.specs.Coats.{Coat}
-use Rattle.gui_base.specs.Forest.{Forest, Empty, Tree, tree_by}
 use Rattle.gui_color.specs.Buffer.{Buffer, pixel_at}
-use Rattle.scene_defs.specs.declared.Row.{Row}
-use Rattle.scene_defs.specs.Row.{is_on}
-use Rattle.scene_defs.specs.Scene.{Object, Scene, is_at}
-use Rattle.scene_defs.specs.Place.{place}
-use Rattle.scene_defs.specs.Visible.{holds}
+use Rattle.scene_defs.specs.Scene.{Scene}
 use Rattle.scene_defs.specs.Items.{coats, lay}
-use Rattle.scene_defs.specs.Shown.{shown}
-use Rattle.scene_defs.specs.Picture.{paint_seen}
 
 -- how each pixel turns into another colour
 abbrev pub Painting : Type 0
@@ -41,34 +33,6 @@ painted_coat visible coat x y under = if has visible x y then lay x y under coat
 abbrev pub painted_coats : Rect → List Coat → Painting
 painted_coats visible coats x y under = if has visible x y then fold (lay x y) under coats else under
 
--- whether an object with this row is seen at a pixel of its place
-abbrev pub is_seen : Row → Bool → Bool
-is_seen row in_place = not (is_on row.flags Hidden) && in_place
-
--- these trees, back to front, over the colour of a pixel, and whether what is seen of their parent has it
-abbrev pub painted : Scene → ℤ → ℤ → Bool → Forest Object → Rgb565 → Rgb565
-painted scene x y inside Empty under = under
-painted scene x y inside (Tree object cs rest) under =
-    let here = inside && is_seen object.row (holds (place scene object.handle) x y) in
-    let own = if here then fold (lay x y) under (coats scene object.handle) else under in
-    painted scene x y inside rest (painted scene x y here cs own)
-
--- the tree at h, where the clip is what is seen of its parent
-abbrev pub painted_tree : Scene → Rect → ℕ → Painting
-painted_tree scene clip h x y under = painted scene x y (has clip x y) (tree_by (is_at h) scene.trees) under
-
 -- an object by itself where it is seen
 abbrev pub painted_object : Scene → Rect → ℕ → Painting
 painted_object scene visible h = painted_coats visible (coats scene h)
-
--- all that is shown
-abbrev pub painted_scene : Scene → Painting
-painted_scene scene x y under = fold (paint_seen x y) under (shown scene)
-
--- the pixels of the clip at which the object is seen
-pub record IsSeenPart (clip : Rect) (row : Row) (place part : Rect) : Type 0 where
-  pub pixels : (x y : ℤ) → has part x y ≡ (has clip x y && is_seen row (has place x y))
-
--- there are none
-pub record IsUnseen (clip : Rect) (row : Row) (place : Rect) : Type 0 where
-  pub pixels : (x y : ℤ) → (has clip x y && is_seen row (has place x y)) ≡ false

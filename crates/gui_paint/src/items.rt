@@ -1,7 +1,8 @@
 //! Painting the items of an object.
-ghost use Rattle.std.specs.Prelude.{◌≤◌, length, map};
+ghost use Rattle.std.specs.Prelude.{◌≤◌, ◌+◌, ◌*◌, length, map};
 ghost use Rattle.std.specs.List.{All};
 ghost use Rattle.std.specs.Str.{chars};
+ghost use Rattle.gui_base.specs.Area.{size_of};
 ghost use Rattle.gui_base.specs.Corners.{rect_of};
 ghost use Rattle.gui_widgets.specs.Looks.{item_of, items_of};
 ghost use Rattle.scene_defs.specs.Items.{coat_in};
@@ -28,8 +29,10 @@ pub(crate) fn paint_items<L: Ledger>(
 )
     requires ready { All (IsPaintable fonts.now.fonts) (items_of items.now) }
     requires short { length text.now ≤ 1000 }
-    ensures { Paints buf.old buf.new (painted_coats (rect_of visible)
+    ensures painted { Paints buf.old buf.new (painted_coats (rect_of visible)
         (map (coat_in fonts.now.fonts images.now.images (chars text.now)) (items_of items.now))) }
+    ensures steps { steps.new ≤ steps.old
+        + length items.now * (size_of buf.old.area + length (chars text.now)) }
 {
     for item in items {
         paint_item(buf, visible, *item, fonts, images, text, steps);
@@ -48,8 +51,9 @@ fn paint_item<L: Ledger>(
 )
     requires ready { IsPaintable fonts.now.fonts (item_of item) }
     requires short { length text.now ≤ 1000 }
-    ensures { Paints buf.old buf.new (painted_coat (rect_of visible)
+    ensures painted { Paints buf.old buf.new (painted_coat (rect_of visible)
         (coat_in fonts.now.fonts images.now.images (chars text.now) (item_of item))) }
+    ensures steps { steps.new ≤ steps.old + (size_of buf.old.area + length (chars text.now)) }
 {
     let area = item.area;
     match item.paint {

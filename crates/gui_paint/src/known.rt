@@ -1,6 +1,8 @@
 //! Painting objects whose items are known.
-ghost use Rattle.std.specs.Prelude.{◌≡◌, true};
+ghost use Rattle.std.specs.Prelude.{◌≡◌, ◌≤◌, ◌+◌, true};
 ghost use Rattle.std.specs.List.{list_all};
+ghost use Rattle.cover_defs.specs.Steps.{object_steps};
+ghost use Rattle.gui_base.specs.Area.{size_of};
 ghost use Rattle.gui_base.specs.Corners.{rect_of};
 ghost use Rattle.gui_store.specs.Views.{scene_of};
 ghost use Rattle.gui_widgets.specs.Looks.{item_of, items_of};
@@ -55,8 +57,10 @@ impl<'a> Shown<'a> {
     )
         requires there { is_there (scene_of self.now.store.now) h.0 ≡ true }
         requires known { items_of known.now ≡ items (scene_of self.now.store.now) h.0 }
-        ensures { Paints buf.old buf.new
+        ensures painted { Paints buf.old buf.new
             (painted_object (scene_of self.now.store.now) (rect_of visible) h.0) }
+        ensures steps { steps.new ≤ steps.old
+            + object_steps (scene_of self.now.store.now) (size_of buf.old.area) h.0 }
     {
         let store = self.store;
         let _tree = store.tree();

@@ -1,98 +1,142 @@
 //! Painting a scene into a draw buffer.
-ghost use Rattle.std.specs.Prelude.{◌≡◌, ◌≤◌, true, MatchOption, Some};
-ghost use Rattle.gui_base.specs.Area.{width_of};
+ghost use Rattle.std.specs.Prelude.{◌≡◌, ◌≤◌, ◌+◌, ◌*◌, true, Some, [], ◌∷◌, if◌then◌else◌, sum_by, None};
+ghost use Rattle.gui_base.specs.Area.{width_of, size_of};
 ghost use Rattle.gui_base.specs.Corners.{rect_of};
+ghost use Rattle.gui_base.specs.Forest.{size, tree_by};
+ghost use Rattle.gui_color.specs.Buffer.{IsBlack};
+ghost use Rattle.gui_draw.specs.Drawing.{ShowsColors};
 ghost use Rattle.layout_defs.specs.Reach.{IsNear};
+ghost use Rattle.scene_defs.specs.Picture.{paint as paint_of};
 ghost use Rattle.scene_defs.specs.Place.{place as place_of};
-ghost use Rattle.scene_defs.specs.Scene.{is_there};
+ghost use Rattle.scene_defs.specs.Scene.{is_at, is_there};
+ghost use Rattle.scene_defs.specs.Shown.{shown as shown_of};
 ghost use Rattle.scene_defs.specs.Valid.{IsValid};
+ghost use Rattle.cover_defs.specs.Steps.{object_count, object_steps, slice_steps, steps_of};
+ghost use Rattle.cover_defs.specs.Walks.{from_handle};
 ghost use Rattle.gui_store.specs.Views.{scene_of};
-ghost use Rattle.gui_paint.specs.Painting.{Paints, IsSeenPart, IsUnseen, painted_object};
-ghost use Rattle.gui_paint.specs.Painting.{painted_tree, painted_scene};
+ghost use Rattle.gui_paint.specs.Painting.{Paints, painted_object};
+ghost use Rattle.gui_paint.specs.Walking.{PaintsMet, StandsAt, is_awaited, number_of, painted_each, seen_so, tree_walk};
 
 use crate::items::paint_items;
 use crate::shown::Shown;
+use crate::walk::{SYSTEM_LAYER, SeenObject, TOP_LAYER, panel, visit};
 use arrayvec::ArrayVec;
-use gui_base::{Area, Flag, Handle, Steps};
+use gui_base::{Area, Handle, Steps};
 use gui_color::DrawBuf;
 use gui_draw::Picture;
-use gui_store::Row;
 use gui_widgets::items;
 use std::sync::ledger::Ledger;
 
-/// The layer above the active screen.
-const TOP_LAYER: Handle = Handle(1);
-
-/// The layer above all else.
-const SYSTEM_LAYER: Handle = Handle(2);
-
 impl<'a> Picture for Shown<'a> {
     ghost use Rattle.scene_defs.specs.Picture.{paint};
+    ghost use Rattle.cover_defs.specs.Cover.{items_shown};
+    ghost use Rattle.cover_defs.specs.Steps.{slice_extra};
 
     ghost color = { λ s. paint (scene_of s.store.now) };
 
-    fn slice<L: Ledger>(&self, buf: &mut DrawBuf, steps: &mut Steps<L>) {
-        paint(self, buf, steps);
+    ghost per_pixel = { λ s. items_shown (scene_of s.store.now) };
+
+    ghost per_slice = { λ s. slice_extra (scene_of s.store.now) };
+
+    /// Draws what the picture has in the buffer's area, from the last object on that covers it.
+    fn slice<L: Ledger>(&self, buf: &mut DrawBuf, steps: &mut Steps<L>)
+        requires { IsBlack buf.old }
+        ensures colors { ShowsColors buf.old buf.new (paint_of (scene_of self.now.store.now)) }
+        ensures steps { steps.new ≤ steps.old + (size_of buf.old.area
+            * items_shown (scene_of self.now.store.now) + slice_extra (scene_of self.now.store.now)) }
+        ensures late { steps.new ≤ steps.old + slice_steps (scene_of self.now.store.now) buf.old.area }
+    {
+        // Lending the tree tells that the scene is in order.
+        let _tree = self.store.tree();
+        let start = self.cover_start(buf.area(), steps);
+        paint(self, buf, start, steps);
     }
 }
 
-/// Paints what is shown of a scene over the pixels of the buffer.
-fn paint<L: Ledger>(shown: &Shown, buf: &mut DrawBuf, steps: &mut Steps<L>)
-    ensures { Paints buf.old buf.new (painted_scene (scene_of shown.now.store.now)) }
+/// Paints what is shown of a scene over the pixels of the buffer, from an object on, or all where that is
+/// `None`.
+fn paint<L: Ledger>(shown: &Shown, buf: &mut DrawBuf, start: Option<Handle>, steps: &mut Steps<L>)
+    ensures painted { Paints buf.old buf.new
+        (painted_each (from_handle (number_of start) (shown_of (scene_of shown.now.store.now)))) }
+    ensures steps { let scene = scene_of shown.now.store.now in
+        steps.new ≤ steps.old + (object_count scene
+        + sum_by (steps_of scene (size_of buf.old.area)) (from_handle (number_of start) (shown_of scene))) }
 {
-    let limits = shown.store.limits();
-    let panel = Area::at(0, 0, limits.width, limits.height);
-    let clip = panel.meet(buf.area());
+    let clip = panel(shown);
+    let screen = shown.store.active();
     let mut text = ArrayVec::new();
-    paint_tree(shown, buf, clip, shown.store.active(), &mut text, steps);
-    paint_tree(shown, buf, clip, TOP_LAYER, &mut text, steps);
-    paint_tree(shown, buf, clip, SYSTEM_LAYER, &mut text, steps);
+    let mut start = start;
+    paint_tree(shown, buf, clip, screen, &mut start, &mut text, steps);
+    paint_tree(shown, buf, clip, TOP_LAYER, &mut start, &mut text, steps);
+    paint_tree(shown, buf, clip, SYSTEM_LAYER, &mut start, &mut text, steps);
 }
 
-/// Paints an object, and then all below it. The clip is what is seen of its parent, and `text` is room for a
-/// text.
+/// Paints an object and all below it, or of these what comes from the object on that `start` waits for. The
+/// clip is what is seen of its parent, and `text` is room for a text.
 fn paint_tree<L: Ledger>(
     shown: &Shown,
     buf: &mut DrawBuf,
     clip: Area,
     h: Handle,
+    start: &mut Option<Handle>,
     text: &mut ArrayVec<u8, 1000>,
     steps: &mut Steps<L>,
 )
-    ensures { Paints buf.old buf.new (painted_tree (scene_of shown.now.store.now) (rect_of clip) h.0) }
+    ensures { let scene = scene_of shown.now.store.now in
+        PaintsMet scene (tree_walk scene (rect_of clip) h.0) (number_of start.old) (number_of start.new)
+        buf.old buf.new (size (tree_by (is_at h.0) scene.trees)) steps.old steps.new }
 {
-    let store = shown.store;
-    let tree = store.tree();
-    let Some(row) = store.row(h) else {
+    let tree = shown.store.tree();
+    let Some(seen) = visit(shown, clip, h, steps) else {
         return;
     };
-    let Some(place) = shown.places.place(h) else {
-        return;
-    };
-    let Some(visible) = seen_part(row, clip, place) else {
-        return;
-    };
-    paint_object(shown, buf, visible, place, h, text, steps);
-    let Some(first) = tree.first_child(h) else {
-        return;
-    };
-    let mut next = Some(first);
+    paint_next(shown, buf, seen, h, start, text, steps);
+    let mut next = tree.first_child(h);
     while let Some(child) = next {
-        paint_tree(shown, buf, visible, child, text, steps);
+        paint_tree(shown, buf, seen.visible, child, start, text, steps);
         next = tree.next(child);
     }
 }
 
-/// The part of an object's place that is seen through a clip, or `None` where nothing of it is seen.
-fn seen_part(row: &Row, clip: Area, place: Area) -> Option<Area>
-    ensures { MatchOption result (IsUnseen (rect_of clip) row.now (rect_of place))
-        (λ part. IsSeenPart (rect_of clip) row.now (rect_of place) (rect_of part)) }
+/// Paints an object by itself where it is seen, once `start` waits for none but it.
+fn paint_next<L: Ledger>(
+    shown: &Shown,
+    buf: &mut DrawBuf,
+    seen: SeenObject,
+    h: Handle,
+    start: &mut Option<Handle>,
+    text: &mut ArrayVec<u8, 1000>,
+    steps: &mut Steps<L>,
+)
+    requires valid { IsValid (scene_of shown.now.store.now) }
+    requires stands { StandsAt (scene_of shown.now.store.now) h.0 (rect_of seen.place) }
+    ensures { let scene = scene_of shown.now.store.now in
+        PaintsMet scene (seen_so scene (rect_of seen.visible) h.0 ∷ []) (number_of start.old) (number_of start.new)
+        buf.old buf.new 0 steps.old steps.new }
 {
-    if row.is_on(Flag::Hidden) {
-        return None;
+    if !has_begun(start, h) {
+        return;
     }
-    let part = clip.meet(place);
-    if part.is_empty() { None } else { Some(part) }
+    if !seen.visible.meet(buf.area()).is_empty() {
+        paint_object(shown, buf, seen.visible, seen.place, h, text, steps);
+    }
+}
+
+/// Whether painting begins with an object, or began before: `start` waits for it or for none, and then it
+/// waits no more.
+fn has_begun(start: &mut Option<Handle>, h: Handle) -> bool
+    ensures begun { result ≡ is_awaited (number_of start.old) h.0 }
+    ensures waits { number_of start.new
+        ≡ (if is_awaited (number_of start.old) h.0 then None else number_of start.old) }
+{
+    let begun = match *start {
+        Some(first) => h.0 == first.0,
+        None => true,
+    };
+    if begun {
+        *start = None;
+    }
+    begun
 }
 
 /// Paints the items of an object where they are seen. Its text is put into `text`.
@@ -110,8 +154,10 @@ pub(crate) fn paint_object<L: Ledger>(
     requires place { place_of (scene_of shown.now.store.now) h.0 ≡ Some (rect_of place) }
     requires near { IsNear (rect_of place) }
     requires narrow { width_of (rect_of place) ≤ 8191 }
-    ensures { Paints buf.old buf.new
+    ensures painted { Paints buf.old buf.new
         (painted_object (scene_of shown.now.store.now) (rect_of visible) h.0) }
+    ensures steps { steps.new ≤ steps.old
+        + object_steps (scene_of shown.now.store.now) (size_of buf.old.area) h.0 }
 {
     let store = shown.store;
     let look = shown.places.paint_look(store, h, text);

@@ -1,21 +1,30 @@
-use Rattle.std.proofs.Common.{◌≡◌, ◌∙◌, ap, subst, ℕ, Bool, true, false, ◌&&◌, pos, refl}
-use Rattle.gui_base.specs.Area.{Rect, area_at, has}
-use Rattle.gui_base.specs.Corners.{rect_of}
-use Rattle.gui_base.specs.Limits.{Bounds}
+use Rattle.std.proofs.Common.{◌≡◌, subst, ℕ}
+use Rattle.gui_base.specs.Area.{Rect}
+use Rattle.gui_base.specs.Forest.{size, tree_by}
 use Rattle.scene_defs.specs.Place.{panel_of}
+use Rattle.scene_defs.specs.Scene.{is_at}
+use Rattle.scene_defs.specs.Shown.{shown}
+use Rattle.cover_defs.specs.Steps.{object_count}
 use Rattle.gui_store.specs.Views.{scene_of}
-use Rattle.gui_paint.specs.Painting.{Paints, painted_tree}
-use Rattle.gui_paint.proofs.Trees.{paints_scene}
+use Rattle.gui_paint.specs.Walking.{PaintsMet, number_of, tree_walk}
+use Rattle.gui_paint.proofs.Waiting.{paints_three}
+use Rattle.gui_paint.proofs.paint.paint.Given.{Over}
 use Rattle.gui_paint.proofs.paint.paint.Goals as goal
+use Rattle.gui_paint.proofs.paint.paint.Goals.{After-paint_tree-3}
 
-and_true : (a b : Bool) → b ≡ true → (a && b) ≡ a
-and_true true b e = e
-and_true false b e = refl
-
-pub returns : goal.returns
-returns g c =
+all : (g : Over) (c : After-paint_tree-3 g) → PaintsMet (scene_of c.args.shown.now.store.now) (shown (scene_of c.args.shown.now.store.now)) (number_of c.args.start) (number_of c.paint_tree-3.new.start) c.args.buf.now c.paint_tree-3.new.buf (object_count (scene_of c.args.shown.now.store.now)) c.args.steps.now c.paint_tree-3.new.steps
+all g c =
     let scene = scene_of c.args.shown.now.store.now in
-    let panel : rect_of c.at-panel.result ≡ panel_of scene = c.at-panel.ensures ∙ ap (λ (b : Bounds). area_at (pos 0) (pos 0) b.width b.height) c.limits-limits.ensures in
-    paints_scene c.args.buf.now c.paint_tree.new.buf c.paint_tree-2.new.buf c.paint_tree-3.new.buf scene (rect_of c.meet-clip.result) c.active.ensures.valid
-    (λ x y i. c.meet-clip.ensures.pixels x y ∙ (and_true _ _ (ap (λ (r : Rect). has r x y) c.area.ensures ∙ i) ∙ ap (λ (r : Rect). has r x y) panel))
-    (subst (λ (h : ℕ). Paints c.args.buf.now c.paint_tree.new.buf (painted_tree scene (rect_of c.meet-clip.result) h)) c.active.ensures.screen c.paint_tree.ensures) c.paint_tree-2.ensures c.paint_tree-3.ensures
+    let clip = c.panel-clip.ensures in
+    let count = λ (h : ℕ). size (tree_by (is_at h) scene.trees) in
+    paints_three scene c.active-screen.ensures.valid _ _ _ _ _ _ _ _ _ _ _ _
+    (subst (λ (h : ℕ). PaintsMet scene (tree_walk scene (panel_of scene) h) (number_of c.args.start) (number_of c.paint_tree.new.start) c.args.buf.now c.paint_tree.new.buf (count h) c.args.steps.now c.paint_tree.new.steps) c.active-screen.ensures.screen
+    (subst (λ (r : Rect). PaintsMet scene (tree_walk scene r c.active-screen.result.0) (number_of c.args.start) (number_of c.paint_tree.new.start) c.args.buf.now c.paint_tree.new.buf (count c.active-screen.result.0) c.args.steps.now c.paint_tree.new.steps) clip c.paint_tree.ensures))
+    (subst (λ (r : Rect). PaintsMet scene (tree_walk scene r 1) (number_of c.paint_tree.new.start) (number_of c.paint_tree-2.new.start) c.paint_tree.new.buf c.paint_tree-2.new.buf (count 1) c.paint_tree.new.steps c.paint_tree-2.new.steps) clip c.paint_tree-2.ensures)
+    (subst (λ (r : Rect). PaintsMet scene (tree_walk scene r 2) (number_of c.paint_tree-2.new.start) (number_of c.paint_tree-3.new.start) c.paint_tree-2.new.buf c.paint_tree-3.new.buf (count 2) c.paint_tree-2.new.steps c.paint_tree-3.new.steps) clip c.paint_tree-3.ensures)
+
+pub returns-clause-painted : goal.returns-clause-painted
+returns-clause-painted g c = (all g c).painted
+
+pub returns-clause-steps : goal.returns-clause-steps
+returns-clause-steps g c = (all g c).steps

@@ -1,6 +1,7 @@
-use Rattle.std.proofs.Common.{◌≡◌, ◌∙◌, sym, ap, subst, ℕ, ℤ, true, List, map, arith}
+use Rattle.std.proofs.Common.{◌≡◌, ◌∙◌, sym, ap, subst, ℕ, ℤ, true, List, map, length, arith}
+use Rattle.std.proofs.lemmas.List.{length-map}
 use Rattle.std.specs.List.{All}
-use Rattle.gui_base.specs.Area.{nat_of, width_of}
+use Rattle.gui_base.specs.Area.{nat_of, width_of, size_of}
 use Rattle.gui_base.specs.Props.{is_value}
 use Rattle.gui_base.specs.Corners.{rect_of}
 use Rattle.gui_base.specs.declared.props.Prop.TheVariants.{TextFont}
@@ -8,7 +9,7 @@ use Rattle.gui_base.specs.declared.words.Part.TheVariants.{Main}
 use Rattle.text_defs.specs.Building.{is_finished}
 use Rattle.text_defs.specs.Fonts.{Font}
 use Rattle.widget_defs.specs.Items.{Item as Painted}
-use Rattle.gui_widgets.specs.Looks.{items_of}
+use Rattle.gui_widgets.specs.Looks.{item_of, items_of}
 use Rattle.gui_widgets.specs.Texts.{IsTextIn}
 use Rattle.scene_defs.proofs.Ready.{fonts_of_texts}
 use Rattle.scene_defs.proofs.Values.{values_in_range}
@@ -16,6 +17,7 @@ use Rattle.scene_defs.specs.Items.{coat_in}
 use Rattle.gui_store.specs.Views.{scene_of}
 use Rattle.gui_paint.specs.Paintable.{IsPaintable}
 use Rattle.gui_paint.specs.Painting.{Paints, painted_coats}
+use Rattle.gui_paint.proofs.Counting.{steps_of_look}
 use Rattle.gui_paint.proofs.Ready.{font_ended, items_ready}
 use Rattle.gui_paint.proofs.Trees.{font_is, paints_object}
 use Rattle.gui_paint.proofs.paint.paint_object.Goals as goal
@@ -42,10 +44,18 @@ paint_items-requires-clause-ready g c =
 pub paint_items-requires-clause-short : goal.paint_items-requires-clause-short
 paint_items-requires-clause-short g c = c.paint_look-look.ensures.look.short
 
-pub returns : goal.returns
-returns g c =
+pub returns-clause-painted : goal.returns-clause-painted
+returns-clause-painted g c =
     let scene = scene_of c.args.shown.now.store.now in
     let paints = c.paint_look-look.ensures.paints in
-    let painted = subst (λ (text : List ℕ). Paints c.args.buf.now c.paint_items.new.buf (painted_coats (rect_of c.args.visible) (map (coat_in c.fonts.result.now.fonts c.images.result.now.images text) (items_of c.as_slice.result.now)))) paints.text c.paint_items.ensures in
+    let painted = subst (λ (text : List ℕ). Paints c.args.buf.now c.paint_items.new.buf (painted_coats (rect_of c.args.visible) (map (coat_in c.fonts.result.now.fonts c.images.result.now.images text) (items_of c.as_slice.result.now)))) paints.text c.paint_items.ensures.painted in
     paints_object c.args.buf.now c.paint_items.new.buf scene (rect_of c.args.visible) (rect_of c.args.place) c.args.h.0 paints.whole _ _ _ paints.is c.requires.place c.fonts.ensures c.images.ensures
     (ap items_of c.as_slice.ensures.value ∙ (c.items-items.ensures.items ∙ paints.items (rect_of c.args.place))) painted
+
+pub returns-clause-steps : goal.returns-clause-steps
+returns-clause-steps g c =
+    let scene = scene_of c.args.shown.now.store.now in
+    let paints = c.paint_look-look.ensures.paints in
+    let listed = ap items_of c.as_slice.ensures.value ∙ (c.items-items.ensures.items ∙ paints.items (rect_of c.args.place)) in
+    steps_of_look scene c.args.h.0 (rect_of c.args.place) paints.whole (size_of c.args.buf.now.area) _ _ c.args.steps.now c.paint_items.new.steps paints.is c.requires.place
+    (sym (length-map c.as_slice.result.now item_of) ∙ ap length listed) (ap length paints.text) c.paint_items.ensures.steps

@@ -1,0 +1,194 @@
+-- Painting from an object on that a walk waits for.
+use Rattle.std.proofs.Common.{◌≡◌, ◌∙◌, ◌≤◌, ◌+◌, ◌==◌, refl, sym, ap, subst, ℕ, ℤ, Bool, true, false, ◌||◌, ◌&&◌, if◌then◌else◌, Option, Some, None, option_map, List, [], ◌∷◌, ◌++◌, fold, sum_by, arith}
+use Rattle.std.proofs.lemmas.Int.{ints}
+use Rattle.std.proofs.lemmas.List.Sums.{fold-append, sum_by-append}
+use Rattle.gui_base.specs.Area.{Rect, has, is_empty, size_of}
+use Rattle.gui_base.specs.Color.{black}
+use Rattle.gui_base.specs.declared.color.Rgb565.{Rgb565}
+use Rattle.gui_base.specs.declared.Handle.{Handle}
+use Rattle.gui_base.specs.Forest.{Forest, size, tree_by, children_by, next_to}
+use Rattle.gui_base.proofs.Visits.{HasCome, trees_from}
+use Rattle.gui_tree.specs.Handles.{as_handle}
+use Rattle.scene_defs.specs.Valid.{IsValid}
+use Rattle.scene_defs.specs.Walk.{IsShowable}
+use Rattle.gui_color.specs.Buffer.{Buffer, IsBlack}
+use Rattle.gui_draw.specs.Drawing.{ShowsColors}
+use Rattle.scene_defs.specs.Picture.{paint, paint_seen}
+use Rattle.scene_defs.specs.Scene.{Scene, handle_of, handles_of, is_at}
+use Rattle.scene_defs.specs.Place.{panel_of}
+use Rattle.scene_defs.specs.Shown.{Seen, shown}
+use Rattle.cover_defs.specs.Cover.{uncovered}
+use Rattle.cover_defs.specs.Steps.{object_count, object_steps, slice_steps, steps_of}
+use Rattle.cover_defs.specs.Walks.{has_handle, from_handle, waits_on}
+use Rattle.cover_defs.proofs.Counts.{uncovered_steps}
+use Rattle.cover_defs.proofs.Covers.{cover_hides_all}
+use Rattle.gui_paint.specs.Painting.{Paints, painted_object}
+use Rattle.gui_paint.specs.Walking.{PaintsMet, is_awaited, painted_each, seen_so, tree_walk, below_walk}
+use Rattle.gui_paint.proofs.Walking.{HasWalked, come_further, walked_more, walked_all, three_walks, three_sizes}
+
+-- the list from the awaited object on, of two lists
+waits-append : (w : Option ℕ) (xs ys : List Seen) → waits_on w (xs ++ ys) ≡ waits_on (waits_on w xs) ys
+waits-append None xs ys = refl
+waits-append (Some h) [] ys = refl
+waits-append (Some h) (s ∷ xs) ys = go (has_handle h s) refl (waits-append (Some h) xs ys) where
+  go : (b : Bool) → has_handle h s ≡ b → waits_on (Some h) (xs ++ ys) ≡ waits_on (waits_on (Some h) xs) ys → waits_on (Some h) ((s ∷ xs) ++ ys) ≡ waits_on (waits_on (Some h) (s ∷ xs)) ys
+  go true is later = rw is refl
+  go false isnt later = rw isnt later
+
+from-append : (w : Option ℕ) (xs ys : List Seen) → from_handle w (xs ++ ys) ≡ from_handle w xs ++ from_handle (waits_on w xs) ys
+from-append None xs ys = refl
+from-append (Some h) [] ys = refl
+from-append (Some h) (s ∷ xs) ys = go (has_handle h s) refl (from-append (Some h) xs ys) where
+  go : (b : Bool) → has_handle h s ≡ b → from_handle (Some h) (xs ++ ys) ≡ from_handle (Some h) xs ++ from_handle (waits_on (Some h) xs) ys →
+      from_handle (Some h) ((s ∷ xs) ++ ys) ≡ from_handle (Some h) (s ∷ xs) ++ from_handle (waits_on (Some h) (s ∷ xs)) ys
+  go true is later = rw is refl
+  go false isnt later = rw isnt later
+
+-- nothing is met
+pub paints_none : (scene : Scene) (w : Option ℕ) (buf : Buffer) (visits from to : ℕ) → to ≤ from + visits → PaintsMet scene [] w w buf buf visits from to
+paints_none scene w buf visits from to few = go w where
+  none : (w : Option ℕ) → (waits_on w [] ≡ w) × (from_handle w [] ≡ [])
+  none None = (refl, refl)
+  none (Some h) = (refl, refl)
+
+  go : (w : Option ℕ) → PaintsMet scene [] w w buf buf visits from to
+  go w = record {
+    waits = sym (none w).0;
+    painted = rw (none w).1 (record { area_stays = refl; limit_stays = refl; pixels = λ x y i. refl });
+    steps = rw (none w).1 (omega (arith, few));
+  }
+
+-- some are met, and then others
+pub paints_then : (scene : Scene) (xs ys : List Seen) (w mid_w after_w : Option ℕ) (old mid new : Buffer) (first second from half to : ℕ) → PaintsMet scene xs w mid_w old mid first from half → PaintsMet scene ys mid_w after_w mid new second half to →
+    PaintsMet scene (xs ++ ys) w after_w old new (first + second) from to
+paints_then scene xs ys w mid_w after_w old mid new first second from half to p q =
+    let own = from_handle w xs in
+    let later = from_handle mid_w ys in
+    let list : from_handle w (xs ++ ys) ≡ own ++ later = from-append w xs ys ∙ ap (λ (v : Option ℕ). own ++ from_handle v ys) (sym p.waits) in
+    let same : sum_by (steps_of scene (size_of mid.area)) later ≡ sum_by (steps_of scene (size_of old.area)) later = ap (λ (area : Rect). sum_by (steps_of scene (size_of area)) later) p.painted.area_stays in
+    record {
+      waits = q.waits ∙ (ap (λ (v : Option ℕ). waits_on v ys) p.waits ∙ sym (waits-append w xs ys));
+      painted = record {
+        area_stays = q.painted.area_stays ∙ p.painted.area_stays;
+        limit_stays = q.painted.limit_stays ∙ p.painted.limit_stays;
+        pixels = λ x y i.
+            q.painted.pixels x y (subst (λ (area : Rect). has area x y ≡ true) (sym p.painted.area_stays) i)
+            ∙ (ap (λ (under : Rgb565). fold (paint_seen x y) under later) (p.painted.pixels x y i)
+            ∙ (sym (fold-append (paint_seen x y) _ own later) ∙ ap (fold (paint_seen x y) _) (sym list)));
+      };
+      steps = rw list (omega (arith, p.steps, q.steps, same, sum_by-append (steps_of scene (size_of old.area)) own later));
+    }
+
+-- an object is visited, and then met with all below it
+pub paints_visited : (scene : Scene) (list : List Seen) (w after_w : Option ℕ) (old new : Buffer) (below all from half to : ℕ) → half + below ≤ from + all → PaintsMet scene list w after_w old new below half to → PaintsMet scene list w after_w old new all from to
+paints_visited scene list w after_w old new below all from half to visited p =
+    let steps = p.steps in
+    record { waits = p.waits; painted = p.painted; steps = omega (arith, steps, visited) }
+
+pub paints_list : (scene : Scene) (xs ys : List Seen) (w after_w : Option ℕ) (old new : Buffer) (visits from to : ℕ) → xs ≡ ys → PaintsMet scene xs w after_w old new visits from to → PaintsMet scene ys w after_w old new visits from to
+paints_list scene xs ys w after_w old new visits from to same = subst (λ (l : List Seen). PaintsMet scene l w after_w old new visits from to) same
+
+-- One object.
+module _ (scene : Scene) (visible : Rect) (h : ℕ) where
+  one : List Seen
+  one = seen_so scene visible h ∷ []
+
+  pub still_waits : (w : Option ℕ) (buf : Buffer) (steps : ℕ) (after_w : Option ℕ) → is_awaited w h ≡ false → after_w ≡ (if is_awaited w h then None else w) → PaintsMet scene (seen_so scene visible h ∷ []) w after_w buf buf 0 steps steps
+  still_waits None buf steps after_w isnt waits = cc
+  still_waits (Some k) buf steps after_w isnt waits =
+      record {
+        waits = waits ∙ rw isnt refl;
+        painted = rw isnt (record { area_stays = refl; limit_stays = refl; pixels = λ x y i. refl });
+        steps = rw isnt (omega arith);
+      }
+
+  begun_list : (w : Option ℕ) → is_awaited w h ≡ true → (waits_on w (seen_so scene visible h ∷ []) ≡ None) × (from_handle w (seen_so scene visible h ∷ []) ≡ seen_so scene visible h ∷ [])
+  begun_list None is = (refl, refl)
+  begun_list (Some k) is = (rw is refl, rw is refl)
+
+  pub has_met : (w : Option ℕ) (old new : Buffer) (from to : ℕ) (after_w : Option ℕ) → is_awaited w h ≡ true → after_w ≡ (if is_awaited w h then None else w) → Paints old new (painted_object scene visible h) → to ≤ from + object_steps scene (size_of old.area) h →
+      PaintsMet scene (seen_so scene visible h ∷ []) w after_w old new 0 from to
+  has_met w old new from to after_w is waits paints few =
+      let list = begun_list w is in
+      record {
+        waits = waits ∙ (ap (λ (b : Bool). if b then None else w) is ∙ sym list.0);
+        painted = rw list.1 (record { area_stays = paints.area_stays; limit_stays = paints.limit_stays; pixels = paints.pixels });
+        steps = rw list.1 (omega (arith, few));
+      }
+
+not_both : (a b : Bool) → (a && b) ≡ false → b ≡ true → a ≡ false
+not_both true b neither is = absurd (grind (arith, neither, is))
+not_both false b neither is = refl
+
+empty_has : (area : Rect) (x y : ℤ) → is_empty area ≡ true → has area x y ≡ false
+empty_has area x y none = grind (arith, ints)
+
+-- where an area and the buffer's have no pixel together
+pub apart : (buf : Buffer) (area both : Rect) → is_empty both ≡ true → ((x y : ℤ) → has both x y ≡ (has area x y && has buf.area x y)) → (x y : ℤ) → has buf.area x y ≡ true → has area x y ≡ false
+apart buf area both none pixels x y i = not_both _ _ (sym (pixels x y) ∙ empty_has both x y none) i
+
+-- an object that is seen elsewhere leaves the buffer as it is
+pub paints_elsewhere : (scene : Scene) (visible : Rect) (h : ℕ) (buf : Buffer) → ((x y : ℤ) → has buf.area x y ≡ true → has visible x y ≡ false) → Paints buf buf (painted_object scene visible h)
+paints_elsewhere scene visible h buf off = record { area_stays = refl; limit_stays = refl; pixels = λ x y i. sym (rw (off x y i) refl) }
+
+-- what is painted over black from the cover on is the picture
+pub shows_uncovered : (old new : Buffer) (scene : Scene) (list : List Seen) → IsBlack old → list ≡ uncovered scene old.area → Paints old new (painted_each list) → ShowsColors old new (paint scene)
+shows_uncovered old new scene list black_before is paints = record {
+  area_stays = paints.area_stays;
+  limit_stays = paints.limit_stays;
+  pixels = λ x y i.
+      paints.pixels x y i
+      ∙ (ap (λ (under : Rgb565). fold (paint_seen x y) under list) (black_before x y i)
+      ∙ (ap (fold (paint_seen x y) black) is ∙ cover_hides_all scene old.area x y i));
+}
+
+-- a walk over the trees below h has come to `next`, and has painted those from the awaited object on
+pub record PaintsTo (scene : Scene) (clip : Rect) (h : ℕ) (first next : Option Handle) (waits_before waits_now : Option ℕ) (old new : Buffer) (from to : ℕ) : Type 0 where
+  pub come : HasCome handle_of scene.trees h next
+  pub met : List Seen
+  pub visits : ℕ
+  pub walked : HasWalked scene clip first next met visits
+  pub paints : PaintsMet scene met waits_before waits_now old new visits from to
+
+-- one tree more
+pub paints_on : (scene : Scene) (clip : Rect) (h : ℕ) (first : Option Handle) (child : Handle) (valid : IsValid scene) (forest : Forest ℕ) (next : Option Handle) → forest ≡ handles_of scene.trees → next ≡ option_map as_handle (next_to forest child.0) →
+    (waits_before mid_w waits_now : Option ℕ) (old mid new : Buffer) (from half to : ℕ) → PaintsTo scene clip h first (Some child) waits_before mid_w old mid from half →
+    PaintsMet scene (tree_walk scene clip child.0) mid_w waits_now mid new (size (tree_by (is_at child.0) scene.trees)) half to → PaintsTo scene clip h first next waits_before waits_now old new from to
+paints_on scene clip h first child valid forest next same is waits_before mid_w waits_now old mid new from half to p own = record {
+  come = come_further scene h child valid p.come forest next same is;
+  met = p.met ++ tree_walk scene clip child.0;
+  visits = p.visits + size (tree_by (is_at child.0) scene.trees);
+  walked = walked_more scene h child valid p.come forest next same is clip first p.met p.visits p.walked;
+  paints = paints_then scene p.met (tree_walk scene clip child.0) waits_before mid_w waits_now old mid new p.visits (size (tree_by (is_at child.0) scene.trees)) from half to p.paints own;
+}
+
+-- an object and all below it
+pub paints_tree : (scene : Scene) (clip visible : Rect) (h : ℕ) (first : Option Handle) (w mid_w after_w : Option ℕ) (old mid new : Buffer) (from visited half to : ℕ) →
+    tree_walk scene clip h ≡ seen_so scene visible h ∷ below_walk scene visible h → trees_from handle_of first scene.trees ≡ children_by (is_at h) scene.trees → visited + size (children_by (is_at h) scene.trees) ≤ from + size (tree_by (is_at h) scene.trees) →
+    PaintsMet scene (seen_so scene visible h ∷ []) w mid_w old mid 0 visited half → PaintsTo scene visible h first None mid_w after_w mid new half to →
+    PaintsMet scene (tree_walk scene clip h) w after_w old new (size (tree_by (is_at h) scene.trees)) from to
+paints_tree scene clip visible h first w mid_w after_w old mid new from visited half to walk begins few own below =
+    let all = walked_all scene visible h first below.met below.visits begins below.walked in
+    let list : seen_so scene visible h ∷ below.met ≡ tree_walk scene clip h = ap (λ (l : List Seen). seen_so scene visible h ∷ l) all.0 ∙ sym walk in
+    paints_list scene (seen_so scene visible h ∷ below.met) (tree_walk scene clip h) w after_w old new (size (tree_by (is_at h) scene.trees)) from to list
+    (paints_visited scene (seen_so scene visible h ∷ below.met) w after_w old new (0 + below.visits) (size (tree_by (is_at h) scene.trees)) from visited to (omega (arith, few, all.1))
+    (paints_then scene (seen_so scene visible h ∷ []) below.met w mid_w after_w old mid new 0 below.visits visited half to own below.paints))
+
+-- all that is shown, by the trees of the active screen and of the two layers
+pub paints_three : (scene : Scene) (valid : IsValid scene) (w w1 w2 w3 : Option ℕ) (old a b new : Buffer) (from s1 s2 to : ℕ) →
+    PaintsMet scene (tree_walk scene (panel_of scene) scene.active) w w1 old a (size (tree_by (is_at scene.active) scene.trees)) from s1 → PaintsMet scene (tree_walk scene (panel_of scene) 1) w1 w2 a b (size (tree_by (is_at 1) scene.trees)) s1 s2 →
+    PaintsMet scene (tree_walk scene (panel_of scene) 2) w2 w3 b new (size (tree_by (is_at 2) scene.trees)) s2 to → PaintsMet scene (shown scene) w w3 old new (object_count scene) from to
+paints_three scene valid w w1 w2 w3 old a b new from s1 s2 to first second third =
+    let walk = tree_walk scene (panel_of scene) in
+    let count = λ (h : ℕ). size (tree_by (is_at h) scene.trees) in
+    let layers = paints_then scene (walk 1) (walk 2) w1 w2 w3 a b new (count 1) (count 2) s1 s2 to second third in
+    let all = paints_then scene (walk scene.active) (walk 1 ++ walk 2) w w1 w3 old a new (count scene.active) (count 1 + count 2) from s1 to first layers in
+    paints_list scene (walk scene.active ++ (walk 1 ++ walk 2)) (shown scene) w w3 old new (object_count scene) from to (three_walks scene valid)
+    (paints_visited scene (walk scene.active ++ (walk 1 ++ walk 2)) w w3 old new (count scene.active + (count 1 + count 2)) (object_count scene) from from to (omega (arith, three_sizes scene valid)) all)
+
+-- within the steps of a slice
+pub slice_from : (scene : Scene) (part : Rect) → IsShowable scene → (list : List Seen) (from mid to : ℕ) → list ≡ uncovered scene part → mid ≤ from + object_count scene →
+    to ≤ mid + (object_count scene + sum_by (steps_of scene (size_of part)) list) → to ≤ from + slice_steps scene part
+slice_from scene part showable list from mid to is search paint =
+    let same = ap (λ (l : List Seen). sum_by (steps_of scene (size_of part)) l) is in
+    uncovered_steps scene part from mid (object_count scene) to showable search (omega arith) (omega (arith, paint, same))

@@ -6,7 +6,7 @@ ghost use Rattle.gui_store.specs.Views.{scene_of};
 ghost use Rattle.gui_layout.specs.Solved.{AreSolved};
 ghost use Rattle.gui_refresh.specs.Stages.{sizes_of};
 ghost use Rattle.gui_play.specs.Boards.{machine_of as machine_on};
-ghost use Rattle.gui_play.specs.Panels.{AgreesWith, GoesOnAgreeing, Refreshes};
+ghost use Rattle.gui_play.specs.Panels.{AgreesWith, DrawsScene, GoesOnAgreeing, Refreshes};
 ghost use Rattle.gui_play.specs.Steps.{Refuses};
 ghost use Rattle.run_defs.specs.declared.Reply.TheVariants.{Refused};
 ghost use Rattle.run_laws.specs.Members.{AreJoined};
@@ -125,13 +125,15 @@ impl Gui {
     }
 
     /// Sends what is pending of the scene's picture, in slices of at most the panel's limit, and stops at the
-    /// first fault. `steps` counts the pixels that are made black as each slice begins, and each mix over a
-    /// pixel.
+    /// first fault. `steps` counts the pixels that are made black as each slice begins, each mix over a pixel,
+    /// each object that is looked at, and the characters of texts as they are drawn.
     pub fn refresh<P: Panel, B: Ledger>(&mut self, panel: &mut P, steps: &mut Steps<B>) -> Refreshed
         requires { HasSizes (P.state panel.old) (machine_of self.old).scene.limits }
         ensures machine { machine_of self.new ≡ machine_of self.old }
         ensures refreshes { Refreshes (P.state panel.old) (P.state panel.new) (pending_in self.old)
             (pending_in self.new) (machine_of self.old).scene result }
+        ensures draws { DrawsScene (P.state panel.old) (P.state panel.new) (machine_of self.old).scene
+            steps.old steps.new }
     {
         self.board.refresh(&mut self.refresher, panel, steps)
     }

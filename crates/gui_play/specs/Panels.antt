@@ -1,11 +1,14 @@
 -- What a panel shows of a scene, and what a refresh does to it.
-use Rattle.std.specs.Prelude.{◌≡◌, ◌<◌, [], IfSome}
+use Rattle.std.specs.Prelude.{◌≡◌, ◌<◌, ℕ, [], IfSome}
 use Rattle.scene_defs.specs.Scene.{Scene}
 use Rattle.scene_defs.specs.Picture.{paint, picture}
 use Rattle.gui_edge.specs.Panel.{PanelState, HasSizes, area_of}
 use Rattle.gui_damage.specs.Pending.{Pending}
 use Rattle.gui_refresh.specs.Owing.{standing_of}
 use Rattle.gui_refresh.specs.Refreshes.{KeepsPanel, Sends, StopsAtFault, failures}
+use Rattle.cover_defs.specs.Cover.{items_shown}
+use Rattle.cover_defs.specs.Steps.{slice_extra}
+use Rattle.gui_refresh.specs.Slicing.{DrawsSlices}
 use Rattle.gui_refresh.specs.Stages.{Stage, Agrees, sizes_of, stage}
 use Rattle.gui_refresh.specs.declared.Refreshed.{Refreshed}
 use Rattle.gui_refresh.specs.declared.Refreshed.TheVariants.{Done, Fault}
@@ -51,3 +54,10 @@ pub record Refreshes (old new : PanelState) (before after : Pending) (scene : Sc
   -- Fault: a flush failed, after which none was asked for, and its slice is pending again
   pub fault : answer ≡ Fault → old.flush_faults < new.flush_faults
   pub stops : answer ≡ Fault → StopsAtFault (stage_of scene old before) (stage_of scene new after)
+
+-- a refresh draws slices of this scene's picture: a pixel takes a step for each item that is shown, and a
+-- slice those of looking at each object twice and at each character six times
+abbrev pub DrawsScene : PanelState → PanelState → Scene → ℕ → ℕ → Type 0
+DrawsScene before after scene from to =
+    DrawsSlices (sizes_of scene.limits).limit (items_shown scene) (slice_extra scene)
+    before.sent after.sent from to

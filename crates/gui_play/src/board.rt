@@ -18,7 +18,7 @@ ghost use Rattle.scene_defs.specs.Change.{answer_of};
 ghost use Rattle.scene_defs.specs.Place.{panel_of};
 ghost use Rattle.scene_defs.specs.Scene.{is_there};
 ghost use Rattle.scene_defs.specs.Valid.{IsChange, IsValid};
-ghost use Rattle.gui_play.specs.Panels.{Refreshes};
+ghost use Rattle.gui_play.specs.Panels.{DrawsScene, Refreshes};
 ghost use Rattle.gui_play.specs.Sizes.{AreSized};
 
 use crate::inputs::Inputs;
@@ -155,8 +155,8 @@ impl Board {
     }
 
     /// Sends what is pending of the scene's picture, in slices of at most the panel's limit, and stops at the
-    /// first fault. `steps` counts the pixels that are made black as each slice begins, and each mix over a
-    /// pixel.
+    /// first fault. `steps` counts the pixels that are made black as each slice begins, each mix over a pixel,
+    /// each object that is looked at, and the characters of texts as they are drawn.
     pub fn refresh<P: Panel, B: Ledger>(
         &mut self,
         refresher: &mut Refresher,
@@ -169,6 +169,8 @@ impl Board {
         ensures refreshes { Refreshes (P.state panel.old) (P.state panel.new) (pending_of self.old)
             (pending_of self.new) (machine_of self.old).scene result }
         ensures refresher { refresher.new.sizes ≡ refresher.old.sizes }
+        ensures draws { DrawsScene (P.state panel.old) (P.state panel.new) (machine_of self.old).scene
+            steps.old steps.new }
     {
         let view = View {
             canvas: &self.canvas,

@@ -1,6 +1,10 @@
+use Rattle.std.proofs.Common.{ap, subst, ℕ}
 use Rattle.gui_change.specs.Canvas.{scene_in}
+use Rattle.cover_defs.specs.Cover.{items_shown}
+use Rattle.cover_defs.specs.Steps.{slice_extra}
+use Rattle.gui_refresh.specs.Slicing.{DrawsSlices}
 use Rattle.gui_play.proofs.Sending.{can_refresh, refreshes_scene}
-use Rattle.gui_refresh.specs.Stages.{stage}
+use Rattle.gui_refresh.specs.Stages.{Sizes, stage}
 use Rattle.gui_play.proofs.board.Board.refresh.Goals as goal
 
 pub refresh-requires : goal.refresh-requires
@@ -11,3 +15,9 @@ pub returns-clause-refreshes : goal.returns-clause-refreshes
 returns-clause-refreshes g c =
     refreshes_scene (scene_in c.args.self.now.canvas) c.args.refresher.now c.refresh.new.self (g.P.Panel.state c.args.panel.now) (g.P.Panel.state c.refresh.new.panel) c.args.self.now.damage c.refresh.new.damage
     c.refresh.result c.requires.sizes c.requires.refresher c.refresh.ensures.same c.args.self.now.panel (g.met.P.Panel.each c.refresh.new.panel) c.refresh.ensures.refreshes
+
+pub returns-clause-draws : goal.returns-clause-draws
+returns-clause-draws g c =
+    let scene = scene_in c.args.self.now.canvas in
+    subst (λ (limit : ℕ). DrawsSlices limit (items_shown scene) (slice_extra scene) (g.P.Panel.state c.args.panel.now).sent (g.P.Panel.state c.refresh.new.panel).sent c.args.steps.now c.refresh.new.steps)
+    (ap (λ (s : Sizes). s.limit) c.requires.refresher) c.refresh.ensures.draws

@@ -24,19 +24,13 @@ fn try_case(rt: &impl Abort, alloc: Global, case: &Case) -> Result<(), Fail> {
 }
 
 const MOVED: Case = Case {
-    name: "an object that moves by one pixel: its old place and its new one, which are joined",
+    name: "an object that moves by one pixel: its old place and its new one, which are joined; a new colour: its \
+        place, once",
     words: ["8", "6", "6"],
     script: "new 10 3 obj\nsize 10 3 2\npos 10 1 1\nlocal 10 main bg_opa 255\n\
-        local 10 main bg_color #000000\nframe\npos 10 2 1\nframe\n",
-    counts: &[48, 8],
-};
-
-const COLOURED: Case = Case {
-    name: "an object that changes its colour: its place, once",
-    words: ["8", "6", "6"],
-    script: "new 10 3 obj\nsize 10 3 2\npos 10 1 1\nlocal 10 main bg_opa 255\n\
-        local 10 main bg_color #000000\nframe\nlocal 10 main bg_color #00FF00\nframe\n",
-    counts: &[48, 6],
+        local 10 main bg_color #000000\nframe\npos 10 2 1\nframe\n\
+        local 10 main bg_color #00FF00\nframe\n",
+    counts: &[48, 8, 6],
 };
 
 const MOVED_WITH_CHILD: Case = Case {
@@ -83,13 +77,8 @@ const VALUES: Case = Case {
 };
 
 #[test]
-fn a_moved_object_sends_both_its_places(rt: HostRuntime) -> Result<(), Fail> {
+fn a_moved_object_sends_both_its_places_and_a_new_colour_one(rt: HostRuntime) -> Result<(), Fail> {
     try_case(&rt, rt.alloc(), &MOVED)
-}
-
-#[test]
-fn a_new_colour_sends_one_place(rt: HostRuntime) -> Result<(), Fail> {
-    try_case(&rt, rt.alloc(), &COLOURED)
 }
 
 #[test]
@@ -113,28 +102,28 @@ fn a_text_or_a_value_sends_the_places_of_its_object(rt: HostRuntime) -> Result<(
     try_case(&rt, rt.alloc(), &VALUES)
 }
 
-/// 33 objects of a pixel, ten pixels from each other, become black: one area more than the list has room for.
+/// 33 objects of a pixel, with a pixel between each two, become black: one area more than the list has room for.
 #[test]
 fn a_list_that_overflows_sends_the_panel(rt: HostRuntime) -> Result<(), Fail> {
     let alloc = rt.alloc();
     let mut script = String::new(alloc);
-    for i in 0..33 {
-        let h = i + 10;
+    for i in 0_i32..33 {
+        let h = i.wrapping_add(10);
+        let x = i.wrapping_mul(2);
         let lines = format!(in alloc;
-            "new {h} 3 obj\nsize {h} 1 1\npos {h} {h}0 0\nlocal {h} main bg_opa 255\n"
+            "new {h} 3 obj\nsize {h} 1 1\npos {h} {x} 0\nlocal {h} main bg_opa 255\n"
         )?;
         script.push_str(lines.as_str())?;
     }
     script.push_str("frame\n")?;
-    for i in 0..33 {
-        let h = i + 10;
+    for h in 10..43 {
         let line = format!(in alloc; "local {h} main bg_color #000000\n")?;
         script.push_str(line.as_str())?;
     }
     script.push_str("frame\n")?;
-    let ran = run(alloc, &["430", "1", "1"], script.as_bytes(), &[])?;
+    let ran = run(alloc, &["66", "1", "1"], script.as_bytes(), &[])?;
     assert!(rt; ran.status == Status::Done);
-    assert_eq!(rt; ran.counts.as_slice(), [430, 430].as_slice());
+    assert_eq!(rt; ran.counts.as_slice(), [66, 66].as_slice());
     Ok(())
 }
 

@@ -1,19 +1,17 @@
--- A change that moves nobody leaves the trees, the limits and every box.
+-- A change that moves nobody leaves every box.
 use Rattle.std.proofs.Common.{◌≡◌, ◌∙◌, ap, sym, ℕ, Bool, true, false, refl, None}
 use Rattle.std.specs.Prelude.{not}
 use Rattle.std.proofs.lemmas.Bool.{false≢true}
 use Rattle.gui_base.specs.declared.props.Prop.{Prop}
 use Rattle.gui_base.specs.declared.words.Part.TheVariants.{Main}
-use Rattle.gui_base.proofs.Forests.{map-with_row_by}
 use Rattle.style_defs.specs.Book.{Book}
 use Rattle.scene_defs.specs.declared.Change.{Change}
 use Rattle.scene_defs.specs.declared.Change.TheVariants as change
 use Rattle.scene_defs.specs.declared.Row.{Row}
 use Rattle.scene_defs.specs.Change.{answer_of, changed, scene_after}
 use Rattle.scene_defs.specs.Edits.{over_row, with_row}
-use Rattle.scene_defs.specs.Scene.{Object, Scene, handle_of, handles_of, is_at, value}
+use Rattle.scene_defs.specs.Scene.{Object, Scene, value}
 use Rattle.scene_defs.specs.Valid.{IsValid, IsChange}
-use Rattle.scene_defs.proofs.Changes.{change_keeps_limits}
 use Rattle.debt_defs.specs.Concerns.{concerns}
 use Rattle.debt_defs.proofs.Concerned.{others_are_same}
 use Rattle.gui_layout.specs.Scenes.{scene_box}
@@ -68,27 +66,3 @@ pub boxes_stay : (scene : Scene) (change : Change) → IsValid scene → IsChang
     (k : ℕ) → scene_box (changed scene change) k ≡ scene_box scene k
 boxes_stay scene change valid plain done nobody k =
     ap (λ (s : Scene). scene_box s k) (after_is scene change done) ∙ after-stays scene k change valid plain done nobody
-
-after-trees : (scene : Scene) (change : Change) → moves_nobody change ≡ true → handles_of (scene_after scene change).trees ≡ handles_of scene.trees
-after-trees scene (change.Load h) nobody = refl
-after-trees scene (change.Flag h flag on) nobody = map-with_row_by handle_of (λ j. true) (is_at h.0) (over_row _) (λ object. refl) scene.trees
-after-trees scene (change.Value h n) nobody = map-with_row_by handle_of (λ j. true) (is_at h.0) (over_row _) (λ object. refl) scene.trees
-after-trees scene (change.Range h low high) nobody = map-with_row_by handle_of (λ j. true) (is_at h.0) (over_row _) (λ object. refl) scene.trees
-after-trees scene (change.Set s p n) nobody = refl
-after-trees scene (change.Unset s p) nobody = refl
-after-trees scene (change.Local h selector p n) nobody = refl
-after-trees scene (change.Unlocal h selector p) nobody = refl
-after-trees scene (change.Style s) nobody = refl
-after-trees scene (change.Font f height advance) nobody = refl
-after-trees scene (change.Glyph f code shape bytes) nobody = refl
-after-trees scene (change.EndFont f) nobody = refl
-after-trees scene (change.Image i format width height) nobody = refl
-after-trees scene (change.ImageRow i y bytes) nobody = refl
-after-trees scene change nobody = absurd (false≢true nobody)
-
-pub trees_stay : (scene : Scene) (change : Change) → answer_of scene change ≡ None → moves_nobody change ≡ true →
-    handles_of (changed scene change).trees ≡ handles_of scene.trees
-trees_stay scene change done nobody = ap (λ (s : Scene). handles_of s.trees) (after_is scene change done) ∙ after-trees scene change nobody
-
-pub limits_stay : (scene : Scene) (change : Change) → (changed scene change).limits ≡ scene.limits
-limits_stay = change_keeps_limits

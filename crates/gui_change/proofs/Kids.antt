@@ -1,7 +1,11 @@
 -- Children and their parents.
-use Rattle.std.proofs.Common.{◌≡◌, ◌∙◌, ◌⊎◌, refl, sym, ap, subst, ℕ, Bool, true, false, eqb, eq-eqb, ◌||◌, Option, Some, None, inl, inr}
+use Rattle.std.proofs.Common.{◌≡◌, ◌∙◌, ◌⊎◌, refl, sym, ap, subst, ℕ, Bool, true, false, eqb, eq-eqb, ◌||◌, ◌∷◌, map, Option, Some, None, inl, inr}
+use Rattle.std.specs.List.{list_any}
 use Rattle.std.proofs.lemmas.Bool.{cases_Bool, both_ways, eqb-true, false≢true, false_from_ne_true, or_left, or_right}
-use Rattle.gui_base.specs.Forest.{Forest, Empty, Tree, StandsOnce, children_of, has, parent_by, parent_of, roots}
+use Rattle.gui_base.specs.Forest.{Forest, Empty, Tree, StandsOnce, children_by, children_of, has, parent_by, parent_of, roots}
+use Rattle.gui_base.proofs.Forests.{map-children_by}
+use Rattle.scene_defs.specs.Scene.{Object, Scene, handle_of, handles_of, is_at}
+use Rattle.debt_defs.specs.Concerns.{children}
 use Rattle.gui_layout.specs.Marked.{is_root}
 use Rattle.gui_layout.proofs.Parts.{IsDistinct, distinct_once, has-part, part_children}
 use Rattle.gui_layout.proofs.Settling.{parent-root, root-has}
@@ -74,10 +78,25 @@ parent-kid j k above (Tree t cs rest) distinct is = elim (cases_Bool (eqb t j)) 
 none-above : {k : ℕ} → None ≡ Some k → ⊥
 none-above e = cc
 
+pub parent-child : (f : Forest ℕ) (j k : ℕ) → StandsOnce f → parent_of f j ≡ Some k → is_root j (children_of f k) ≡ true
+parent-child f j k once is = elim (parent-kid j k None f (distinct_once f once) is) [
+  | inl here ↦ absurd (none-above here.0)
+  | inr child ↦ child
+]
+
 -- what has the same parent is a child of it as before
 pub kid-before : (new old : Forest ℕ) (j k : ℕ) → StandsOnce new → StandsOnce old → parent_of new j ≡ parent_of old j → is_root j (children_of new k) ≡ true → is_root j (children_of old k) ≡ true
 kid-before new old j k once before same kid =
-    elim (parent-kid j k None old (distinct_once old before) (sym same ∙ kid-parent j k None new (distinct_once new once) kid)) [
-      | inl here ↦ absurd (none-above here.0)
-      | inr is ↦ is
-    ]
+    parent-child old j k before (sym same ∙ kid-parent j k None new (distinct_once new once) kid)
+
+-- The children of an object of a scene, as handles.
+pub root-among : (u : ℕ) (f : Forest ℕ) → is_root u f ≡ list_any (λ h. eqb h u) (roots f)
+root-among u Empty = refl
+root-among u (Tree h cs rest) = ap (λ (b : Bool). eqb h u || b) (root-among u rest)
+
+map-roots : (f : Forest Object) → map handle_of (roots f) ≡ roots (handles_of f)
+map-roots Empty = refl
+map-roots (Tree object cs rest) = ap (λ hs. object.handle ∷ hs) (map-roots rest)
+
+pub kids-are : (scene : Scene) (k : ℕ) → children scene k ≡ roots (children_of (handles_of scene.trees) k)
+kids-are scene k = map-roots (children_by (is_at k) scene.trees) ∙ ap (λ (t : Forest ℕ). roots t) (map-children_by handle_of (λ j. eqb j k) scene.trees)

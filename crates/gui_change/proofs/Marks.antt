@@ -1,5 +1,5 @@
 -- Marks of objects that are there: each of them may be marked.
-use Rattle.std.proofs.Common.{◌≡◌, ◌∙◌, refl, sym, ap, subst, ℕ, ◌<◌, ◌≤◌, Bool, true, false, eqb, eq-eqb, not, ◌&&◌, ◌||◌, length, List, [], ◌∷◌, inl, inr, arith}
+use Rattle.std.proofs.Common.{◌≡◌, ◌∙◌, refl, sym, ap, subst, ℕ, ◌<◌, Bool, true, false, eqb, eq-eqb, not, ◌&&◌, ◌||◌, length, List, [], ◌∷◌, inl, inr, arith}
 use Rattle.std.specs.Prelude.{Option, Some, None, is_some}
 use Rattle.std.proofs.lemmas.Bool.{cases_Bool, and_parts, eqb-true, both_ways, false≢true, false_from_ne_true}
 use Rattle.gui_base.specs.Forest.{Forest, has, size}
@@ -9,10 +9,10 @@ use Rattle.scene_defs.specs.Valid.{IsValid}
 use Rattle.gui_layout.specs.Listing.{times}
 use Rattle.gui_pool.specs.Table.{value_at}
 use Rattle.gui_layout.specs.Marks.{is_changed, is_marked, is_parent, mark_count, most_marks}
-use Rattle.gui_layout.specs.Pending.{is_all, is_any, is_part}
+use Rattle.gui_layout.specs.Pending.{is_any}
 use Rattle.gui_layout.specs.declared.mark.Mark.{Mark}
 use Rattle.gui_layout.specs.declared.marks.Marks.{Marks}
-use Rattle.gui_layout.proofs.Joining.{listed-fewer}
+use Rattle.gui_layout.proofs.Adding.{listed-fewer}
 use Rattle.gui_layout.proofs.Entering.{few}
 use Rattle.gui_layout.proofs.Pendings.{all-any, any-part, part-any, times-marked}
 use Rattle.gui_change.specs.Marking.{AlsoMarks, AreMarked, AreUnmarked}
@@ -103,22 +103,6 @@ flip-eqb h k = elim (cases_Bool (eqb h k)) [
   | inl same ↦ let e : h ≡ k = eqb-true h k same in subst (λ j. eqb h j ≡ eqb j h) e refl
   | inr other ↦ other ∙ sym (false_from_ne_true (eqb k h) (λ e. both_ways (eqb h k) other (subst (λ j. eqb h j ≡ true) (sym (eqb-true k h e)) (eq-eqb h h refl))))
 ]
-
--- A tree and those beside it: its root, what lies below it, and the rest.
-pub spread : (a e b c m : Bool) → (((a || (e && m)) || (b && m)) || (c && m)) ≡ (a || ((e || (b || c)) && m))
-spread true e b c m = refl
-spread false true b c true = refl
-spread false true true true false = refl
-spread false true true false false = refl
-spread false true false true false = refl
-spread false true false false false = refl
-spread false false true c true = refl
-spread false false true true false = refl
-spread false false true false false = refl
-spread false false false true true = refl
-spread false false false true false = refl
-spread false false false false true = refl
-spread false false false false false = refl
 
 -- One object more, whatever it is.
 pub also-mark : (old new : Marks) (h : ℕ) → is_changed new h ≡ true → ((k : ℕ) → eqb k h ≡ false → is_changed new k ≡ is_changed old k) → ((k : ℕ) → is_parent new k ≡ (is_parent old k && not (eqb k h))) → AlsoMarks old new (λ k. eqb h k)

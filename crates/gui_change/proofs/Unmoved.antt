@@ -1,22 +1,21 @@
 -- What does not move in a change: what it does not concern, and all where layout does not go by what it sets.
-use Rattle.std.proofs.Common.{◌≡◌, ◌∙◌, refl, sym, ap, subst, ℕ, Bool, true, false, cond, eqb, ◌||◌, List, [], ◌∷◌, map, Option, Some, None, option_map, is_some, inl, inr, arith}
-use Rattle.std.specs.Prelude.{IsSome}
+use Rattle.std.proofs.Common.{◌≡◌, ◌∙◌, refl, sym, ap, subst, ℕ, Bool, true, false, eqb, List, [], Option, Some, None, option_map, is_some, inl, inr, arith}
 use Rattle.std.specs.List.{list_any}
 use Rattle.std.proofs.lemmas.Bool.{cases_Bool, both_ways, false≢true, false_from_ne_true, eqb-true, not-false, or_from, or_parts}
 use Rattle.std.proofs.lemmas.Bool.Decides.{nat_tests}
-use Rattle.gui_base.specs.Forest.{Forest, Empty, Tree, and_then, children_by, children_of, cut_by, has, leaf, parent_of, roots, tree_by, with_children_by}
+use Rattle.gui_base.specs.Forest.{Forest, Empty, Tree, and_then, children_of, cut_by, has, leaf, parent_of, path_by, roots, tree_by, with_children_by}
 use Rattle.gui_base.specs.declared.Handle.{Handle}
 use Rattle.gui_base.specs.declared.refusal.Refusal.{Refusal}
 use Rattle.gui_base.specs.declared.words.Kind.{Kind}
 use Rattle.gui_base.specs.declared.words.Kind.TheVariants.{Screen}
-use Rattle.gui_base.proofs.Forests.{map-children_by, map-tree_by}
+use Rattle.gui_base.proofs.Forests.{map-tree_by}
 use Rattle.gui_pool.specs.Table.{value_at}
 use Rattle.scene_defs.specs.declared.Change.{Change}
 use Rattle.scene_defs.specs.declared.Change.TheVariants as change
 use Rattle.scene_defs.specs.declared.Row.{Row}
 use Rattle.scene_defs.specs.Change.{answer_of, asset_change_in, changed, scene_after, scene_by, styling_in, tests}
 use Rattle.scene_defs.specs.Deeds.{setter_of}
-use Rattle.scene_defs.specs.Edits.{below, tree_below}
+use Rattle.scene_defs.specs.Edits.{below, moved_last, tree_below}
 use Rattle.scene_defs.specs.Scene.{Object, Scene, handle_of, handles_of, is_at, is_there, new_object, path_at, row_at, row_of}
 use Rattle.scene_defs.specs.Valid.{IsValid}
 use Rattle.scene_defs.proofs.Changes.{Fail, change_keeps_limits}
@@ -28,45 +27,41 @@ use Rattle.debt_defs.specs.Look.{is_among}
 use Rattle.debt_defs.specs.Concerns.{IsSame, children, concerns, lies_in, loses}
 use Rattle.debt_defs.proofs.Concerned.{others_are_same}
 use Rattle.debt_defs.proofs.Inside.{among-handles, there-tree}
-use Rattle.debt_defs.proofs.Moved.{lies-in-tree, tree-at}
+use Rattle.debt_defs.proofs.Moved.{lies-in-tree, own-path, puts-last, tree-at}
 use Rattle.debt_defs.proofs.Paths.{path-cut, path-with, spares-last}
 use Rattle.debt_defs.proofs.SameRows.{same-object}
 use Rattle.debt_defs.proofs.SameTrees.{deleted-path, end-path, index-path, made-path, not-in-tree}
-use Rattle.gui_layout.specs.Marked.{is_root}
 use Rattle.gui_layout.specs.Scenes.{scene_box}
 use Rattle.gui_layout.specs.SettledBut.{AreSettledButMarks, HasKids, IsUnmoved}
-use Rattle.gui_layout.specs.Solved.{AreSettled}
+use Rattle.gui_layout.specs.Solved.{place_at}
+use Rattle.gui_layout.specs.Tables.{area_in}
 use Rattle.gui_layout.specs.Views.{no_box}
+use Rattle.gui_layout.specs.declared.entry.Entry.{Entry}
 use Rattle.gui_layout.specs.declared.places.Places.{Places}
 use Rattle.gui_layout.proofs.Before.{settled_but_marks}
 use Rattle.gui_layout.proofs.Parts.{distinct_once as handles-distinct}
-use Rattle.gui_layout.proofs.SceneBoxes.{none_found, row_found, row_gone}
+use Rattle.gui_layout.proofs.SceneBoxes.{none_found, row_found}
 use Rattle.gui_change.specs.Concerned.{may_be}
 use Rattle.gui_change.specs.Edits.{WasEdited, WasMade, edit_of, is_gone}
 use Rattle.gui_change.specs.Moving.{moves_nobody}
 use Rattle.gui_change.specs.declared.concerned.Concerned.{Concerned}
 use Rattle.gui_change.specs.declared.edits.Edit.{Edit}
+use Rattle.gui_change.specs.declared.edits.Edit.TheVariants.{Beside}
 use Rattle.gui_change.proofs.Below.{after-handles, handles-stay, kids-gone, parent-gone}
 use Rattle.gui_change.proofs.BoxesStay.{boxes_stay}
 use Rattle.gui_change.proofs.Changes.{after_is}
 use Rattle.gui_change.proofs.Comings.{box-left, failed}
-use Rattle.gui_change.proofs.Kids.{kid-before, kid-parent}
-use Rattle.gui_change.proofs.Moves.{box-on-path, parent-second, second}
+use Rattle.gui_change.proofs.Kids.{kid-before, kid-parent, kids-are, root-among}
+use Rattle.gui_change.proofs.Moves.{box-on-path, moved, parent-second, second}
 use Rattle.gui_change.proofs.Parents.{put-there}
-use Rattle.gui_change.proofs.Unchanged.{box-alike, looks-same}
+use Rattle.gui_change.proofs.Unchanged.{box-alike, looks-same, there-is}
 
-abbrev as_number : Bool → ℕ
-as_number b = cond b 1 0
-
--- what is settled has a box
-pub boxed : (places : Places) (scene : Scene) (k : ℕ) → AreSettled places scene → is_there scene k ≡ true → IsSome (value_at places.boxes k)
-boxed places scene k settled there =
-    one-some (is_some (value_at places.boxes k)) (is_some (value_at places.positions k)) (places.kept.boxes.each k ∙ sym (places.kept.positions.each k)) (settled.there k ∙ there)
-  where
-    one-some : (a b : Bool) → as_number a ≡ as_number b → b ≡ true → a ≡ true
-    one-some true b same is = refl
-    one-some false true same is = absurd (omega (arith, same))
-    one-some false false same is = is
+-- what has no entry has no place
+pub place-none : (places : Places) (k : ℕ) → is_some (value_at places.entries k) ≡ false → place_at places k ≡ None
+place-none places k none = by (value_at places.entries k) refl none where
+  by : (e : Option Entry) → value_at places.entries k ≡ e → is_some e ≡ false → place_at places k ≡ None
+  by None is off = ap (option_map area_in) is
+  by (Some e) is off = absurd (false≢true (sym off))
 
 -- what is not there has no box
 pub box-gone : (scene : Scene) (k : ℕ) → is_there scene k ≡ false → scene_box scene k ≡ no_box k
@@ -76,21 +71,11 @@ box-gone scene k gone = by (row_at scene k) refl where
   by (Some row) is = absurd (both_ways (is_there scene k) gone (row_found scene k row (sym is)).0)
 
 -- the children are the same
-root-among : (u : ℕ) (f : Forest ℕ) → is_root u f ≡ list_any (λ h. eqb h u) (roots f)
-root-among u Empty = refl
-root-among u (Tree h cs rest) = ap (λ (b : Bool). eqb h u || b) (root-among u rest)
-
 pub same-kids : (c : Bool) (m : ℕ → Bool) (new old : Forest ℕ) → roots new ≡ roots old → HasKids c m new old
 same-kids true m new old same = λ k is off. root-among k old ∙ (ap (list_any (λ h. eqb h k)) (sym same) ∙ (sym (root-among k new) ∙ is))
 same-kids false m new old same = same
 
 -- What keeps its path is there as before, below the same parent.
-there-is : (scene : Scene) (k : ℕ) → is_there scene k ≡ is_some (row_at scene k)
-there-is scene k = by (row_at scene k) refl where
-  by : (row : Option Row) → row_at scene k ≡ row → is_there scene k ≡ is_some (row_at scene k)
-  by None none = row_gone scene k (sym none) ∙ ap is_some (sym none)
-  by (Some row) is = (row_found scene k row (sym is)).0 ∙ ap is_some (sym is)
-
 pub there-by-row : (before after : Scene) (k : ℕ) → row_at after k ≡ row_at before k → is_there after k ≡ is_there before k
 there-by-row before after k same = there-is after k ∙ (ap is_some same ∙ sym (there-is before k))
 
@@ -99,14 +84,6 @@ there-by-path before after k same = there-by-row before after k (ap (option_map 
 
 parent-by-path : (before after : Scene) (k : ℕ) → path_at after k ≡ path_at before k → parent_of (handles_of after.trees) k ≡ parent_of (handles_of before.trees) k
 parent-by-path before after k same = parent-second k after.trees ∙ (ap (λ (p : List Object). option_map handle_of (second p)) same ∙ sym (parent-second k before.trees))
-
--- the children as handles
-map-roots : (f : Forest Object) → map handle_of (roots f) ≡ roots (handles_of f)
-map-roots Empty = refl
-map-roots (Tree object cs rest) = ap (λ hs. object.handle ∷ hs) (map-roots rest)
-
-kids-are : (scene : Scene) (k : ℕ) → children scene k ≡ roots (children_of (handles_of scene.trees) k)
-kids-are scene k = map-roots (children_by (is_at k) scene.trees) ∙ ap (λ (t : Forest ℕ). roots t) (map-children_by handle_of (λ j. eqb j k) scene.trees)
 
 -- A change from which no object goes leaves those that it does not concern below their parents.
 pub record KeepsObjects (before after : Scene) (c : Change) : Type 0 where
@@ -141,6 +118,22 @@ there-with p k t (Tree object cs rest) i = elim (cases_Bool (is_at p object)) [
   | inr lower ↦ rw lower (let a = there-with p k t cs in let b = there-with p k t rest in grind (arith, nat_tests, i))
 ]
 
+-- what does not lie in it keeps its path, the new parent too
+moved-path : (before : Scene) (h p k : ℕ) → IsValid before → is_there before h ≡ true → lies_in before h k ≡ false → path_by (is_at k) [] (moved_last before.trees h p) ≡ path_at before k
+moved-path before h p k valid top up =
+    let f = before.trees in
+    let tree = tree_by (is_at h) f in
+    let put = λ (cs : Forest Object). and_then cs tree in
+    let left = cut_by (is_at h) f in
+    elim (cases_Bool (eqb k p)) [
+      | inl same ↦
+          subst (λ j. path_by (is_at j) [] (with_children_by (is_at p) put left) ≡ path_by (is_at j) [] left) (sym (eqb-true k p same))
+          (own-path h p tree put (puts-last h tree (tree-at h f (sym (has-handles f h) ∙ top))) [] left)
+      | inr other ↦
+          path-with (is_at k) (is_at p) put (spares-last (is_at k) tree (not-in-tree f h k (distinct_once f valid.trees.once) up)) (λ object at. let off = other in grind (arith, nat_tests)) [] left
+    ]
+    ∙ path-cut (is_at k) (is_at h) [] f up
+
 keeps-moved : (before : Scene) (h p : Handle) → IsValid before → Fail (tests before (change.Parent h p)) → KeepsObjects before (scene_after before (change.Parent h p)) (change.Parent h p)
 keeps-moved before h p valid t =
     let f = before.trees in
@@ -161,10 +154,7 @@ keeps-moved before h p valid t =
           ];
       parents = λ k off.
           let o : (loses before h.0 k ≡ false) × (eqb k p.0 ≡ false) = or_parts _ _ off in
-          let up : lies_in before h.0 k ≡ false = (or_parts _ _ o.0).0 in
-          parent-by-path before (scene_after before (change.Parent h p)) k
-          (path-with (is_at k) (is_at p.0) put (spares-last (is_at k) tree (not-in-tree f h.0 k d up)) (λ object at. let other = o.1 in grind (arith, nat_tests)) [] (cut_by (is_at h.0) f)
-          ∙ path-cut (is_at k) (is_at h.0) [] f up);
+          parent-by-path before (scene_after before (change.Parent h p)) k (moved-path before h.0 p.0 k valid (not-false (is_there before h.0) t.0) (or_parts _ _ o.0).0);
     }
 
 keeps-after : (before : Scene) (c : Change) → IsValid before → IsValid (scene_after before c) → Fail (tests before c) → is_gone (edit_of before c) ≡ false → KeepsObjects before (scene_after before c) c
@@ -209,9 +199,17 @@ module _ (places : Places) (after : Scene) (made : Change) (concerned : Concerne
   pub valid-after : IsValid after
   valid-after = subst IsValid (sym was.is) (change_keeps_valid was.before made was.valid was.plain)
 
+  -- what the change does not concern is the same
+  pub same-after : (k : ℕ) → concerns was.before made k ≡ false → IsSame was.before after k
+  same-after k off = subst (λ (s : Scene). IsSame was.before s k) (sym was.is) (others_are_same was.before made k was.valid was.plain off)
+
+  -- all keep their boxes where layout does not go by what is set
+  pub nobody-boxes : moves_nobody made ≡ true → (k : ℕ) → scene_box after k ≡ scene_box was.before k
+  nobody-boxes nobody k = ap (λ (s : Scene). scene_box s k) was.is ∙ boxes_stay was.before made was.valid was.plain was.done nobody k
+
   -- where all that is not marked has not moved, the places are right but for the marks
   pub told : (m c : ℕ → Bool) → ((k : ℕ) → m k ≡ false → IsUnmoved was.before after m c k) → AreSettledButMarks places after m c
-  told m c same = settled_but_marks places was.before after m c was.settled was.valid.trees.once valid-after.trees.once limits-stay same (λ k there. boxed places was.before k was.settled there)
+  told m c same = settled_but_marks places was.before after m c was.settled was.valid.trees.once valid-after.trees.once limits-stay same
 
   -- what was not there and is not there
   gone-told : (m c : ℕ → Bool) (k : ℕ) → is_there after k ≡ false → is_there was.before k ≡ false → IsUnmoved was.before after m c k
@@ -228,7 +226,7 @@ module _ (places : Places) (after : Scene) (made : Change) (concerned : Concerne
       let trees : handles_of after.trees ≡ handles_of was.before.trees = ap (λ (s : Scene). handles_of s.trees) was.is ∙ nobody-trees was.before made nobody in
       told m c (λ k un. record {
         there = ap (λ (f : Forest ℕ). has f k) trees;
-        box = ap (λ (s : Scene). scene_box s k) was.is ∙ boxes_stay was.before made was.valid was.plain was.done nobody k;
+        box = nobody-boxes nobody k;
         kids = same-kids (c k) m (children_of (handles_of after.trees) k) (children_of (handles_of was.before.trees) k) (ap (λ (f : Forest ℕ). roots (children_of f k)) trees);
         root = λ root. ap (λ (f : Forest ℕ). parent_of f k) (sym trees) ∙ root;
       })
@@ -237,10 +235,6 @@ module _ (places : Places) (after : Scene) (made : Change) (concerned : Concerne
 module _ (places : Places) (after : Scene) (made : Change) (concerned : Concerned) (was : WasMade places after made concerned) (m c : ℕ → Bool) where
   valid : IsValid after
   valid = valid-after places after made concerned was
-
-  -- what the change does not concern is the same
-  same-after : (k : ℕ) → concerns was.before made k ≡ false → IsSame was.before after k
-  same-after k off = subst (λ (s : Scene). IsSame was.before s k) (sym was.is) (others_are_same was.before made k was.valid was.plain off)
 
   -- what looks the same and keeps its path has not moved, if its children are told too
   on-path : (k : ℕ) → path_at after k ≡ path_at was.before k → scene_box after k ≡ scene_box was.before k → HasKids (c k) m (children_of (handles_of after.trees) k) (children_of (handles_of was.before.trees) k) → IsUnmoved was.before after m c k
@@ -268,7 +262,14 @@ module _ (places : Places) (after : Scene) (made : Change) (concerned : Concerne
       told places after made concerned was m c (λ k un. on-path k (path k un)
       (ap (λ (s : Scene). scene_box s k) now ∙ box-on-path scene (scene_after scene it).trees k (made-path scene k p.0 (new_object n.0 kind) (off-n k un)))
       (kids-told k path (λ off.
-      (same-after k (ap (λ (d : Change). concerns scene d k) is ∙ or_from (eqb k n.0) (eqb k p.0) (off-n k un) (off-p k un off))).children) (c k) refl))
+      (same-after places after made concerned was k (ap (λ (d : Change). concerns scene d k) is ∙ or_from (eqb k n.0) (eqb k p.0) (off-n k un) (off-p k un off))).children) (c k) refl))
+
+  -- what is not the parent of an object has it not among its children
+  no-child : (h : Handle) (k : ℕ) → (parent_of (handles_of was.before.trees) h.0 ≡ Some k → ⊥) → is_among (children was.before k) h.0 ≡ false
+  no-child h k above =
+      let f = handles_of was.before.trees in
+      false_from_ne_true (is_among (children was.before k) h.0) (λ child.
+      above (kid-parent h.0 k None f (handles-distinct f was.valid.trees.once) (root-among h.0 (children_of f k) ∙ (ap (λ hs. is_among hs h.0) (sym (kids-are was.before k)) ∙ child))))
 
   -- Where a tree went, none has moved but its objects, and the children of its parent may be others.
   pub removed-told : (h : Handle) → made ≡ change.Delete h → ((k : ℕ) → m k ≡ false → is_among (below was.before h.0) k ≡ false) → ((k : ℕ) → m k ≡ false → c k ≡ false → parent_of (handles_of was.before.trees) h.0 ≡ Some k → ⊥) →
@@ -284,20 +285,50 @@ module _ (places : Places) (after : Scene) (made : Change) (concerned : Concerne
       told places after made concerned was m c (λ k un. on-path k (path k un)
       (ap (λ (s : Scene). scene_box s k) now ∙ box-left scene h k was.valid (off k un))
       (kids-told k path (λ none.
-      let no_child : is_among (children scene k) h.0 ≡ false = false_from_ne_true (is_among (children scene k) h.0) (λ child.
-      above k un none (kid-parent h.0 k None (handles_of scene.trees) (handles-distinct (handles_of scene.trees) was.valid.trees.once) (root-among h.0 (children_of (handles_of scene.trees) k) ∙ (ap (λ hs. is_among hs h.0) (sym (kids-are scene k)) ∙ child)))) in
-      (same-after k (ap (λ (c : Change). concerns scene c k) is ∙ or_from (lies_in scene h.0 k) (is_among (children scene k) h.0) (off k un) no_child)).children) (c k) refl))
+      (same-after places after made concerned was k (ap (λ (c : Change). concerns scene c k) is ∙ or_from (lies_in scene h.0 k) (is_among (children scene k) h.0) (off k un) (no-child h k (above k un none)))).children) (c k) refl))
+
+  -- Where a tree went below another parent, none has moved but its objects, and the children of both parents may
+  -- be others.
+  pub reparented-told : (h p : Handle) → made ≡ change.Parent h p → ((k : ℕ) → m k ≡ false → lies_in was.before h.0 k ≡ false) → ((k : ℕ) → m k ≡ false → c k ≡ false → parent_of (handles_of was.before.trees) h.0 ≡ Some k → ⊥) →
+      ((k : ℕ) → m k ≡ false → c k ≡ false → eqb k p.0 ≡ false) → AreSettledButMarks places after m c
+  reparented-told h p is out above other =
+      let scene = was.before in
+      let it = change.Parent h p in
+      let now : after ≡ scene_after scene it = was.is ∙ (after_is scene made was.done ∙ ap (scene_after scene) is) in
+      let t = failed scene it (ap (answer_of scene) (sym is) ∙ was.done) in
+      let stays = λ (k : ℕ) (un : m k ≡ false). moved-path scene h.0 p.0 k was.valid (not-false (is_there scene h.0) t.0) (out k un) in
+      let path = λ (k : ℕ) (un : m k ≡ false). ap (λ (s : Scene). path_at s k) now ∙ stays k un in
+      told places after made concerned was m c (λ k un. on-path k (path k un)
+      (ap (λ (s : Scene). scene_box s k) now ∙ box-on-path scene (scene_after scene it).trees k (stays k un))
+      (kids-told k path (λ none.
+      (same-after places after made concerned was k (ap (λ (d : Change). concerns scene d k) is ∙ or_from (loses scene h.0 k) (eqb k p.0) (or_from (lies_in scene h.0 k) (is_among (children scene k) h.0) (out k un) (no-child h k (above k un none))) (other k un none))).children) (c k) refl))
+
+-- Where a child of an object went elsewhere among its siblings, none has moved, and the children of that object
+-- may be others.
+module _ (places : Places) (after : Scene) (parent : Handle) (made : Change) (concerned : Concerned) (removed : List ℕ) (was : WasEdited places after (Beside parent) made concerned removed) (m c : ℕ → Bool) where
+  pub beside-told : ((k : ℕ) → m k ≡ false → c k ≡ false → eqb k parent.0 ≡ false) → AreSettledButMarks places after m c
+  beside-told off =
+      let scene = was.was.before in
+      let it = moved places after parent made concerned removed was in
+      let path = λ (k : ℕ). ap (λ (s : Scene). path_at s k) it.is ∙ it.paths k in
+      told places after made concerned was.was m c (λ k un. on-path places after made concerned was.was m c k (path k)
+      (ap (λ (s : Scene). scene_box s k) it.is ∙ box-on-path scene it.trees k (it.paths k))
+      (kids-told places after made concerned was.was m c k (λ j still. path j) (λ none. ap (λ (s : Scene). children s k) it.is ∙ it.kids k (off k un none)) (c k) refl))
 
 module _ (places : Places) (after : Scene) (edit : Edit) (made : Change) (concerned : Concerned) (removed : List ℕ) (was : WasEdited places after edit made concerned removed) where
-  keeps : is_gone edit ≡ false → KeepsObjects was.was.before after made
+  pub keeps : is_gone edit ≡ false → KeepsObjects was.was.before after made
   keeps kept =
       let done = after_is was.was.before made was.was.done in
       let t = failed was.was.before made was.was.done in
       subst (λ (s : Scene). KeepsObjects was.was.before s made) (sym (was.was.is ∙ done))
       (keeps-after was.was.before made was.was.valid (subst IsValid (was.was.is ∙ done) (valid-after places after made concerned was.was)) t (ap is_gone (sym was.does) ∙ kept))
 
-  off-concerned : (k : ℕ) → is_there after k ≡ true → may_be after concerned k ≡ false → concerns was.was.before made k ≡ false
+  pub off-concerned : (k : ℕ) → is_there after k ≡ true → may_be after concerned k ≡ false → concerns was.was.before made k ≡ false
   off-concerned k there off = was.was.covers was.was.done k (subst (λ (s : Scene). is_there s k ≡ true) was.was.is there) (subst (λ (s : Scene). may_be s concerned k ≡ false) was.was.is off)
+
+  -- what the change does not concern keeps its box
+  pub others-boxes : (k : ℕ) → is_there after k ≡ true → may_be after concerned k ≡ false → scene_box after k ≡ scene_box was.was.before k
+  others-boxes k there off = box-alike was.was.before after k (looks-same was.was.before after k (same-after places after made concerned was.was k (off-concerned k there off)))
 
   -- else none but those that the change may concern
   pub others-told : (m c : ℕ → Bool) → is_gone edit ≡ false → ((k : ℕ) → is_there after k ≡ true → m k ≡ false → may_be after concerned k ≡ false) → AreSettledButMarks places after m c
@@ -305,7 +336,7 @@ module _ (places : Places) (after : Scene) (edit : Edit) (made : Change) (concer
       told places after made concerned was.was m c (λ k un. elim (cases_Bool (is_there after k)) [
         | inl there ↦
             let off = off-concerned k there (others k there un) in
-            let same : IsSame was.was.before after k = subst (λ (s : Scene). IsSame was.was.before s k) (sym was.was.is) (others_are_same was.was.before made k was.was.valid was.was.plain off) in
+            let same = same-after places after made concerned was.was k off in
             record {
               there = there-by-row was.was.before after k same.row;
               box = box-alike was.was.before after k (looks-same was.was.before after k same);

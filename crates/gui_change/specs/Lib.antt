@@ -1,8 +1,9 @@
 pub mod Again
 pub mod Canvas
 pub mod Concerned
-pub mod Differing
+pub mod Dues
 pub mod Edits
+pub mod Gone
 pub mod Handles
 pub mod Looks
 pub mod Marking
@@ -10,6 +11,7 @@ pub mod Moving
 pub mod Owed
 pub mod Reordered
 pub mod Seen
+pub mod Sees
 pub mod Sightings
 pub mod Sights
 pub mod Settled

@@ -1,8 +1,13 @@
 -- Which objects are marked: those that may stand elsewhere.
-use Rattle.std.specs.Prelude.{◌≡◌, ◌≤◌, ℕ, List, Bool, true, false, ◌||◌}
+use Rattle.std.specs.Prelude.{◌≡◌, ◌≤◌, ◌<◌, ℕ, List, Bool, true, false, ◌||◌}
 use Rattle.gui_base.specs.Forest.{Forest, has, size}
+use Rattle.gui_base.specs.declared.Handle.{Handle}
 use Rattle.scene_defs.specs.declared.Change.{Change}
-use Rattle.scene_defs.specs.Scene.{Scene}
+use Rattle.scene_defs.specs.Scene.{Scene, handles_of, is_there}
+use Rattle.gui_layout.specs.Listing.{times}
+use Rattle.gui_layout.specs.Scenes.{scene_box}
+use Rattle.gui_layout.specs.Solved.{AreSettled, limits_of, place_at}
+use Rattle.gui_layout.specs.Tops.{in_trees_at}
 use Rattle.gui_layout.specs.declared.marks.Marks.{Marks}
 use Rattle.gui_layout.specs.declared.places.Places.{Places}
 use Rattle.gui_layout.specs.Marks.{is_changed, is_marked, is_parent, most_marks}
@@ -31,3 +36,17 @@ abbrev pub MarksTell : Marks → Scene → Edit → Change → Concerned → Lis
 MarksTell marks after edit made concerned removed =
     (places : Places) → WasEdited places after edit made concerned removed →
     AreSettledButMarks places after (is_changed marks) (is_parent marks)
+
+-- what is there and not marked has the box that it had before
+abbrev pub BoxesStay : Marks → Scene → Edit → Change → Concerned → List ℕ → Type 0
+BoxesStay marks after edit made concerned removed =
+    (places : Places) (was : WasEdited places after edit made concerned removed) (k : ℕ) →
+    is_there after k ≡ true → is_changed marks k ≡ false → scene_box after k ≡ scene_box was.was.before k
+
+-- The places are settled, and all objects but those of the trees at some stand where they stood.
+pub record SettlesTrees (old new : Places) (scene : Scene) (tops : List Handle) : Type 0 where
+  pub settled : AreSettled new scene
+  pub limits : limits_of new ≡ limits_of old
+  pub there : (u : ℕ) → 0 < times tops u → is_there scene u ≡ true
+  pub stays : (k : ℕ) → is_there scene k ≡ true →
+      in_trees_at (handles_of scene.trees) tops k ≡ false → place_at new k ≡ place_at old k

@@ -4,11 +4,10 @@
 //! object is seen, and what it paints. So a change is found to touch an object in one way, whatever it does:
 //! the object is the one that the change names, or it is seen elsewhere, or it paints something else.
 //!
-//! Most changes set one object. Then the places are settled there alone, and of what is shown only the
-//! objects are looked at again that may stand elsewhere: such a change takes time by their number. Any other
-//! marks the objects that it may move, and the trees of these alone are solved: none where layout does not go
-//! by what it sets. To look at what is shown again takes time by the number of all objects. All memory is taken
-//! at [`Canvas::open`].
+//! A change marks the objects that it may move, and the trees of these alone are solved: none where layout does
+//! not go by what it sets. Where it leaves the trees, only those objects are looked at again that it may
+//! concern, and those of the trees that were solved: such a change takes time by their number. A change of the
+//! trees has all looked at again that is shown. All memory is taken at [`Canvas::open`].
 //!
 //! What is known of the objects is lent, in paint order, so that a painter need not look it up.
 #![tactic(auto)]
@@ -17,8 +16,8 @@ mod again;
 mod canvas;
 mod concerned;
 mod debts;
-mod differing;
 mod edits;
+mod gone;
 mod look;
 mod marking;
 mod moving;
@@ -26,9 +25,8 @@ mod named;
 mod renew;
 mod reorder;
 mod same;
+mod seeing;
 mod seen;
-mod sets;
-mod settle;
 mod shown;
 mod sighting;
 

@@ -1,15 +1,16 @@
 //! Which objects a change marks: those that may stand elsewhere after it.
 ghost use Rattle.std.specs.Prelude.{◌≤◌, ◌<◌, ◌+◌, length, List, Some, ◌≡◌, ◌&&◌, ℕ, true, false, eqb};
 ghost use Rattle.std.specs.Option.{ForSome};
-ghost use Rattle.gui_base.specs.Forest.{StandsOnce, has};
-ghost use Rattle.gui_layout.specs.Marks.{is_changed, is_marked, is_parent, mark_count, most_marks};
+ghost use Rattle.gui_base.specs.Forest.{StandsOnce, has, tree_at};
+ghost use Rattle.gui_layout.specs.Marks.{is_changed, is_marked, mark_count, most_marks};
 ghost use Rattle.gui_layout.specs.Walks.{trees_from};
 ghost use Rattle.gui_store.specs.Views.{removed_of, scene_of};
+ghost use Rattle.gui_style.specs.Styles.{uses_style};
 ghost use Rattle.gui_tree.specs.Handles.{numbers};
 ghost use Rattle.debt_defs.specs.Look.{is_among};
 ghost use Rattle.scene_defs.specs.Scene.{handles_of, is_there};
-ghost use Rattle.gui_change.specs.Concerned.{may_be};
-ghost use Rattle.gui_change.specs.Marking.{AlsoMarks, AreMarked, AreUnmarked, MarksTell};
+ghost use Rattle.gui_change.specs.Concerned.{is_below_user, may_be};
+ghost use Rattle.gui_change.specs.Marking.{AlsoMarks, AreMarked, AreUnmarked, BoxesStay, MarksTell};
 ghost use Rattle.gui_change.specs.Edits.{is_gone};
 ghost use Rattle.gui_change.specs.declared.edits.Edit.{Edit};
 
@@ -21,73 +22,95 @@ use gui_store::Store;
 use gui_tree::Tree;
 use scene_defs::Change;
 
-/// Marks an object that is there, if a change may concern it.
-fn mark_one(marks: &mut Marks, store: &Store, concerned: Concerned, h: Handle)
-    requires there { is_there (scene_of store.now) h.0 ≡ true }
-    requires room { AreMarked marks.old (handles_of (scene_of store.now).trees) }
-    ensures marks { AlsoMarks marks.old marks.new
-        (λ k. eqb h.0 k && may_be (scene_of store.now) concerned k) }
-    ensures room { AreMarked marks.new (handles_of (scene_of store.now).trees) }
+/// Marks an object, if it is there.
+fn mark_there(marks: &mut Marks, tree: &Tree, h: Handle)
+    requires room { AreMarked marks.old tree.now.forest }
+    ensures marks { AlsoMarks marks.old marks.new (λ k. eqb h.0 k && has tree.now.forest k) }
+    ensures room { AreMarked marks.new tree.now.forest }
     ensures most { most_marks marks.new ≡ most_marks marks.old }
 {
-    if !concerned.may_be(store, h) {
+    if !tree.has(h) {
         return;
     }
     marks.mark(h);
 }
 
-/// Marks an object, if it is there and a change may concern it.
-fn mark_there(marks: &mut Marks, store: &Store, concerned: Concerned, h: Handle)
-    requires room { AreMarked marks.old (handles_of (scene_of store.now).trees) }
-    ensures marks { AlsoMarks marks.old marks.new (λ k. eqb h.0 k
-        && (is_there (scene_of store.now) k && may_be (scene_of store.now) concerned k)) }
-    ensures room { AreMarked marks.new (handles_of (scene_of store.now).trees) }
-    ensures most { most_marks marks.new ≡ most_marks marks.old }
-{
-    if !store.tree().has(h) {
-        return;
-    }
-    mark_one(marks, store, concerned, h);
-}
-
-/// Marks those that a change may concern of an object, those beside it after it, and all below these.
-fn mark_trees(
-    tree: &Tree,
-    marks: &mut Marks,
-    store: &Store,
-    concerned: Concerned,
-    first: Option<Handle>,
-)
+/// Marks an object, those beside it after it, and all below these.
+fn mark_trees(marks: &mut Marks, tree: &Tree, first: Option<Handle>)
     requires once { StandsOnce tree.now.forest }
-    requires forest { tree.now.forest ≡ handles_of (scene_of store.now).trees }
     requires there { ForSome first (λ h. has tree.now.forest h.0 ≡ true) }
-    requires room { AreMarked marks.old (handles_of (scene_of store.now).trees) }
-    ensures marks { AlsoMarks marks.old marks.new
-        (λ k. has (trees_from first tree.now.forest) k && may_be (scene_of store.now) concerned k) }
-    ensures room { AreMarked marks.new (handles_of (scene_of store.now).trees) }
+    requires room { AreMarked marks.old tree.now.forest }
+    ensures marks { AlsoMarks marks.old marks.new (λ k. has (trees_from first tree.now.forest) k) }
+    ensures room { AreMarked marks.new tree.now.forest }
     ensures most { most_marks marks.new ≡ most_marks marks.old }
 {
     let mut next = first;
     while let Some(h) = next {
-        mark_one(marks, store, concerned, h);
-        mark_trees(tree, marks, store, concerned, tree.first_child(h));
+        marks.mark(h);
+        mark_trees(marks, tree, tree.first_child(h));
         next = tree.next(h);
     }
 }
 
-/// Marks those that a change may concern of all objects.
-fn mark_all(marks: &mut Marks, store: &Store, concerned: Concerned)
+/// Marks an object and all below it, if it is there.
+fn mark_below(marks: &mut Marks, tree: &Tree, h: Handle)
+    requires once { StandsOnce tree.now.forest }
+    requires room { AreMarked marks.old tree.now.forest }
+    ensures marks { AlsoMarks marks.old marks.new (λ k. has (tree_at tree.now.forest h.0) k) }
+    ensures room { AreMarked marks.new tree.now.forest }
+    ensures most { most_marks marks.new ≡ most_marks marks.old }
+{
+    if !tree.has(h) {
+        return;
+    }
+    marks.mark(h);
+    mark_trees(marks, tree, tree.first_child(h));
+}
+
+/// Marks the objects that use a style.
+fn mark_users(marks: &mut Marks, store: &Store, style: u16)
     requires room { AreMarked marks.old (handles_of (scene_of store.now).trees) }
     ensures marks { AlsoMarks marks.old marks.new
-        (λ k. is_there (scene_of store.now) k && may_be (scene_of store.now) concerned k) }
+        (λ k. is_there (scene_of store.now) k && uses_style (scene_of store.now).book k style) }
     ensures room { AreMarked marks.new (handles_of (scene_of store.now).trees) }
     ensures most { most_marks marks.new ≡ most_marks marks.old }
 {
     let tree = store.tree();
-    mark_trees(tree, marks, store, concerned, tree.first_root());
+    let mut users = store.users(style);
+    while let Some(user) = users.next() {
+        mark_there(marks, tree, *user);
+    }
 }
 
-/// Marks the objects that are there and that a change may concern.
+/// Marks the objects that use a style, and all below them. One that lies below several users is visited once
+/// for each of them.
+fn mark_below_users(marks: &mut Marks, store: &Store, style: u16)
+    requires room { AreMarked marks.old (handles_of (scene_of store.now).trees) }
+    ensures marks { AlsoMarks marks.old marks.new
+        (λ k. is_there (scene_of store.now) k && is_below_user (scene_of store.now) style k) }
+    ensures room { AreMarked marks.new (handles_of (scene_of store.now).trees) }
+    ensures most { most_marks marks.new ≡ most_marks marks.old }
+{
+    let tree = store.tree();
+    let mut users = store.users(style);
+    while let Some(user) = users.next() {
+        mark_below(marks, tree, *user);
+    }
+}
+
+/// Marks all objects.
+fn mark_all(marks: &mut Marks, store: &Store)
+    requires room { AreMarked marks.old (handles_of (scene_of store.now).trees) }
+    ensures marks { AlsoMarks marks.old marks.new (is_there (scene_of store.now)) }
+    ensures room { AreMarked marks.new (handles_of (scene_of store.now).trees) }
+    ensures most { most_marks marks.new ≡ most_marks marks.old }
+{
+    let tree = store.tree();
+    mark_trees(marks, tree, tree.first_root());
+}
+
+/// Marks the objects that are there and that a change may concern. Where it concerns some of them, no others
+/// are visited.
 fn mark_concerned(marks: &mut Marks, store: &Store, concerned: Concerned)
     requires room { AreMarked marks.old (handles_of (scene_of store.now).trees) }
     ensures marks { AlsoMarks marks.old marks.new
@@ -95,13 +118,23 @@ fn mark_concerned(marks: &mut Marks, store: &Store, concerned: Concerned)
     ensures room { AreMarked marks.new (handles_of (scene_of store.now).trees) }
     ensures most { most_marks marks.new ≡ most_marks marks.old }
 {
+    let tree = store.tree();
     match concerned {
-        Concerned::One(h) => mark_there(marks, store, concerned, h),
+        Concerned::Nobody => {}
+        Concerned::One(h) => mark_there(marks, tree, h),
         Concerned::Both(h, k) => {
-            mark_there(marks, store, concerned, h);
-            mark_there(marks, store, concerned, k);
+            mark_there(marks, tree, h);
+            mark_there(marks, tree, k);
         }
-        _ => mark_all(marks, store, concerned),
+        Concerned::Below(h) => mark_below(marks, tree, h),
+        Concerned::Moved(h, p, q) => {
+            mark_below(marks, tree, h);
+            mark_there(marks, tree, p);
+            mark_there(marks, tree, q);
+        }
+        Concerned::Users(style) => mark_users(marks, store, style),
+        Concerned::BelowUsers(style) => mark_below_users(marks, store, style),
+        Concerned::Anybody => mark_all(marks, store),
     }
 }
 
@@ -111,6 +144,8 @@ pub(crate) fn mark_moved(marks: &mut Marks, store: &Store, change: &Change, conc
     requires none { AreUnmarked marks.old (scene_of store.now).limits.objects }
     ensures tell { (edit : Edit) (removed : List ℕ) → is_gone edit ≡ false →
         MarksTell marks.new (scene_of store.now) edit change.now concerned removed }
+    ensures boxes { (edit : Edit) (removed : List ℕ) → is_gone edit ≡ false →
+        BoxesStay marks.new (scene_of store.now) edit change.now concerned removed }
     ensures most { most_marks marks.new ≡ most_marks marks.old }
 {
     if moves_nobody(change) {
@@ -160,5 +195,42 @@ pub(crate) fn mark_new(marks: &mut Marks, store: &Store, child: Handle, parent: 
     // Lending the tree tells that the scene is in order.
     let _tree = store.tree();
     marks.mark(child);
+    marks.mark_children(parent);
+}
+
+/// Marks a tree that went from its parent, if it had one, below another: all that stands in it, and that the
+/// children of both parents may be others.
+pub(crate) fn mark_reparented(
+    marks: &mut Marks,
+    store: &Store,
+    h: Handle,
+    old: Option<Handle>,
+    new: Handle,
+)
+    requires old { ForSome old (λ p. is_there (scene_of store.now) p.0 ≡ true) }
+    requires new { is_there (scene_of store.now) new.0 ≡ true }
+    requires none { AreUnmarked marks.old (scene_of store.now).limits.objects }
+    ensures below { (k : ℕ) → is_changed marks.new k
+        ≡ has (tree_at (handles_of (scene_of store.now).trees) h.0) k }
+    ensures old { (p : Handle) → old ≡ Some p → is_marked marks.new p.0 ≡ true }
+    ensures new { is_marked marks.new new.0 ≡ true }
+    ensures most { most_marks marks.new ≡ most_marks marks.old }
+{
+    mark_below(marks, store.tree(), h);
+    marks.mark_children(new);
+    if let Some(old) = old {
+        marks.mark_children(old);
+    }
+}
+
+/// Marks that the children of an object may stand in another order.
+pub(crate) fn mark_beside(marks: &mut Marks, store: &Store, parent: Handle)
+    requires none { AreUnmarked marks.old (scene_of store.now).limits.objects }
+    ensures changed { (k : ℕ) → is_changed marks.new k ≡ false }
+    ensures parent { is_marked marks.new parent.0 ≡ true }
+    ensures most { most_marks marks.new ≡ most_marks marks.old }
+{
+    // Lending the tree tells that the scene is in order.
+    let _tree = store.tree();
     marks.mark_children(parent);
 }

@@ -1,11 +1,11 @@
 -- Places in the marked trees, which are solved as all trees are.
-use Rattle.std.proofs.Common.{◌≡◌, ◌∙◌, refl, sym, ap, ℕ, Bool, true, false, cond, ◌||◌, eqb, get_or, Option, Some, None, option_map, inl, inr}
+use Rattle.std.proofs.Common.{◌≡◌, ◌∙◌, refl, sym, ap, ℕ, Bool, true, false, cond, ◌||◌, eqb, Option, Some, None, option_map, inl, inr}
 use Rattle.std.specs.Prelude.{is_some}
 use Rattle.std.proofs.lemmas.Bool.{cases_Bool, or_parts, false_from_ne_true, false≢true}
 use Rattle.gui_base.specs.Area.{area_at}
 use Rattle.gui_base.specs.Forest.{Forest, Empty, Tree, and_then, has, has_by, map_forest}
 use Rattle.gui_base.proofs.Forests.{map-has_by}
-use Rattle.gui_pool.specs.Table.{value_at}
+use Rattle.gui_pool.specs.Table.{Table, value_at}
 use Rattle.layout_defs.specs.Boxes.{Box}
 use Rattle.layout_defs.specs.Laws.{is_placed_at, row_by}
 use Rattle.layout_defs.specs.Solving.{Placed, Slot, Wide, nowhere, place_of, solved}
@@ -14,22 +14,20 @@ use Rattle.scene_defs.specs.Place.{place}
 use Rattle.scene_defs.specs.Scene.{Scene, handles_of}
 use Rattle.scene_defs.specs.Valid.{IsValid}
 use Rattle.gui_layout.specs.Found.{boxed, widths_of}
-use Rattle.gui_layout.specs.Naturals.{Sizes, is_wide_at, naturals_at, naturals_in}
-use Rattle.gui_layout.specs.declared.position.Position.{Position}
-use Rattle.gui_layout.specs.Kept.{Entries}
+use Rattle.gui_layout.specs.Naturals.{is_wide_at, naturals_at, naturals_in}
+use Rattle.gui_layout.specs.declared.entry.Entry.{Entry}
 use Rattle.gui_layout.specs.declared.places.Places.{Places}
 use Rattle.gui_layout.specs.Settled.{Known}
 use Rattle.gui_layout.specs.Settles.{known_in}
 use Rattle.gui_layout.specs.Marked.{marked_trees}
 use Rattle.gui_layout.specs.Scenes.{scene_box}
-use Rattle.gui_layout.specs.Slots.{HoldsPlaced, slot_or, slots_of}
-use Rattle.gui_layout.specs.Solved.{place_at, place_in}
-use Rattle.gui_layout.specs.Tables.{sizes_of}
-use Rattle.gui_layout.proofs.Entering.{boxed_are, joined}
+use Rattle.gui_layout.specs.Slots.{HoldsPlaced}
+use Rattle.gui_layout.specs.Solved.{place_at}
+use Rattle.gui_layout.specs.Tables.{area_in, natural_height_or, natural_width_or, slot_or, told, width_or}
+use Rattle.gui_layout.proofs.Entering.{boxed_are, joined, place_in}
 use Rattle.gui_layout.proofs.Finds.{elsewhere, widths-handles}
 use Rattle.gui_layout.proofs.Marking.{marked-has}
-use Rattle.gui_layout.proofs.Renewals.{placed-by}
-use Rattle.gui_layout.proofs.Listed.{slot_in_table}
+use Rattle.gui_layout.proofs.Listed.{told_at}
 use Rattle.gui_layout.proofs.Parts.{IsDistinct, distinct_once}
 use Rattle.gui_layout.proofs.Solves.{handles_solved, placed_handle}
 
@@ -101,56 +99,60 @@ module _ (box : ℕ → Box) where
   wide-marked = row-marked (widths_of box) (λ (w : Wide). w.box.handle) (λ t cs rest. refl) (widths-handles box)
 
 -- The places that entries tell of the marked trees are those of the scene.
-module _ (scene : Scene) (valid : IsValid scene) (m : ℕ → Bool) (e : Entries) where
+module _ (scene : Scene) (valid : IsValid scene) (m : ℕ → Bool) (e : Table Entry) where
   abbrev f : Forest ℕ
   f = handles_of scene.trees
 
   abbrev marked : Forest Placed
   marked = solves (scene_box scene) scene.limits.width scene.limits.height (marked_trees m f)
 
-  found : (h : ℕ) → HoldsPlaced (sizes_of e.widths) (slots_of e.positions) marked → has_by (is_placed_at h) marked ≡ true → is_some (value_at e.positions h) ≡ true → place_in e h ≡ option_map place_of (row_by (is_placed_at h) marked)
+  found : (h : ℕ) → HoldsPlaced (told e).widths (told e).slots marked → has_by (is_placed_at h) marked ≡ true → is_some (value_at e h) ≡ true → place_in e h ≡ option_map place_of (row_by (is_placed_at h) marked)
   found h placed here some =
-      joined (row_by (is_placed_at h) marked) (value_at e.positions h) _
-      (found_by_handle Placed ℕ placed_handle (λ (p : Placed). p.tall.width) 0 (sizes_of e.widths) marked h placed.0 here)
-      (found_by_handle Placed Slot placed_handle (λ (p : Placed). p.slot) nowhere (slots_of e.positions) marked h placed.1 here ∙ ap Some (slot_in_table e.positions h))
+      joined (row_by (is_placed_at h) marked) (value_at e h)
+      (found_by_handle Placed ℕ placed_handle (λ (p : Placed). p.tall.width) 0 (told e).widths marked h placed.0 here ∙ ap Some (told_at width_or e h))
+      (found_by_handle Placed Slot placed_handle (λ (p : Placed). p.slot) nowhere (told e).slots marked h placed.1 here ∙ ap Some (told_at slot_or e h))
       some
 
-  pub marked_placed : HoldsPlaced (sizes_of e.widths) (slots_of e.positions) marked → (h : ℕ) → has (marked_trees m f) h ≡ true → is_some (value_at e.positions h) ≡ true → place_in e h ≡ place scene h
+  pub marked_placed : HoldsPlaced (told e).widths (told e).slots marked → (h : ℕ) → has (marked_trees m f) h ≡ true → is_some (value_at e h) ≡ true → place_in e h ≡ place scene h
   unfolding place
   marked_placed placed h is some =
       found h placed (there (scene_box scene) scene.limits.width scene.limits.height h (marked_trees m f) ∙ is) some
       ∙ (ap (option_map place_of) (placed-marked (scene_box scene) scene.limits.width scene.limits.height m h f (distinct_once f valid.trees.once) is)
       ∙ ap (λ (b : Forest Box). option_map place_of (row_by (is_placed_at h) (solved scene.limits.width scene.limits.height b))) (boxed_are scene valid))
 
-abbrev sizes : ℕ → ℕ → Sizes
-sizes width height = record { width = width; height = height }
+-- where the same is known of an object, it has the same place and the same natural sizes
+module _ (k : ℕ) (p q : Places) (scene : Scene) (same : known_in q scene k ≡ known_in p scene k) (some : is_some (value_at p.entries k) ≡ is_some (value_at q.entries k)) where
+  width : width_or (value_at q.entries k) ≡ width_or (value_at p.entries k)
+  width = sym (told_at width_or q.entries k) ∙ (ap (λ (x : Known). x.width) same ∙ told_at width_or p.entries k)
 
--- where the same is known of an object, it has the same place
-pub place-alike : (k : ℕ) (p q : Places) (scene : Scene) → known_in q scene k ≡ known_in p scene k → is_some (value_at p.positions k) ≡ is_some (value_at q.positions k) → place_at q k ≡ place_at p k
-place-alike k p q scene same some =
-    let slot : slot_or (value_at q.positions k) ≡ slot_or (value_at p.positions k) = sym (slot_in_table q.positions k) ∙ (ap (λ (x : Known). x.slot) same ∙ slot_in_table p.positions k) in
-    placed-by (value_at q.positions k) (value_at p.positions k) (get_or (sizes_of q.widths) k 0) (get_or (sizes_of p.widths) k 0) (sym some) slot (ap (λ (x : Known). x.width) same)
+  slot : slot_or (value_at q.entries k) ≡ slot_or (value_at p.entries k)
+  slot = sym (told_at slot_or q.entries k) ∙ (ap (λ (x : Known). x.slot) same ∙ told_at slot_or p.entries k)
 
-pub place-none : (k : ℕ) (e : Entries) → is_some (value_at e.positions k) ≡ false → place_in e k ≡ None
-place-none k e none = by (value_at e.positions k) none where
-  by : (v : Option Position) → is_some v ≡ false → option_map (λ (q : Position). area_at q.x q.y (get_or (sizes_of e.widths) k 0) q.height) v ≡ None
-  by None none = refl
-  by (Some q) none = absurd (false≢true (sym none))
+  wide : natural_width_or (value_at q.entries k) ≡ natural_width_or (value_at p.entries k)
+  wide = sym (told_at natural_width_or q.entries k) ∙ (ap (λ (x : Known). x.natural_width) same ∙ told_at natural_width_or p.entries k)
 
--- and the same natural sizes
-pub naturals-alike : (k : ℕ) (p q : Places) (scene : Scene) → known_in q scene k ≡ known_in p scene k → is_some (value_at p.positions k) ≡ is_some (value_at q.positions k) → naturals_at q k ≡ naturals_at p k
-naturals-alike k p q scene same some =
-    by (value_at q.positions k) (value_at p.positions k) (get_or (sizes_of q.natural_widths) k 0) (get_or (sizes_of p.natural_widths) k 0) (get_or (sizes_of q.natural_heights) k 0) (get_or (sizes_of p.natural_heights) k 0) (sym some)
-    (ap (λ (x : Known). x.natural_width) same) (ap (λ (x : Known). x.natural_height) same)
-  where
-    by : (v w : Option Position) (a b c d : ℕ) → is_some v ≡ is_some w → a ≡ b → c ≡ d → option_map (λ (x : Position). sizes a c) v ≡ option_map (λ (x : Position). sizes b d) w
-    by None None a b c d some width height = refl
-    by None (Some y) a b c d some width height = absurd (false≢true some)
-    by (Some x) None a b c d some width height = absurd (false≢true (sym some))
-    by (Some x) (Some y) a b c d some width height = ap (λ n. Some (sizes n c)) width ∙ ap (λ n. Some (sizes b n)) height
+  high : natural_height_or (value_at q.entries k) ≡ natural_height_or (value_at p.entries k)
+  high = sym (told_at natural_height_or q.entries k) ∙ (ap (λ (x : Known). x.natural_height) same ∙ told_at natural_height_or p.entries k)
 
-pub naturals-none : (k : ℕ) (e : Entries) → is_some (value_at e.positions k) ≡ false → naturals_in e k ≡ None
-naturals-none k e none = by (value_at e.positions k) none where
-  by : (v : Option Position) → is_some v ≡ false → option_map (λ (q : Position). sizes (get_or (sizes_of e.natural_widths) k 0) (get_or (sizes_of e.natural_heights) k 0)) v ≡ None
-  by None none = refl
-  by (Some q) none = absurd (false≢true (sym none))
+  placed : (v w : Option Entry) → is_some w ≡ is_some v → width_or v ≡ width_or w → slot_or v ≡ slot_or w → option_map area_in v ≡ option_map area_in w
+  placed None None is w s = refl
+  placed None (Some y) is w s = absurd (false≢true (sym is))
+  placed (Some x) None is w s = absurd (false≢true is)
+  placed (Some x) (Some y) is w s = ap (λ (t : Slot). Some (area_at t.x t.y x.width.pixels t.height)) s ∙ ap (λ n. Some (area_at y.position.x y.position.y n y.position.height)) w
+
+  sized : (v w : Option Entry) → is_some w ≡ is_some v → natural_width_or v ≡ natural_width_or w → natural_height_or v ≡ natural_height_or w → option_map naturals_in v ≡ option_map naturals_in w
+  sized None None is w h = refl
+  sized None (Some y) is w h = absurd (false≢true (sym is))
+  sized (Some x) None is w h = absurd (false≢true is)
+  sized (Some x) (Some y) is w h = ap (λ n. Some (record { width = n; height = x.natural_height.pixels })) w ∙ ap (λ n. Some (record { width = y.natural_width.pixels; height = n })) h
+
+  pub place-alike : place_at q k ≡ place_at p k
+  place-alike = placed (value_at q.entries k) (value_at p.entries k) some width slot
+
+  pub naturals-alike : naturals_at q k ≡ naturals_at p k
+  naturals-alike = sized (value_at q.entries k) (value_at p.entries k) some wide high
+
+-- and where it has no entry, it has none
+pub none-of : {A B : Type 0} (f : A → B) (v : Option A) → is_some v ≡ false → option_map f v ≡ None
+none-of f None none = refl
+none-of f (Some x) none = absurd (false≢true (sym none))

@@ -1,10 +1,8 @@
 -- What is right of objects that did not differ since they were solved.
 use Rattle.std.proofs.Common.{◌≡◌, ◌∙◌, refl, sym, ap, subst, ℕ, Bool, true, false, eqb, eq-eqb, ◌||◌, ◌∷◌, map, Option, Some, None, inl, inr}
-use Rattle.std.specs.Prelude.{IsSome}
 use Rattle.std.proofs.lemmas.Bool.{cases_Bool, eqb-true, both_ways, false_from_ne_true, or_left, or_right, false≢true}
 use Rattle.gui_base.specs.Forest.{Forest, Empty, Tree, StandsOnce, children_of, has, has_by, map_forest, parent_by, roots}
 use Rattle.gui_base.specs.Limits.{Bounds}
-use Rattle.gui_pool.specs.Table.{value_at}
 use Rattle.layout_defs.specs.Boxes.{Box}
 use Rattle.layout_defs.specs.OwnHeights.{but_height}
 use Rattle.scene_defs.specs.Scene.{Scene, handles_of}
@@ -14,9 +12,9 @@ use Rattle.gui_layout.specs.Settled.{AllFill, AllFit, FillsPanel, Fits, Known, S
 use Rattle.gui_layout.specs.SettledBut.{AreRightBut, AreSettledButMarks, DiffersInMarks, HasKids, IsUnmoved, WasSolved, anyone, in_marked, nobody}
 use Rattle.gui_layout.specs.Solved.{AreSettled}
 use Rattle.gui_layout.specs.Settles.{known_in}
-use Rattle.gui_layout.proofs.Marking.{but-alike, fill-fewer, fits-left, left-graded, marked-has, natural-others}
-use Rattle.gui_layout.proofs.Moving.{steady-is}
+use Rattle.gui_layout.proofs.Marking.{but-alike, fill-fewer, fits-left, left-graded, marked-has, natural-others, steady-is}
 use Rattle.gui_layout.proofs.Parts.{IsDistinct, IsPart, below, beside, distinct_once, found, has-part, here, part_below, part_beside, part_children, there as there_in, whole}
+use Rattle.gui_layout.proofs.Renewals.{some-box}
 use Rattle.gui_layout.proofs.Settling.{is_at, is_root, parent-root, root-has}
 
 roots-map : (g : ℕ → Known) (f : Forest ℕ) → roots (map_forest g f) ≡ map g (roots f)
@@ -218,7 +216,7 @@ fill-at width height k known (Tree h cs rest) is fill = elim (cases_Bool (eqb h 
 
 -- Where all was settled for a scene that differs in marked objects alone, all is right but for the marks.
 module _ (p : Places) (before scene : Scene) (m c : ℕ → Bool) (settled : AreSettled p before) (once_before : StandsOnce (handles_of before.trees)) (once : StandsOnce (handles_of scene.trees)) (limits : scene.limits ≡ before.limits)
-    (same : (k : ℕ) → m k ≡ false → IsUnmoved before scene m c k) (boxed : (k : ℕ) → has (handles_of before.trees) k ≡ true → IsSome (value_at p.boxes k)) where
+    (same : (k : ℕ) → m k ≡ false → IsUnmoved before scene m c k) where
   was_solved : (k : ℕ) → has (handles_of scene.trees) k ≡ true → m k ≡ false → WasSolved p before scene m c k
   was_solved k there un =
       let g = handles_of before.trees in
@@ -231,7 +229,7 @@ module _ (p : Places) (before scene : Scene) (m c : ℕ → Bool) (settled : Are
       record {
         box = is.box;
         kids = is.kids;
-        known = settled.boxes k (boxed k here_before);
+        known = settled.boxes k (some-box p.entries k (settled.there k ∙ here_before));
         placed = settled.there k ∙ here_before;
         fits = subst (Fits (known k)) (roots-map known at.children ∙ ap (λ (t : Forest ℕ). map known (roots t)) (sym kids)) fit.0;
         fills = λ none.

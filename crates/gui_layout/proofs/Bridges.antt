@@ -1,15 +1,14 @@
 -- What the passes found, put together.
-use Rattle.std.proofs.Common.{◌≡◌, ◌≢◌, ◌∙◌, ◌<◌, ◌≤◌, refl, sym, ap, subst, ℕ, true, false, List, [], ◌∷◌, length, set, get_or, pos, arith}
+use Rattle.std.proofs.Common.{◌≡◌, ◌≢◌, ◌∙◌, ◌<◌, refl, sym, ap, subst, ℕ, true, false, List, [], ◌∷◌, length, set, get_or}
 use Rattle.std.proofs.lemmas.List.{length-set, get_or-set_same, get_or-set_other}
 use Rattle.std.proofs.lemmas.Bool.{both_ways}
-use Rattle.std.proofs.lemmas.Int.{ints}
 use Rattle.gui_base.specs.Forest.{Forest, Empty, Tree, has, roots, map_forest}
 use Rattle.layout_defs.specs.Boxes.{Box}
-use Rattle.layout_defs.specs.Solving.{Widened, Tall, Slot, Placed, kid_widths, kid_slots, natural_height, with_widths, with_natural_heights, with_slots, solved}
+use Rattle.layout_defs.specs.Solving.{Widened, Tall, Slot, Placed, kid_widths, kid_slots, natural_height, with_widths, with_slots}
 use Rattle.layout_defs.specs.Tables.{Holds, KeepsOthers}
-use Rattle.gui_layout.specs.Found.{HoldsWidths, boxed, widths_of}
+use Rattle.gui_layout.specs.Found.{HoldsWidths, widths_of}
 use Rattle.gui_layout.specs.Talls.{HoldsNaturalHeights, heights_of, widened_at}
-use Rattle.gui_layout.specs.Slots.{HasRoom, talls, tall_at}
+use Rattle.gui_layout.specs.Slots.{talls, tall_at}
 
 same_tree : {A : Type 0} (a b : A) (cs ds rest later : Forest A) → a ≡ b → cs ≡ ds → rest ≡ later → Tree a cs rest ≡ Tree b ds later
 same_tree {A} a b cs ds rest later row children others = ap (λ (r : A). Tree r cs rest) row ∙ (ap (λ (f : Forest A). Tree b f rest) children ∙ ap (λ (f : Forest A). Tree b ds f) others)
@@ -40,14 +39,6 @@ module _ (box : ℕ → Box) (widths : List ℕ) where
       same_tree (so_high h n) (so_high h (get_or naturals h 0)) (heights_of box widths cs) (talls box widths naturals cs) (heights_of box widths rest) (talls box widths naturals rest)
       (ap (so_high h) (sym holds.0)) (heights_given naturals cs holds.1) (heights_given naturals rest holds.2)
 
-  -- the places of a root's tree, where the tables hold what the passes find
-  pub root_solved : (naturals : List ℕ) (width height h : ℕ) (cs : Forest ℕ) → HoldsWidths box (width ∷ []) widths (Tree h cs Empty) → HoldsNaturalHeights box widths naturals (Tree h cs Empty) →
-      solved width height (boxed box (Tree h cs Empty)) ≡ with_slots (record { x = pos 0; y = pos 0; height = height } ∷ []) (talls box widths naturals (Tree h cs Empty))
-  root_solved naturals width height h cs wide tall =
-      let slots = record { x = pos 0; y = pos 0; height = height } ∷ [] in
-      ap (λ (f : Forest Widened). with_slots slots (with_natural_heights f)) (widths_given (width ∷ []) (Tree h cs Empty) wide)
-      ∙ ap (with_slots slots) (heights_given naturals (Tree h cs Empty) tall)
-
   -- a table of widths has the widths that it gave
   pub widths_hold : (naturals : List ℕ) (ss : List Slot) (f : Forest ℕ) → Holds (λ (p : Placed). p.tall.box.handle) (λ (p : Placed). p.tall.width) 0 widths (with_slots ss (talls box widths naturals f))
   widths_hold naturals ss Empty = tt
@@ -71,6 +62,3 @@ keeps_set d old between new h v f inside is keeps = record {
 
 pub entry_set : {V : Type 0} (d : V) (old new : List V) (h : ℕ) (v : V) → h < length old → new ≡ set old h v → get_or new h d ≡ v
 entry_set d old new h v short is = ap (λ t. get_or t h d) is ∙ get_or-set_same old h v d short
-
-pub room_at_corner : (slot : Slot) (levels : ℕ) → slot.x ≡ pos 0 → slot.y ≡ pos 0 → levels ≤ 16 → HasRoom slot levels
-room_at_corner slot levels x y low = record { left = omega (arith, ints); right = omega (arith, ints); top = omega (arith, ints); bottom = omega (arith, ints) }

@@ -15,8 +15,9 @@ use Rattle.gui_layout.specs.Scenes.{scene_box}
 use Rattle.gui_layout.specs.Settled.{IsSettled, Known, known}
 use Rattle.gui_layout.specs.SettledBut.{AreRightButChanged, anyone, in_marked, nobody}
 use Rattle.gui_layout.specs.Settles.{Settles, known_in}
-use Rattle.gui_layout.specs.Solved.{AreSettled, entries_of, layout_of, place_at}
+use Rattle.gui_layout.specs.Solved.{AreSettled, layout_of, place_at}
 use Rattle.gui_layout.proofs.Apart.{marked_placed}
+use Rattle.gui_layout.proofs.Renewals.{box-some}
 use Rattle.gui_layout.proofs.Entering.{all_placed}
 use Rattle.gui_layout.proofs.Fitting.{settled_placed}
 use Rattle.gui_layout.proofs.NaturalSizes.{marked-naturals}
@@ -53,17 +54,17 @@ module _ (scene : Scene) (new : Places) (w : ℕ → Bool) (now : AreRightButCha
 
   pub marked-places : IsValid scene → (k : ℕ) → in_marked w scene k ≡ true → place_at new k ≡ place scene k
   marked-places valid k is =
-      marked_placed scene valid w (entries_of new) (settled_placed (scene_box scene) (layout_of new) scene.limits.width scene.limits.height (marked_trees w (handles_of scene.trees)) marked-settled) k is
+      marked_placed scene valid w new.entries (settled_placed (scene_box scene) (layout_of new) scene.limits.width scene.limits.height (marked_trees w (handles_of scene.trees)) marked-settled) k is
       (now.placed k (marked-has w k (handles_of scene.trees) is) is refl)
 
   pub marked-sizes : IsValid scene → (k : ℕ) → in_marked w scene k ≡ true → naturals_at new k ≡ naturals scene k
-  marked-sizes valid k is = marked-naturals scene valid (entries_of new) w marked-settled k is (now.placed k (marked-has w k (handles_of scene.trees) is) is refl)
+  marked-sizes valid k is = marked-naturals scene valid new.entries w marked-settled k is (now.placed k (marked-has w k (handles_of scene.trees) is) is refl)
 
 module _ (scene : Scene) (old mid new : Places) (m n : ℕ → Bool)
     (alike : (k : ℕ) → has (handles_of scene.trees) k ≡ true → m k ≡ false → known_in mid scene k ≡ known_in old scene k)
-    (boxes : (k : ℕ) → has (handles_of scene.trees) k ≡ true → m k ≡ false → IsRenewed scene old.boxes k → IsRenewed scene mid.boxes k)
-    (marked : (k : ℕ) → has (handles_of scene.trees) k ≡ true → m k ≡ true → IsRenewed scene mid.boxes k)
-    (stands : (k : ℕ) → has (handles_of scene.trees) k ≡ true → (m k ≡ false → is_some (value_at old.positions k) ≡ true) → is_some (value_at new.positions k) ≡ true)
+    (boxes : (k : ℕ) → has (handles_of scene.trees) k ≡ true → m k ≡ false → IsRenewed scene (layout_of old).boxes k → IsRenewed scene (layout_of mid).boxes k)
+    (marked : (k : ℕ) → has (handles_of scene.trees) k ≡ true → m k ≡ true → IsRenewed scene (layout_of mid).boxes k)
+    (stands : (k : ℕ) → has (handles_of scene.trees) k ≡ true → (m k ≡ false → is_some (value_at old.entries k) ≡ true) → is_some (value_at new.entries k) ≡ true)
     (settles : Settles mid new scene m n) (none : (k : ℕ) → has (handles_of scene.trees) k ≡ true → n k ≡ false) where
   abbrev f : Forest ℕ
   f = handles_of scene.trees
@@ -85,16 +86,16 @@ module _ (scene : Scene) (old mid new : Places) (m n : ℕ → Bool)
 
   module _ (valid : IsValid scene) where
     -- where all was right but for the marks, all is settled
-    pub all-settled : AreRightButChanged old scene anyone m → ((k : ℕ) → is_some (value_at new.positions k) ≡ has f k) → ((k : ℕ) → is_some (value_at new.boxes k) ≡ has f k) → AreSettled new scene
-    all-settled was some some_box =
+    pub all-settled : AreRightButChanged old scene anyone m → ((k : ℕ) → is_some (value_at new.entries k) ≡ has f k) → AreSettled new scene
+    all-settled was some =
         let now = right anyone was in
         let settled : IsSettled width height (known (scene_box scene) (layout_of new) f) = record {
           fit = all-fits (known_in new scene) anyone nobody f (λ k i. refl) (λ k i. refl) now.fit;
           fill = all-fill anyone nobody width height (known_in new scene) f (λ k i. refl) (λ k i. refl) now.fill;
         } in
         record {
-          boxes = λ k some. now.boxes k (sym (some_box k) ∙ some) refl refl;
+          boxes = λ k boxed. now.boxes k (sym (some k) ∙ box-some new.entries k boxed) refl refl;
           settled = settled;
           there = some;
-          solved = all_placed scene valid (entries_of new) some (settled_placed (scene_box scene) (layout_of new) width height f settled);
+          solved = all_placed scene valid new.entries some (settled_placed (scene_box scene) (layout_of new) width height f settled);
         }

@@ -3,13 +3,13 @@ use Rattle.std.proofs.Common.{◌≡◌, ◌∙◌, refl, sym, ap, subst, ℕ, �
 use Rattle.std.specs.Prelude.{Option, Some, None, is_some, option_map}
 use Rattle.std.proofs.lemmas.Bool.{cases_Bool, eqb-true, or_parts, or_cases, and_parts, false≢true}
 use Rattle.std.proofs.lemmas.Bool.Decides.{nat_tests}
-use Rattle.gui_base.specs.Area.{area_at}
+use Rattle.gui_base.specs.Area.{Rect, area_at}
 use Rattle.gui_base.specs.Forest.{Forest, Empty, Tree, map_forest, has, has_by, all_by, size, height, preorder}
 use Rattle.gui_base.specs.Intervals.{is_counted}
 use Rattle.gui_base.specs.declared.Handle.{Handle}
 use Rattle.gui_base.specs.declared.intervals.TheConstants.{HANDLE, MAX_DEPTH}
 use Rattle.gui_base.proofs.Forests.{map-size, map-height, map-has_by, map-agree}
-use Rattle.gui_pool.specs.Table.{value_at}
+use Rattle.gui_pool.specs.Table.{Table, value_at}
 use Rattle.gui_tree.specs.Handles.{numbers}
 use Rattle.scene_defs.specs.Place.{place, box_of as object_box}
 use Rattle.scene_defs.specs.Scene.{Object, Scene, handle_of, handles_of}
@@ -19,16 +19,14 @@ use Rattle.layout_defs.specs.Boxes.{Box}
 use Rattle.layout_defs.specs.Solving.{Placed, Slot, solved, place_of, nowhere}
 use Rattle.layout_defs.specs.Laws.{row_by, is_placed_at}
 use Rattle.layout_defs.proofs.Solved.{found_by_handle}
-use Rattle.gui_layout.specs.declared.position.Position.{Position}
+use Rattle.gui_layout.specs.declared.entry.Entry.{Entry}
 use Rattle.gui_layout.specs.Found.{boxed}
-use Rattle.gui_layout.specs.Kept.{Entries}
 use Rattle.gui_layout.specs.Listing.{AreProper}
 use Rattle.gui_layout.specs.Scenes.{scene_box}
-use Rattle.gui_layout.specs.Slots.{HoldsPlaced, slot_of, slot_or, slots_of}
-use Rattle.gui_layout.specs.Solved.{place_in}
-use Rattle.gui_layout.specs.Tables.{sizes_of}
+use Rattle.gui_layout.specs.Slots.{HoldsPlaced, slot_of}
+use Rattle.gui_layout.specs.Tables.{area_in, slot_or, told, width_or}
 use Rattle.gui_layout.specs.Walks.{trees_from}
-use Rattle.gui_layout.proofs.Listed.{slot_in_table}
+use Rattle.gui_layout.proofs.Listed.{told_at}
 use Rattle.gui_layout.proofs.Parts.{distinct_once, first_of, trees_from-first_of, whole}
 use Rattle.gui_layout.proofs.SceneBoxes.{boxes_are, scene_named}
 use Rattle.gui_layout.proofs.Solves.{handles_solved, placed_handle}
@@ -76,15 +74,18 @@ module _ (scene : Scene) (valid : IsValid scene) where
   pub boxed_are : boxed (scene_box scene) forest ≡ map_forest (object_box scene) scene.trees
   boxed_are = map-agree (λ h. record (scene_box scene h) { handle = h }) (scene_box scene) forest (λ h there. scene_named scene h) ∙ sym (boxes_are scene valid.trees.once)
 
+-- the place that a table of entries tells
+abbrev pub place_in : Table Entry → ℕ → Option Rect
+place_in t h = option_map area_in (value_at t h)
+
 -- one object whose width and slot are known
-pub joined : (o : Option Placed) (v : Option Position) (w : ℕ) → option_map (λ (p : Placed). p.tall.width) o ≡ Some w → option_map (λ (p : Placed). p.slot) o ≡ Some (slot_or v) → is_some v ≡ true →
-    option_map (λ (q : Position). area_at q.x q.y w q.height) v ≡ option_map place_of o
-joined None v w wide at some = cc
-joined (Some p) None w wide at some = absurd (false≢true some)
-joined (Some p) (Some q) w wide at some =
-    let width : w ≡ p.tall.width = cc in
-    let slot : slot_of q ≡ p.slot = cc in
-    ap (λ (s : Slot). Some (area_at s.x s.y w s.height)) slot ∙ ap (λ n. Some (area_at p.slot.x p.slot.y n p.slot.height)) width
+pub joined : (o : Option Placed) (v : Option Entry) → option_map (λ (p : Placed). p.tall.width) o ≡ Some (width_or v) → option_map (λ (p : Placed). p.slot) o ≡ Some (slot_or v) → is_some v ≡ true → option_map area_in v ≡ option_map place_of o
+joined None v wide at some = cc
+joined (Some p) None wide at some = absurd (false≢true some)
+joined (Some p) (Some q) wide at some =
+    let width : q.width.pixels ≡ p.tall.width = cc in
+    let slot : slot_of q.position ≡ p.slot = cc in
+    ap (λ (s : Slot). Some (area_at s.x s.y q.width.pixels s.height)) slot ∙ ap (λ n. Some (area_at p.slot.x p.slot.y n p.slot.height)) width
 
 pub row_none : {A : Type 0} (test : A → Bool) (f : Forest A) → has_by test f ≡ false → row_by test f ≡ None
 row_none test Empty out = refl
@@ -94,11 +95,11 @@ row_none test (Tree p cs rest) out =
     rw (here.0, below.0) (row_none test rest below.1)
 
 -- every place is that of the scene
-module _ (scene : Scene) (valid : IsValid scene) (e : Entries) (some : (h : ℕ) → is_some (value_at e.positions h) ≡ has (handles_of scene.trees) h) where
+module _ (scene : Scene) (valid : IsValid scene) (e : Table Entry) (some : (h : ℕ) → is_some (value_at e h) ≡ has (handles_of scene.trees) h) where
   abbrev trees : Forest Placed
   trees = solved scene.limits.width scene.limits.height (boxed (scene_box scene) (handles_of scene.trees))
 
-  module _ (placed : HoldsPlaced (sizes_of e.widths) (slots_of e.positions) trees) where
+  module _ (placed : HoldsPlaced (told e).widths (told e).slots trees) where
     there : (h : ℕ) → has_by (is_placed_at h) trees ≡ has (handles_of scene.trees) h
     there h =
         sym (map-has_by placed_handle (λ k. eqb k h) trees)
@@ -106,18 +107,18 @@ module _ (scene : Scene) (valid : IsValid scene) (e : Entries) (some : (h : ℕ)
 
     found : (h : ℕ) → has_by (is_placed_at h) trees ≡ true → place_in e h ≡ option_map place_of (row_by (is_placed_at h) trees)
     found h here =
-        joined (row_by (is_placed_at h) trees) (value_at e.positions h) _
-        (found_by_handle Placed ℕ placed_handle (λ (p : Placed). p.tall.width) 0 (sizes_of e.widths) trees h placed.0 here)
-        (found_by_handle Placed Slot placed_handle (λ (p : Placed). p.slot) nowhere (slots_of e.positions) trees h placed.1 here ∙ ap Some (slot_in_table e.positions h))
+        joined (row_by (is_placed_at h) trees) (value_at e h)
+        (found_by_handle Placed ℕ placed_handle (λ (p : Placed). p.tall.width) 0 (told e).widths trees h placed.0 here ∙ ap Some (told_at width_or e h))
+        (found_by_handle Placed Slot placed_handle (λ (p : Placed). p.slot) nowhere (told e).slots trees h placed.1 here ∙ ap Some (told_at slot_or e h))
         (some h ∙ (sym (there h) ∙ here))
 
-    none : (v : Option Position) (w : ℕ) → is_some v ≡ false → option_map (λ (q : Position). area_at q.x q.y w q.height) v ≡ None
-    none None w out = refl
-    none (Some q) w out = absurd (false≢true (sym out))
+    none : (v : Option Entry) → is_some v ≡ false → option_map area_in v ≡ None
+    none None out = refl
+    none (Some q) out = absurd (false≢true (sym out))
 
     absent : (h : ℕ) → has_by (is_placed_at h) trees ≡ false → place_in e h ≡ option_map place_of (row_by (is_placed_at h) trees)
     absent h out =
-        none (value_at e.positions h) _ (some h ∙ (sym (there h) ∙ out))
+        none (value_at e h) (some h ∙ (sym (there h) ∙ out))
         ∙ ap (option_map place_of) (sym (row_none (is_placed_at h) trees out))
 
     pub all_placed : (h : ℕ) → place_in e h ≡ place scene h

@@ -38,9 +38,6 @@ module _ (box : ℕ → Box) (l : Layout) where
   abbrev knows : Forest ℕ → Forest Known
   knows f = known box l f
 
-  abbrev wide_roots_of : Forest ℕ → List ℕ
-  wide_roots_of f = map width_of (roots (knows f))
-
   -- what the tables hold is what they know of the roots
   wide_roots : (f : Forest ℕ) → HoldsNaturalWidths box l.natural_widths f → roots (widths_of box f) ≡ map wide_of (roots (knows f))
   wide_roots Empty holds = refl

@@ -1,5 +1,5 @@
 -- Slots that are dealt child by child.
-use Rattle.std.proofs.Common.{◌≡◌, ◌∙◌, refl, sym, ap, subst, ℕ, ◌<◌, Bool, List, ◌∷◌, length, get_or, set, map}
+use Rattle.std.proofs.Common.{◌≡◌, ◌∙◌, refl, sym, ap, subst, ℕ, ◌<◌, Bool, Option, List, ◌∷◌, length, get_or, set, map}
 use Rattle.std.specs.List.{All}
 use Rattle.std.proofs.lemmas.List.{get_or-set_same, length-set}
 use Rattle.std.proofs.lemmas.List.Elements.{All-nil, All-cons}
@@ -10,7 +10,6 @@ use Rattle.layout_defs.specs.Boxes.{Box}
 use Rattle.layout_defs.specs.Solving.{Tall, tall_box, Slot, Room, own_slot, dealt, in_order, ordered_slots, nowhere}
 use Rattle.gui_flex.specs.declared.item.FlexItem.{FlexItem}
 use Rattle.gui_flex.specs.Items.{item_of, items_of}
-use Rattle.gui_pool.specs.Table.{Table}
 use Rattle.gui_layout.specs.Kids.{tall_kid}
 use Rattle.gui_layout.specs.declared.layout_box.LayoutBox.{LayoutBox}
 use Rattle.gui_layout.specs.Views.{box_of, box_at}
@@ -20,7 +19,7 @@ use Rattle.gui_layout.proofs.Finds.{keeps_none, keeps_same, keeps_first, keeps_t
 use Rattle.gui_layout.proofs.Kids.{named}
 use Rattle.gui_layout.proofs.Lists.{map-in_order}
 
-pub tall_is : (boxes : Table LayoutBox) (widths naturals : List ℕ) (h width natural : ℕ) (kid : LayoutBox) → box_of h kid ≡ box_at boxes h →
+pub tall_is : (boxes : List (Option LayoutBox)) (widths naturals : List ℕ) (h width natural : ℕ) (kid : LayoutBox) → box_of h kid ≡ box_at boxes h →
     width ≡ get_or widths h 0 → natural ≡ get_or naturals h 0 → tall_kid h kid width natural ≡ tall_at (box_at boxes) widths naturals h
 tall_is boxes widths naturals h width natural kid is is_width is_natural =
     ap (λ (b : Box). record { box = b; width = width; natural_height = natural }) (is ∙ sym (named boxes h))

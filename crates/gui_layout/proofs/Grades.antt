@@ -10,6 +10,7 @@ use Rattle.gui_layout.specs.Scenes.{scene_box}
 use Rattle.gui_layout.specs.Settled.{is_steady}
 use Rattle.gui_layout.specs.SettledBut.{AreRightBut, AreRightButChanged, AreSettledButChanged, AreSettledButMarks, anyone, nobody}
 use Rattle.gui_layout.specs.Settles.{known_in}
+use Rattle.gui_layout.specs.Solved.{layout_of}
 use Rattle.gui_layout.specs.Views.{box_at}
 use Rattle.gui_layout.proofs.Marking.{all-both, all-fewer, all-graded, fill-fewer}
 
@@ -37,7 +38,7 @@ right-both p scene s was = record {
 
 -- where marks of the second grade are left out of objects that rest alone, the others tell all
 module _ (p : Places) (scene : Scene) (m c n : ℕ → Bool) (more : (k : ℕ) → m k ≡ true → n k ≡ true)
-    (rests : (k : ℕ) → c k ≡ true → n k ≡ false → Rests (handles_of scene.trees) p.boxes k) where
+    (rests : (k : ℕ) → c k ≡ true → n k ≡ false → Rests (handles_of scene.trees) p.entries k) where
   unchanged : (k : ℕ) → n k ≡ false → m k ≡ false
   unchanged k none = false_from_ne_true (m k) (λ is. both_ways (n k) none (more k is))
 
@@ -48,7 +49,7 @@ module _ (p : Places) (scene : Scene) (m c n : ℕ → Bool) (more : (k : ℕ) �
     fit = all-graded s m c n (known_in p scene) more
         (λ k looked on none.
         let rest = rests k on none in
-        steady-but (box_at p.boxes k) (scene_box scene k) (was.boxes k rest.there looked (unchanged k none)) rest.steady)
+        steady-but (box_at (layout_of p).boxes k) (scene_box scene k) (was.boxes k rest.there looked (unchanged k none)) rest.steady)
         (handles_of scene.trees) was.fit;
     fill = fill-fewer s s m n scene.limits.width scene.limits.height (known_in p scene) (handles_of scene.trees) (λ k looked. looked) unchanged was.fill;
   }

@@ -4,10 +4,11 @@ pub mod SceneBoxes
 pub mod Naturals
 pub mod These
 pub mod Leaving
-pub mod Joining
+pub mod Adding
 pub mod Renewing
 pub mod Listed
 pub mod Parts
+pub mod Sums
 pub mod Kids
 pub mod Finds
 pub mod Lists
@@ -23,7 +24,6 @@ pub mod Within
 pub mod Solves
 pub mod Fitting
 pub mod Settling
-pub mod Moving
 pub mod Alone
 pub mod Climbing
 pub mod Renewals
@@ -33,6 +33,7 @@ pub mod Marking
 pub mod Grades
 pub mod Finishing
 pub mod Stepping
+pub mod Tops
 pub mod Apart
 pub mod NaturalSizes
 pub mod Before

@@ -6,11 +6,10 @@ use Rattle.std.proofs.lemmas.List.{map-set, length-map}
 use Rattle.std.proofs.Math.ListN.{get_or-map}
 use Rattle.std.proofs.Math.Seq.{map-set_same}
 use Rattle.gui_pool.specs.Table.{Table, value_at, value_replaced}
-use Rattle.layout_defs.specs.Solving.{nowhere}
-use Rattle.gui_layout.specs.declared.size.Size.{Size}
-use Rattle.gui_layout.specs.declared.position.Position.{Position}
-use Rattle.gui_layout.specs.Tables.{IsListed, pixels_of, sizes_of, listing_of}
-use Rattle.gui_layout.specs.Slots.{slot_of, slot_or, slots_of}
+use Rattle.gui_layout.specs.declared.entry.Entry.{Entry}
+use Rattle.gui_layout.specs.Slots.{slot_of}
+use Rattle.gui_layout.specs.Tables.{IsEntry, IsListed, listing_of, natural_height_or, natural_width_or, slot_or, told, wanted_or, width_or}
+use Rattle.gui_layout.specs.Views.{box_or}
 
 module _ {T : Type 0} where
   short_in : (os : List (Option T)) (h : ℕ) → get_or (map is_some os) h false ≡ true → h < length os
@@ -38,22 +37,72 @@ module _ {T : Type 0} where
   pub short : (t : Table T) (h : ℕ) → IsListed (listing_of t) h → h < length t.values
   short t h e = short_in t.values h e
 
--- the size of a handle
-pub size_in_table : (t : Table Size) (h : ℕ) → get_or (sizes_of t) h 0 ≡ pixels_of (value_at t h)
-size_in_table t h = get_or-map pixels_of t.values h None
+-- What is told of a handle.
+pub told_at : {A : Type 0} (f : Option Entry → A) (t : Table Entry) (h : ℕ) → get_or (map f t.values) h (f None) ≡ f (value_at t h)
+told_at f t h = get_or-map f t.values h None
 
-pub sizes_replaced : (t : Table Size) (h : ℕ) (v : Size) → sizes_of (value_replaced t h v) ≡ set (sizes_of t) h v.pixels
-sizes_replaced t h v = map-set pixels_of t.values h (Some v)
+pub told_short : {A : Type 0} (f : Option Entry → A) (t : Table Entry) (h : ℕ) → IsListed (listing_of t) h → h < length (map f t.values)
+told_short f t h e = let s = short t h e in omega (arith, length-map t.values f)
 
-pub sizes_short : (t : Table Size) (h : ℕ) → IsListed (listing_of t) h → h < length (sizes_of t)
-sizes_short t h e = let s = short t h e in omega (arith, length-map t.values pixels_of)
+-- an entry tells what is told of its handle
+pub is_entry : (t : Table Entry) (h : ℕ) (e : Entry) → Some e ≡ value_at t h → IsEntry (told t) h e
+is_entry t h e is = record {
+  wanted = ap (box_or h) (ap wanted_or is ∙ sym (told_at wanted_or t h));
+  natural_width = ap natural_width_or is ∙ sym (told_at natural_width_or t h);
+  width = ap width_or is ∙ sym (told_at width_or t h);
+  natural_height = ap natural_height_or is ∙ sym (told_at natural_height_or t h);
+  slot = ap slot_or is ∙ sym (told_at slot_or t h);
+}
 
--- the slot of a handle
-pub slot_in_table : (t : Table Position) (h : ℕ) → get_or (slots_of t) h nowhere ≡ slot_or (value_at t h)
-slot_in_table t h = get_or-map slot_or t.values h None
+-- Another entry for a handle: what it tells otherwise is set, and all else is the same.
+module _ (t : Table Entry) (h : ℕ) (e v : Entry) (was : Some e ≡ value_at t h) where
+  same_told : {A : Type 0} (f : Option Entry → A) → f (Some v) ≡ f (Some e) → map f (value_replaced t h v).values ≡ map f t.values
+  same_told f same = map-set_same f t.values h (Some v) None (same ∙ ap f was)
 
-pub slots_replaced : (t : Table Position) (h : ℕ) (v : Position) → slots_of (value_replaced t h v) ≡ set (slots_of t) h (slot_of v)
-slots_replaced t h v = map-set slot_or t.values h (Some v)
+  set_told : {A : Type 0} (f : Option Entry → A) → map f (value_replaced t h v).values ≡ set (map f t.values) h (f (Some v))
+  set_told f = map-set f t.values h (Some v)
 
-pub slots_short : (t : Table Position) (h : ℕ) → IsListed (listing_of t) h → h < length (slots_of t)
-slots_short t h e = let s = short t h e in omega (arith, length-map t.values slot_or)
+  pub wanted_set : v ≡ record e { wanted = v.wanted } → told (value_replaced t h v) ≡ record (told t) { boxes = set (told t).boxes h (Some v.wanted) }
+  wanted_set is = λ i. record {
+    boxes = set_told wanted_or i;
+    natural_widths = same_told natural_width_or (ap (λ (x : Entry). x.natural_width.pixels) is) i;
+    widths = same_told width_or (ap (λ (x : Entry). x.width.pixels) is) i;
+    natural_heights = same_told natural_height_or (ap (λ (x : Entry). x.natural_height.pixels) is) i;
+    slots = same_told slot_or (ap (λ (x : Entry). slot_of x.position) is) i;
+  }
+
+  pub natural_width_set : v ≡ record e { natural_width = v.natural_width } → told (value_replaced t h v) ≡ record (told t) { natural_widths = set (told t).natural_widths h v.natural_width.pixels }
+  natural_width_set is = λ i. record {
+    boxes = same_told wanted_or (ap (λ (x : Entry). Some x.wanted) is) i;
+    natural_widths = set_told natural_width_or i;
+    widths = same_told width_or (ap (λ (x : Entry). x.width.pixels) is) i;
+    natural_heights = same_told natural_height_or (ap (λ (x : Entry). x.natural_height.pixels) is) i;
+    slots = same_told slot_or (ap (λ (x : Entry). slot_of x.position) is) i;
+  }
+
+  pub width_set : v ≡ record e { width = v.width } → told (value_replaced t h v) ≡ record (told t) { widths = set (told t).widths h v.width.pixels }
+  width_set is = λ i. record {
+    boxes = same_told wanted_or (ap (λ (x : Entry). Some x.wanted) is) i;
+    natural_widths = same_told natural_width_or (ap (λ (x : Entry). x.natural_width.pixels) is) i;
+    widths = set_told width_or i;
+    natural_heights = same_told natural_height_or (ap (λ (x : Entry). x.natural_height.pixels) is) i;
+    slots = same_told slot_or (ap (λ (x : Entry). slot_of x.position) is) i;
+  }
+
+  pub natural_height_set : v ≡ record e { natural_height = v.natural_height } → told (value_replaced t h v) ≡ record (told t) { natural_heights = set (told t).natural_heights h v.natural_height.pixels }
+  natural_height_set is = λ i. record {
+    boxes = same_told wanted_or (ap (λ (x : Entry). Some x.wanted) is) i;
+    natural_widths = same_told natural_width_or (ap (λ (x : Entry). x.natural_width.pixels) is) i;
+    widths = same_told width_or (ap (λ (x : Entry). x.width.pixels) is) i;
+    natural_heights = set_told natural_height_or i;
+    slots = same_told slot_or (ap (λ (x : Entry). slot_of x.position) is) i;
+  }
+
+  pub position_set : v ≡ record e { position = v.position } → told (value_replaced t h v) ≡ record (told t) { slots = set (told t).slots h (slot_of v.position) }
+  position_set is = λ i. record {
+    boxes = same_told wanted_or (ap (λ (x : Entry). Some x.wanted) is) i;
+    natural_widths = same_told natural_width_or (ap (λ (x : Entry). x.natural_width.pixels) is) i;
+    widths = same_told width_or (ap (λ (x : Entry). x.width.pixels) is) i;
+    natural_heights = same_told natural_height_or (ap (λ (x : Entry). x.natural_height.pixels) is) i;
+    slots = set_told slot_or i;
+  }

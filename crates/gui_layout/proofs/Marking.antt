@@ -1,18 +1,35 @@
 -- Trees that are settled anew one after another, and what is left of the marks.
 use Rattle.std.proofs.Common.{◌≡◌, ◌∙◌, refl, sym, ap, subst, ℕ, Bool, true, false, eqb, eq-eqb, ◌||◌, ◌&&◌, List, ◌∷◌, map, Option, Some, inl, inr}
 use Rattle.std.specs.Prelude.{not}
-use Rattle.std.proofs.lemmas.Bool.{cases_Bool, eqb-true, or_left, or_right, or_cases, or_parts, both_ways, false_from_ne_true}
+use Rattle.std.proofs.lemmas.Bool.{cases_Bool, and_parts, eqb-true, or_left, or_right, or_cases, or_parts, both_ways, false_from_ne_true, false≢true}
 use Rattle.gui_base.specs.Forest.{Forest, Empty, Tree, has, has_by, roots, map_forest, tree_at, parent_by}
 use Rattle.layout_defs.specs.declared.Course.{Course}
-use Rattle.layout_defs.specs.Boxes.{Box}
+use Rattle.layout_defs.specs.declared.Course.TheVariants.{Free, Across, Down}
+use Rattle.layout_defs.specs.Boxes.{Box, course_of}
 use Rattle.gui_layout.specs.Marked.{marked_trees, is_any_root, HasNatural, StandUnmarked, LeftBy, LeftOf, FitsBut, AllFitBut, AllFitButBoth, AllFillBut}
 use Rattle.gui_layout.specs.Settled.{Known, wide_of, tall_of, Fits, AllFit, AllFill, FillsPanel, StandsFree, IsSteady, is_steady, is_free, is_content}
+use Rattle.gui_layout.specs.Settles.{LetsStand}
 use Rattle.gui_layout.proofs.Finds.{elsewhere}
-use Rattle.gui_layout.proofs.Moving.{steady-is}
 use Rattle.gui_layout.proofs.Parts.{IsDistinct}
-use Rattle.gui_layout.proofs.Settling.{is_root, root-has, root-out, tree-in, is_at, parent-root, AllFree, Lets, fits-free, free-wide, free-stand, free-widths, free-slots, width-steady, height-steady}
+use Rattle.gui_layout.proofs.Settling.{is_root, root-has, root-out, tree-in, is_at, parent-root, AllFree, fits-free, free-wide, free-stand, free-widths, free-slots, width-steady, height-steady}
 
--- a steady box is so by its test
+-- What is steady by its test is so.
+free-is : (course : Course) → is_free course ≡ true → course ≡ Free
+free-is Free is = refl
+free-is Across is = absurd (false≢true is)
+free-is Down is = absurd (false≢true is)
+
+not-true : (b : Bool) → not b ≡ true → b ≡ false
+not-true true is = absurd (false≢true is)
+not-true false is = refl
+
+pub steady-is : (box : Box) → is_steady box ≡ true → IsSteady box
+steady-is box is =
+    let a : (is_free (course_of box.flow) ≡ true) × ((not (is_content box.across.size) && not (is_content box.down.size)) ≡ true) = and_parts _ _ is in
+    let b : (not (is_content box.across.size) ≡ true) × (not (is_content box.down.size) ≡ true) = and_parts _ _ a.1 in
+    record { free = free-is (course_of box.flow) a.0; wide = not-true _ b.0; high = not-true _ b.1 }
+
+-- and a steady box is so by its test
 pub is-steady : (box : Box) → IsSteady box → is_steady box ≡ true
 is-steady box steady =
     ap (λ (course : Course). is_free course && (not (is_content box.across.size) && not (is_content box.down.size))) steady.free
@@ -193,7 +210,7 @@ module _ (s : ℕ → Bool) (old new : ℕ → Known) (m n : ℕ → Bool) (u : 
     free-kept p rest (λ k i. same k (or_right (eqb h k) (is_root k rest) i)) stands all.1,
   )
 
-  parent-kept : (h : ℕ) (cs : Forest ℕ) → new h ≡ old h → ((k : ℕ) → is_root k cs ≡ true → eqb k u ≡ false → Stays old new m n k) → Lets old new u (Some h) → FitsBut m old h cs → FitsBut n new h cs
+  parent-kept : (h : ℕ) (cs : Forest ℕ) → new h ≡ old h → ((k : ℕ) → is_root k cs ≡ true → eqb k u ≡ false → Stays old new m n k) → LetsStand old new u (Some h) → FitsBut m old h cs → FitsBut n new h cs
   parent-kept h cs own same lets left =
       let steady : is_steady (old h).box ≡ true = is-steady (old h).box lets.0 in
       let was : LeftBy true m old h cs = subst (λ b. LeftBy b m old h cs) steady left in
@@ -204,7 +221,7 @@ module _ (s : ℕ → Bool) (old new : ℕ → Known) (m n : ℕ → Bool) (u : 
       subst (λ b. LeftBy b n new h cs) (sym (ap (λ (k : Known). is_steady k.box) own ∙ steady)) now
 
   -- All that was right is so still, and u's tree is right, whatever was marked there.
-  pub step : (above : Option ℕ) (f : Forest ℕ) → IsDistinct f → has f u ≡ true → ((k : ℕ) → has (tree_at f u) k ≡ false → Stays old new m n k) → Lets old new u (parent_by (is_at u) above f) → AllFitBut s m old f → AllFit (map_forest new (tree_at f u)) → AllFitBut s n new f
+  pub step : (above : Option ℕ) (f : Forest ℕ) → IsDistinct f → has f u ≡ true → ((k : ℕ) → has (tree_at f u) k ≡ false → Stays old new m n k) → LetsStand old new u (parent_by (is_at u) above f) → AllFitBut s m old f → AllFit (map_forest new (tree_at f u)) → AllFitBut s n new f
   step above Empty distinct there same lets all anew = tt
   step above (Tree h cs rest) distinct there same lets all anew = elim (cases_Bool (eqb h u)) [
     | inl is ↦
@@ -216,9 +233,9 @@ module _ (s : ℕ → Bool) (old new : ℕ → Known) (m n : ℕ → Bool) (u : 
           let tree : tree_at (Tree h cs rest) u ≡ tree_at cs u = rw (isnt, below) refl in
           let same_below : (k : ℕ) → has (tree_at cs u) k ≡ false → Stays old new m n k = λ k out. same k (subst (λ t. has t k ≡ false) (sym tree) out) in
           let own = same_below h (false_from_ne_true (has (tree_at cs u) h) (λ i. both_ways (has cs h) distinct.1 (tree-in u h cs i))) in
-          let lets_below : Lets old new u (parent_by (is_at u) (Some h) cs) = subst (Lets old new u) (rw (isnt, below) refl) lets in (
+          let lets_below : LetsStand old new u (parent_by (is_at u) (Some h) cs) = subst (LetsStand old new u) (rw (isnt, below) refl) lets in (
             λ looked un. elim (cases_Bool (is_root u cs)) [
-              | inl root ↦ parent-kept h cs own.known (λ k i other. same_below k (root-out u k cs distinct.3 i other)) (subst (Lets old new u) (parent-root u (Some h) cs distinct.3 root) lets_below) (all.0 looked (sym own.mark ∙ un))
+              | inl root ↦ parent-kept h cs own.known (λ k i other. same_below k (root-out u k cs distinct.3 i other)) (subst (LetsStand old new u) (parent-root u (Some h) cs distinct.3 root) lets_below) (all.0 looked (sym own.mark ∙ un))
               | inr deep ↦ but-kept h cs own.known (λ k i. same_below k (root-out u k cs distinct.3 i (other_root k i deep))) (all.0 looked (sym own.mark ∙ un))
             ],
             step (Some h) cs distinct.3 below same_below lets_below all.1 (subst (λ t. AllFit (map_forest new t)) tree anew),
@@ -229,7 +246,7 @@ module _ (s : ℕ → Bool) (old new : ℕ → Known) (m n : ℕ → Bool) (u : 
           let same_beside : (k : ℕ) → has (tree_at rest u) k ≡ false → Stays old new m n k = λ k o. same k (subst (λ t. has t k ≡ false) (sym tree) o) in
           let in_cs : (k : ℕ) → has cs k ≡ true → Stays old new m n k = λ k i. same_beside k (false_from_ne_true (has (tree_at rest u) k) (λ j. both_ways (has rest k) (distinct.0 k i) (tree-in u k rest j))) in
           let own = same_beside h (false_from_ne_true (has (tree_at rest u) h) (λ i. both_ways (has rest h) distinct.2 (tree-in u h rest i))) in
-          let lets_beside : Lets old new u (parent_by (is_at u) above rest) = subst (Lets old new u) (rw (isnt, out) refl) lets in (
+          let lets_beside : LetsStand old new u (parent_by (is_at u) above rest) = subst (LetsStand old new u) (rw (isnt, out) refl) lets in (
             λ looked un. but-kept h cs own.known (λ k i. in_cs k (root-has k cs i)) (all.0 looked (sym own.mark ∙ un)),
             kept cs in_cs all.1,
             step above rest distinct.4 (rw (isnt, out) at there) same_beside lets_beside all.2 (subst (λ t. AllFit (map_forest new t)) tree anew),

@@ -1,10 +1,9 @@
 -- Own heights that are set at found widths.
-use Rattle.std.proofs.Common.{◌≡◌, ◌∙◌, refl, sym, ap, subst, ℕ, ◌+◌, ◌-◌, true, false, cond, eqb, eq-eqb, ◌||◌, ◌⊎◌, List, get_or, inl, inr}
-use Rattle.std.specs.Prelude.{Option, Some, IsSome}
+use Rattle.std.proofs.Common.{◌≡◌, ◌∙◌, ◌<◌, refl, sym, ap, subst, ℕ, length, set, true, false, cond, eqb, eq-eqb, ◌||◌, ◌⊎◌, List, get_or, inl, inr}
+use Rattle.std.specs.Prelude.{Option, Some, None}
 use Rattle.std.proofs.lemmas.Bool.{cases_Bool, eqb-true, or_cases, or_left, or_right, false≢true}
 use Rattle.gui_base.specs.Forest.{Forest, Empty, Tree, has, map_forest}
 use Rattle.gui_base.proofs.Forests.{map-agree}
-use Rattle.gui_pool.specs.Table.{Table, value_at, value_replaced}
 use Rattle.layout_defs.specs.Boxes.{Box, inner}
 use Rattle.layout_defs.specs.Solving.{Wide, Widened, Tall, Slot, Placed, with_natural_widths, with_widths, with_natural_heights, with_slots, nowhere}
 use Rattle.layout_defs.specs.OwnHeights.{but_height, but_height_wide, but_height_widened, but_height_tall, but_height_placed, fixed_at, fixed_widened, fixed_tall}
@@ -18,12 +17,10 @@ use Rattle.gui_layout.specs.OwnHeights.{IsFixed, AreFixed, KeepsFixed}
 use Rattle.gui_layout.specs.Renewed.{KeepsRenewed}
 use Rattle.gui_layout.specs.Scenes.{scene_box}
 use Rattle.gui_layout.specs.Slots.{HoldsSlots, talls, tall_at}
-use Rattle.gui_layout.specs.Tables.{listing_of}
 use Rattle.gui_layout.specs.Talls.{HoldsNaturalHeights, heights_of, widened_at}
-use Rattle.gui_layout.specs.Views.{box_of, box_or, box_at}
-use Rattle.gui_layout.proofs.Listed.{some_listed, listed_replaced}
+use Rattle.gui_layout.specs.Views.{axis_of, box_of, box_or, box_at}
 use Rattle.gui_layout.proofs.Parts.{here}
-use Rattle.gui_layout.proofs.These.{value-set, within_of}
+use Rattle.gui_layout.proofs.These.{value-set}
 
 -- what a table holds of rows that are made of others
 module _ {A B V : Type 0} (g : A → B) (handle : B → ℕ) (value : B → V) (d : V) (table : List V) where
@@ -65,7 +62,7 @@ module _ (b c : ℕ → Box) (f : Forest ℕ) (same : (h : ℕ) → has f h ≡ 
       (subst (Holds handle width 0 table) rows (Holds-mapped but_height_widened handle width 0 table (with_widths ws (widths_of b f)) holds))
 
 -- Boxes with own heights that are fixed at these widths.
-module _ (box : ℕ → Box) (widths : List ℕ) (boxes : Table LayoutBox) (f : Forest ℕ) (fixed : AreFixed box widths boxes f) where
+module _ (box : ℕ → Box) (widths : List ℕ) (boxes : List (Option LayoutBox)) (f : Forest ℕ) (fixed : AreFixed box widths boxes f) where
   widened-fixed : map_forest (widened_at (box_at boxes) widths) f ≡ map_forest fixed_widened (map_forest (widened_at box widths) f)
   widened-fixed =
       map-agree (widened_at (box_at boxes) widths) (λ h. fixed_widened (widened_at box widths h)) f (λ h there. ap (λ (b : Box). record { box = record b { handle = h }; width = get_or widths h 0 }) (fixed h there))
@@ -100,7 +97,7 @@ module _ (box : ℕ → Box) (widths : List ℕ) (boxes : Table LayoutBox) (f : 
         Holds-made but_height_placed handle slot nowhere table new (subst (Holds handle slot nowhere table) rows (Holds-mapped but_height_placed handle slot nowhere table old holds))
 
 -- One object's own height.
-pub fixed_is : (box : ℕ → Box) (boxes : Table LayoutBox) (h width room n : ℕ) (own : LayoutBox) → box_of h own ≡ box_at boxes h → but_height (box_at boxes h) ≡ but_height (box h) → room ≡ width - (own.left + own.right) → n ≡ (box h).own_height room →
+pub fixed_is : (box : ℕ → Box) (boxes : List (Option LayoutBox)) (h width room n : ℕ) (own : LayoutBox) → box_of h own ≡ box_at boxes h → but_height (box_at boxes h) ≡ but_height (box h) → room ≡ inner (axis_of own.across) width → n ≡ (box h).own_height room →
     record (box_of h own) { own_height = λ _. n } ≡ fixed_at width (box h)
 fixed_is box boxes h width room n own is same is_room is_height =
     let known : but_height (box_of h own) ≡ but_height (box h) = ap but_height is ∙ same in
@@ -109,31 +106,26 @@ fixed_is box boxes h width room n own is same is_room is_height =
 
 module _ (scene : Scene) (widths : List ℕ) where
   -- the box of h is fixed, and nothing else is lost
-  pub record Fixes (old new : Table LayoutBox) (h : ℕ) : Type 0 where
+  pub record Fixes (old new : List (Option LayoutBox)) (h : ℕ) : Type 0 where
     pub fixed : IsFixed (scene_box scene) widths new h
     pub kept : KeepsFixed (scene_box scene) widths old new
     pub boxes : KeepsRenewed scene old new
-    pub listed : listing_of new ≡ listing_of old
 
-  pub fixes_none : (t : Table LayoutBox) (h : ℕ) → IsFixed (scene_box scene) widths t h → Fixes t t h
-  fixes_none t h fixed = record { fixed = fixed; kept = λ k is. is; boxes = λ k is. is; listed = refl }
+  module _ (t : List (Option LayoutBox)) (h : ℕ) (made : LayoutBox) (short : h < length t) (is : box_of h made ≡ fixed_at (get_or widths h 0) (scene_box scene h)) where
+    value : (k : ℕ) → get_or (set t h (Some made)) k None ≡ cond (eqb h k) (Some made) (get_or t k None)
+    value k = value-set t h k (Some made) short
 
-  module _ (t : Table LayoutBox) (h : ℕ) (made : LayoutBox) (some : IsSome (value_at t h)) (is : box_of h made ≡ fixed_at (get_or widths h 0) (scene_box scene h)) where
-    value : (k : ℕ) → value_at (value_replaced t h made) k ≡ cond (eqb h k) (Some made) (value_at t k)
-    value k = value-set t.values h k (Some made) (within_of t h some)
-
-    of_each : (P : (k : ℕ) → Option LayoutBox → Type 0) (k : ℕ) → P h (Some made) → P k (value_at t k) → P k (value_at (value_replaced t h made) k)
+    of_each : (P : (k : ℕ) → Option LayoutBox → Type 0) (k : ℕ) → P h (Some made) → P k (get_or t k None) → P k (get_or (set t h (Some made)) k None)
     of_each P k here other = subst (P k) (sym (value k)) (elim (cases_Bool (eqb h k)) [
       | inl same ↦ rw same (subst (λ m. P m (Some made)) (eqb-true h k same) here)
       | inr differs ↦ rw differs other
     ])
 
-    pub fixes_replaced : Fixes t (value_replaced t h made) h
-    fixes_replaced = record {
+    pub fixes_set : Fixes t (set t h (Some made)) h
+    fixes_set = record {
       fixed = subst (λ (o : Option LayoutBox). box_or h o ≡ fixed_at (get_or widths h 0) (scene_box scene h)) (sym (value h)) (rw (eq-eqb h h refl) is);
       kept = λ k fixed. of_each (λ m o. box_or m o ≡ fixed_at (get_or widths m 0) (scene_box scene m)) k is fixed;
       boxes = λ k was. of_each (λ m o. but_height (box_or m o) ≡ but_height (scene_box scene m)) k (ap but_height is) was;
-      listed = listed_replaced t h made (some_listed t h some);
     }
 
 -- What holds of each object of a tree.

@@ -10,7 +10,7 @@ use Rattle.gui_layout.specs.declared.mark.Mark.TheVariants.{All, Children, Settl
 use Rattle.gui_layout.specs.Listing.{HasThese, times, value_count}
 use Rattle.gui_layout.specs.Pending.{AreMarks, is_all, is_any, is_part, is_partly, is_pending}
 use Rattle.gui_layout.specs.Tables.{listing_of}
-use Rattle.gui_layout.proofs.Joining.{these_joined, vacant_is}
+use Rattle.gui_layout.proofs.Adding.{these_joined, vacant_is}
 use Rattle.gui_layout.proofs.Listed.{listed_replaced, some_listed}
 use Rattle.gui_layout.proofs.These.{these_kept, value-set, within_of}
 

@@ -109,16 +109,9 @@ no_height-by Image look room none = cc
 no_height-by Checkbox look room none = cc
 no_height-by kind look room none = refl
 
-pub no_width : (scene : Scene) (h : ℕ) (row : Row) → Some row ≡ row_at scene h → has_own_size row.kind ≡ false → 0 ≡ (scene_box scene h).own_width
-no_width scene h row e none =
-    no_width-by row.kind (look_of scene (object_with scene h row)) none ∙ ap (λ (b : Box). b.own_width) (row_found scene h row e).1
-
 pub no_height : (scene : Scene) (h : ℕ) (row : Row) (room : ℕ) → Some row ≡ row_at scene h → has_own_size row.kind ≡ false → 0 ≡ (scene_box scene h).own_height room
 no_height scene h row room e none =
     no_height-by row.kind (look_of scene (object_with scene h row)) room none ∙ ap (λ (b : Box). b.own_height room) (row_found scene h row e).1
-
-pub gone_height : (scene : Scene) (h room : ℕ) → None ≡ row_at scene h → 0 ≡ (scene_box scene h).own_height room
-gone_height scene h room e = ap (λ (b : Box). b.own_height room) (none_found scene h e)
 
 -- and what has one is as large as its look says
 pub look-width : (scene : Scene) (h : ℕ) (look : Look) → Some look ≡ option_map (look_of scene) (object_at scene h) → own_width look ≡ (scene_box scene h).own_width

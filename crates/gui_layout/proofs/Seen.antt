@@ -109,14 +109,7 @@ module _ (place : ℕ → Option Rect) where
   none_of clip f h out [] = refl
   none_of clip f h out (r ∷ rs) = passed clip (root_tree f r) (trees_of rs f) h (root_out f r h out) ∙ none_of clip f h out rs
 
-  -- the clip of a root among these
-  clip_of : Option Rect → List ℕ → Object → Option Rect
-  clip_of clip rs a = if among rs a.handle then clip else None
-
   module _ (clip : Option Rect) (a : Object) (cs rest : Forest Object) (h : ℕ) (distinct : IsDistinct handle_of (Tree a cs rest)) where
-    here_or_below : Bool
-    here_or_below = is_at h a || there cs h
-
     -- h in the first tree
     first_tree : there rest h ≡ false → (is_at h a || there cs h) ≡ true → (rs : List ℕ) →
         visible_in place clip (trees_of rs (Tree a cs rest)) h ≡ visible_in place (if among rs a.handle then clip else None) (Tree a cs Empty) h

@@ -1,16 +1,14 @@
 -- A tree that is settled anew below a parent that stays as it is.
-use Rattle.std.proofs.Common.{◌≡◌, ◌∙◌, refl, sym, ap, subst, ℕ, Bool, true, false, max, eqb, eq-eqb, ◌||◌, ◌⊎◌, List, [], ◌∷◌, map, Option, Some, None, inl, inr}
+use Rattle.std.proofs.Common.{◌≡◌, ◌∙◌, refl, sym, ap, subst, ℕ, Bool, true, false, max, eqb, eq-eqb, ◌||◌, ◌⊎◌, List, [], ◌∷◌, map, Option, Some, inl, inr}
 use Rattle.std.proofs.lemmas.Bool.{cases_Bool, eqb-true, or_cases, or_left, or_right, or_parts, both_ways, false_from_ne_true, false≢true}
-use Rattle.gui_base.specs.Forest.{Forest, Empty, Tree, has, roots, map_forest, tree_at, parent_by}
-use Rattle.gui_base.proofs.Forests.{map-agree}
+use Rattle.gui_base.specs.Forest.{Forest, Empty, Tree, has, tree_at, parent_by}
 use Rattle.gui_base.specs.declared.words.Length.{Length}
 use Rattle.gui_base.specs.declared.words.Length.TheVariants.{Pixels, Percent, Content}
 use Rattle.layout_defs.specs.declared.Course.TheVariants.{Free}
 use Rattle.layout_defs.specs.Boxes.{Box, course_of, inner, inset, is_reversed}
 use Rattle.layout_defs.specs.Solving.{Wide, Tall, Slot, tall_box, width_in, own_slot, dealt, natural_size, natural_width, natural_height, kid_widths, kid_widths_by, kid_slots, kids_width, kids_height, room_of, flow_slots, ordered_slots, in_order, taking_part, wide_box}
-use Rattle.gui_layout.specs.Settled.{Known, wide_of, tall_of, width_of, slot_of, Fits, AllFit, StandsFree, IsSteady, is_content}
+use Rattle.gui_layout.specs.Settled.{Known, wide_of, tall_of, width_of, slot_of, Fits, StandsFree, IsSteady, is_content}
 pub use Rattle.gui_layout.specs.Marked.{is_root}
-use Rattle.gui_layout.proofs.Finds.{elsewhere}
 use Rattle.gui_layout.proofs.Lists.{dealt-none}
 use Rattle.gui_layout.proofs.Parts.{IsDistinct}
 
@@ -222,93 +220,3 @@ free-stand p (k ∷ ks) all = ap (λ n. n ∷ map slot_of ks) all.0.stands ∙ a
 pub fits-free : (p : Known) (ks : List Known) → IsSteady p.box → Fits p ks → AllFree p ks
 fits-free p ks steady fits =
     all-free p ks (fits.widths ∙ free-widths p.box p.width (map wide_of ks) steady.free) (fits.slots ∙ free-slots (tall_of p) p.slot (map tall_of ks) steady.free)
-
--- it still fits where other children stand by themselves
-pub free-fits : (p : Known) (some others : List Known) → IsSteady p.box → Fits p some → AllFree p others → Fits p others
-free-fits p some others steady fits all = record {
-  natural_width = fits.natural_width ∙ width-steady p.box (map wide_of some) (map wide_of others) steady.wide;
-  widths = free-wide p others all ∙ sym (free-widths p.box p.width (map wide_of others) steady.free);
-  natural_height = fits.natural_height ∙ height-steady p.box p.width (map tall_of some) (map tall_of others) steady.high;
-  slots = free-stand p others all ∙ sym (free-slots (tall_of p) p.slot (map tall_of others) steady.free);
-}
-
--- What is known of the objects of a forest, before and after the tree of u is settled anew.
-module _ (old new : ℕ → Known) where
-  -- nothing else is known of an object
-  abbrev Same : ℕ → Type 0
-  Same k = new k ≡ old k
-
-  kept : (f : Forest ℕ) → ((k : ℕ) → has f k ≡ true → Same k) → AllFit (map_forest old f) → AllFit (map_forest new f)
-  kept f same fit = subst AllFit (sym (map-agree new old f same)) fit
-
-  -- roots of which the same is known
-  roots-kept : (f : Forest ℕ) → ((k : ℕ) → is_root k f ≡ true → Same k) → roots (map_forest new f) ≡ roots (map_forest old f)
-  roots-kept Empty same = refl
-  roots-kept (Tree h cs rest) same =
-      ap (λ (k : Known). k ∷ roots (map_forest new rest)) (same h (or_left (eqb h h) (is_root h rest) (eq-eqb h h refl)))
-      ∙ ap (λ ks. old h ∷ ks) (roots-kept rest (λ k i. same k (or_right (eqb h k) (is_root k rest) i)))
-
-  fits-kept : (h : ℕ) (cs : Forest ℕ) → Same h → roots (map_forest new cs) ≡ roots (map_forest old cs) → Fits (old h) (roots (map_forest old cs)) → Fits (new h) (roots (map_forest new cs))
-  fits-kept h cs same kids fits = subst (λ (k : Known). Fits k (roots (map_forest new cs))) (sym same) (subst (Fits (old h)) (sym kids) fits)
-
-  module _ (u : ℕ) where
-    free-kept : (p : Known) (f : Forest ℕ) → ((k : ℕ) → is_root k f ≡ true → eqb k u ≡ false → Same k) → StandsFree p (new u) → AllFree p (roots (map_forest old f)) → AllFree p (roots (map_forest new f))
-    free-kept p Empty same stands all = tt
-    free-kept p (Tree h cs rest) same stands all = (
-      elim (cases_Bool (eqb h u)) [
-        | inl is ↦ subst (λ k. StandsFree p (new k)) (sym (eqb-true h u is)) stands
-        | inr other ↦ subst (λ (k : Known). StandsFree p k) (sym (same h (or_left (eqb h h) (is_root h rest) (eq-eqb h h refl)) other)) all.0
-      ],
-      free-kept p rest (λ k i. same k (or_right (eqb h k) (is_root k rest) i)) stands all.1,
-    )
-
-    -- the parent of u, if it has one, is steady, and u stands by itself in it
-    abbrev pub Lets : Option ℕ → Type 0
-    Lets None = Unit {0}
-    Lets (Some p) = IsSteady (old p).box × StandsFree (old p) (new u)
-
-    parent-fits : (h : ℕ) (cs : Forest ℕ) → Same h → ((k : ℕ) → is_root k cs ≡ true → eqb k u ≡ false → Same k) → Lets (Some h) → Fits (old h) (roots (map_forest old cs)) → Fits (new h) (roots (map_forest new cs))
-    parent-fits h cs own same lets fits =
-        let free = fits-free (old h) (roots (map_forest old cs)) lets.0 fits in
-        subst (λ (k : Known). Fits k (roots (map_forest new cs))) (sym own)
-        (free-fits (old h) (roots (map_forest old cs)) (roots (map_forest new cs)) lets.0 fits (free-kept (old h) cs same lets.1 free))
-
-    -- Where u's tree fits anew, and nothing else changes, all fit.
-    pub all-fit : (above : Option ℕ) (f : Forest ℕ) → IsDistinct f → has f u ≡ true → ((k : ℕ) → has (tree_at f u) k ≡ false → Same k) → Lets (parent_by (is_at u) above f) → AllFit (map_forest old f) → AllFit (map_forest new (tree_at f u)) → AllFit (map_forest new f)
-    all-fit above Empty distinct there same lets fit anew = tt
-    all-fit above (Tree h cs rest) distinct there same lets fit anew = elim (cases_Bool (eqb h u)) [
-      | inl is ↦
-          let tree : tree_at (Tree h cs rest) u ≡ Tree h cs Empty = rw is refl in
-          let now : AllFit (map_forest new (Tree h cs Empty)) = subst (λ t. AllFit (map_forest new t)) tree anew in
-          (now.0, now.1, kept rest (λ k i. same k (subst (λ t. has t k ≡ false) (sym tree) (later k i))) fit.2)
-      | inr isnt ↦ elim (cases_Bool (has cs u)) [
-        | inl below ↦
-            let tree : tree_at (Tree h cs rest) u ≡ tree_at cs u = rw (isnt, below) refl in
-            let same_below : (k : ℕ) → has (tree_at cs u) k ≡ false → Same k = λ k out. same k (subst (λ t. has t k ≡ false) (sym tree) out) in
-            let own = same_below h (false_from_ne_true (has (tree_at cs u) h) (λ i. both_ways (has cs h) distinct.1 (tree-in u h cs i))) in
-            let lets_below : Lets (parent_by (is_at u) (Some h) cs) = subst Lets (rw (isnt, below) refl) lets in (
-              elim (cases_Bool (is_root u cs)) [
-                | inl root ↦ parent-fits h cs own (λ k i other. same_below k (root-out u k cs distinct.3 i other)) (subst Lets (parent-root u (Some h) cs distinct.3 root) lets_below) fit.0
-                | inr deep ↦ fits-kept h cs own (roots-kept cs (λ k i. same_below k (root-out u k cs distinct.3 i (other_root k i deep)))) fit.0
-              ],
-              all-fit (Some h) cs distinct.3 below same_below lets_below fit.1 (subst (λ t. AllFit (map_forest new t)) tree anew),
-              kept rest (λ k i. same_below k (false_from_ne_true (has (tree_at cs u) k) (λ j. both_ways (has rest k) (distinct.0 k (tree-in u k cs j)) i))) fit.2,
-            )
-        | inr out ↦
-            let tree : tree_at (Tree h cs rest) u ≡ tree_at rest u = rw (isnt, out) refl in
-            let same_beside : (k : ℕ) → has (tree_at rest u) k ≡ false → Same k = λ k o. same k (subst (λ t. has t k ≡ false) (sym tree) o) in
-            let in_cs : (k : ℕ) → has cs k ≡ true → Same k = λ k i. same_beside k (false_from_ne_true (has (tree_at rest u) k) (λ j. both_ways (has rest k) (distinct.0 k i) (tree-in u k rest j))) in
-            let own = same_beside h (false_from_ne_true (has (tree_at rest u) h) (λ i. both_ways (has rest h) distinct.2 (tree-in u h rest i))) in
-            let lets_beside : Lets (parent_by (is_at u) above rest) = subst Lets (rw (isnt, out) refl) lets in (
-              fits-kept h cs own (roots-kept cs (λ k i. in_cs k (root-has k cs i))) fit.0,
-              kept cs in_cs fit.1,
-              all-fit above rest distinct.4 (rw (isnt, out) at there) same_beside lets_beside fit.2 (subst (λ t. AllFit (map_forest new t)) tree anew),
-            )
-      ]
-    ]
-      where
-        later : (k : ℕ) → has rest k ≡ true → has (Tree h cs Empty) k ≡ false
-        later k i = false_from_ne_true (has (Tree h cs Empty) k) (λ j. elsewhere h cs rest distinct k j i)
-
-        other_root : (k : ℕ) → is_root k cs ≡ true → is_root u cs ≡ false → eqb k u ≡ false
-        other_root k i deep = false_from_ne_true (eqb k u) (λ e. both_ways (is_root u cs) deep (subst (λ m. is_root m cs ≡ true) (eqb-true k u e) i))

@@ -1,10 +1,9 @@
 -- Marks that are settled one after another.
-use Rattle.std.proofs.Common.{◌≡◌, ◌∙◌, refl, sym, ap, subst, ℕ, Bool, true, false, eqb, ◌||◌, get_or, Option, Some, None, inl, inr}
+use Rattle.std.proofs.Common.{◌≡◌, ◌∙◌, refl, sym, ap, subst, ℕ, Bool, true, false, eqb, ◌||◌, get_or, List, Option, Some, None, inl, inr}
 use Rattle.std.specs.Prelude.{slice_index_or}
 use Rattle.std.proofs.lemmas.Bool.{cases_Bool, eqb-true, or_cases, or_left, or_right, or_parts, both_ways, false_from_ne_true, false≢true}
 use Rattle.gui_base.specs.Forest.{Forest, Empty, Tree, StandsOnce, has, has_by, parent_of, tree_at}
 use Rattle.gui_base.specs.Limits.{Bounds}
-use Rattle.gui_pool.specs.Table.{Table}
 use Rattle.layout_defs.specs.Solving.{Room, nowhere, own_slot, room_of, width_in}
 use Rattle.scene_defs.specs.Scene.{Scene, handles_of}
 use Rattle.gui_layout.specs.declared.frame.Frame.{Frame}
@@ -24,7 +23,7 @@ use Rattle.gui_layout.proofs.Marking.{Stays, fill-step, step}
 use Rattle.gui_layout.proofs.OwnHeights.{tree_first}
 use Rattle.gui_layout.proofs.Parts.{distinct_once}
 use Rattle.gui_layout.proofs.Renewals.{room-same, steady-same}
-use Rattle.gui_layout.proofs.Settling.{Lets, parent-root, root-out, tree-in}
+use Rattle.gui_layout.proofs.Settling.{parent-root, root-out, tree-in}
 use Rattle.gui_layout.proofs.Solves.{rest_same}
 
 -- A mark lies in a marked tree, and so does all that lies in a tree with it.
@@ -111,7 +110,7 @@ marked-fewer m n k (Tree t cs rest) fewer is = elim (cases_Bool (n t || has_by n
 ]
 
 -- A tree that stands in a frame.
-module _ (scene : Scene) (boxes : Table LayoutBox) (l m : Layout) (u : ℕ) (limits : Bounds) where
+module _ (scene : Scene) (boxes : List (Option LayoutBox)) (l m : Layout) (u : ℕ) (limits : Bounds) where
   abbrev old : ℕ → Known
   old = known_at (scene_box scene) l
 
@@ -141,10 +140,6 @@ module _ (scene : Scene) (boxes : Table LayoutBox) (l m : Layout) (u : ℕ) (lim
   root-fills frame (Some q) stands is = tt
 
 -- One tree that is solved settles the marks in it.
-lets-by : (old new : ℕ → Known) (u : ℕ) (up : Option ℕ) → LetsStand old new u up → Lets old new u up
-lets-by old new u None lets = tt
-lets-by old new u (Some p) lets = lets
-
 fills-by : (limits : Bounds) (k : Known) (up : Option ℕ) → up ≡ None → FillsRoot limits k up → FillsPanel limits.width limits.height k
 fills-by limits k None none fills = fills
 fills-by limits k (Some p) none fills = cc
@@ -160,7 +155,6 @@ module _ (scene : Scene) where
     fill = λ s all. all;
     others = λ k there out. refl;
     boxes = λ k is. is;
-    listed_boxes = refl;
     listed = refl;
     limits = refl;
   }
@@ -174,7 +168,6 @@ module _ (scene : Scene) where
         let still : has (marked_trees n f) k ≡ false = false_from_ne_true (has (marked_trees n f) k) (λ i. both_ways (has (marked_trees m f) k) out (marked-fewer m n k f first.fewer i)) in
         later.others k there still ∙ first.others k there out;
     boxes = λ k is. later.boxes k (first.boxes k is);
-    listed_boxes = later.listed_boxes ∙ first.listed_boxes;
     listed = later.listed ∙ first.listed;
     limits = later.limits ∙ first.limits;
   }
@@ -188,7 +181,7 @@ module _ (scene : Scene) where
         fewer = λ k is. elim (cases_Bool (has (tree_at f u) k)) [ inl i ↦ absurd (both_ways (n k) (gone k i) is) | inr out ↦ sym (left k out) ∙ is ];
         fit = λ s all.
             step s (known_in a scene) (known_in b scene) m n u None f distinct tree.there stays
-            (lets-by (known_in a scene) (known_in b scene) u (parent_of f u) tree.lets) all tree.fit;
+            tree.lets all tree.fit;
         fill = λ s all.
             fill-step s (known_in a scene) (known_in b scene) m n u scene.limits.width scene.limits.height f
             (λ k i other. stays k (root-out u k f distinct i other))
@@ -197,7 +190,6 @@ module _ (scene : Scene) where
             let gone_out : has (tree_at f u) k ≡ false = false_from_ne_true (has (tree_at f u) k) (λ i. both_ways (has (marked_trees m f) k) out (mark-inside m h u k f marked (tree.encloses h own) i)) in
             rest_same (scene_box scene) (layout_of a) (layout_of b) (tree_at f u) k tree.keeps gone_out;
         boxes = tree.boxes;
-        listed_boxes = tree.listed_boxes;
         listed = tree.listed;
         limits = tree.limits;
       }

@@ -28,6 +28,15 @@ module _ {T : Type 0} where
     removed-count : IsSome (value_at t h) → value_count (value_removed t h) k + cond (eqb h k) 1 0 ≡ value_count t k
     removed-count some = grind (arith, nat_tests, value-set t.values h k None (within_of t h some), some)
 
+  pub count-some : (t : Table T) (k : ℕ) → 0 < value_count t k → IsSome (value_at t k)
+  count-some t k more = by (value_at t k) more where
+    by : (o : Option T) → 0 < cond (is_some o) 1 0 → IsSome o
+    by None none = absurd (omega arith)
+    by (Some v) one = refl
+
+  pub some-count : (t : Table T) (k : ℕ) → IsSome (value_at t k) → 0 < value_count t k
+  some-count t k some = rw some (omega arith)
+
   first_some : (objects : ℕ) (t : Table T) (h : Handle) (hs : List Handle) → HasThese objects t (h ∷ hs) → IsSome (value_at t h.0)
   first_some objects t h hs these = grind (arith, nat_tests, these.each h.0)
 

@@ -5,16 +5,13 @@ pub mod Own
 pub mod Painted
 pub mod Reaches
 pub mod Slots
-pub mod Columns
 pub mod Talls
 pub mod Tables
 pub mod Listing
 pub mod Walks
 pub mod Scenes
 pub mod OwnHeights
-pub mod Kept
 pub mod Kids
-pub mod Moved
 pub mod Solved
 pub mod Naturals
 pub mod Settled
@@ -25,7 +22,7 @@ pub mod Marked
 pub mod Pending
 pub mod Raised
 pub mod Settles
+pub mod Tops
 pub mod SettledBut
 pub mod Marks
-pub mod Same
 pub mod Gone

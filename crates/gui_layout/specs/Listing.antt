@@ -41,3 +41,7 @@ pub record KeepsThose {T : Type 0} (f : Forest ℕ) (hs : List Handle) (old new 
 pub record AddsValue {T : Type 0} (h : ℕ) (old new : Table T) : Type 0 where
   pub own : IsSome (value_at new h)
   pub same : (k : ℕ) → eqb k h ≡ false → value_at new k ≡ value_at old k
+
+-- the value for k is the same
+abbrev pub SameValue : {T : Type 0} → ℕ → Table T → Table T → Type 0
+SameValue k old new = value_at new k ≡ value_at old k

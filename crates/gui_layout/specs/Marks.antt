@@ -1,5 +1,6 @@
--- What marks show: which handles are marked and how far, how many, and how many may be.
-use Rattle.std.specs.Prelude.{ℕ, Bool, length}
+-- What marks show: which handles are marked and how far, how many, and how many may be, and what was solved.
+use Rattle.std.specs.Prelude.{ℕ, Bool, List, length}
+use Rattle.gui_base.specs.declared.Handle.{Handle}
 use Rattle.gui_pool.specs.Table.{value_at}
 use Rattle.gui_layout.specs.Pending.{is_any, is_partly, is_pending}
 use Rattle.gui_layout.specs.declared.marks.Marks.{Marks}
@@ -21,3 +22,7 @@ mark_count marks = length marks.listed.items
 
 abbrev pub most_marks : Marks → ℕ
 most_marks marks = marks.objects
+
+-- the objects at the top of the trees that were solved last
+abbrev pub solved_in : Marks → List Handle
+solved_in marks = marks.solved.items

@@ -1,5 +1,5 @@
 -- The natural sizes of objects: those of the definition, and those that are kept beside places.
-use Rattle.std.specs.Prelude.{◌==◌, ℕ, Bool, option_map, slice_index}
+use Rattle.std.specs.Prelude.{◌==◌, ℕ, Bool, option_map}
 use Rattle.std.specs.Prelude.{Some, None}
 use Rattle.std.specs.declared.option.Option.{Option}
 use Rattle.gui_base.specs.Forest.{Forest}
@@ -10,10 +10,7 @@ use Rattle.layout_defs.specs.Solving.{Wide, Placed, solved, with_natural_widths}
 use Rattle.scene_defs.specs.Place.{boxes_of}
 use Rattle.scene_defs.specs.Scene.{Scene}
 use Rattle.gui_layout.specs.declared.places.Places.{Places}
-use Rattle.gui_layout.specs.declared.position.Position.{Position}
-use Rattle.gui_layout.specs.Kept.{Entries}
-use Rattle.gui_layout.specs.Solved.{entries_of}
-use Rattle.gui_layout.specs.Tables.{sizes_of}
+use Rattle.gui_layout.specs.declared.entry.Entry.{Entry}
 
 -- how wide and how high an object is by nature
 pub record Sizes : Type 0 where
@@ -40,13 +37,10 @@ naturals_among width height boxes h =
 unfoldable pub naturals : Scene → ℕ → Option Sizes
 naturals scene h = naturals_among scene.limits.width scene.limits.height (boxes_of scene) h
 
--- those of h by these entries, if it has a place
-abbrev pub naturals_in : Entries → ℕ → Option Sizes
-naturals_in e h =
-    option_map (λ (q : Position). record {
-      width = slice_index (sizes_of e.natural_widths) h;
-      height = slice_index (sizes_of e.natural_heights) h;
-    }) (value_at e.positions h)
+-- those of an object by its entry
+abbrev pub naturals_in : Entry → Sizes
+naturals_in e = record { width = e.natural_width.pixels; height = e.natural_height.pixels }
 
+-- those of h, if it has a place
 abbrev pub naturals_at : Places → ℕ → Option Sizes
-naturals_at p h = naturals_in (entries_of p) h
+naturals_at p h = option_map naturals_in (value_at p.entries h)

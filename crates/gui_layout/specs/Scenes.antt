@@ -1,7 +1,6 @@
 -- What layout sees of the objects of a scene by handle, and what is shown of them.
-use Rattle.std.specs.Prelude.{◌≡◌, ℕ, Bool, ◌==◌, ◌||◌, if◌then◌else◌, Option, Some, None, IsSome}
+use Rattle.std.specs.Prelude.{◌≡◌, ℕ, Bool, ◌==◌, ◌||◌, if◌then◌else◌, List, Option, Some, None, IsSome, slice_index_or}
 use Rattle.gui_base.specs.Area.{Rect}
-use Rattle.gui_pool.specs.Table.{Table, value_at}
 use Rattle.layout_defs.specs.Boxes.{Box}
 use Rattle.layout_defs.specs.OwnHeights.{but_height}
 use Rattle.scene_defs.specs.Edits.{text_at}
@@ -23,10 +22,10 @@ box_or_none scene h (Some object) = box_of scene object
 abbrev pub scene_box : Scene → ℕ → Box
 scene_box scene h = box_or_none scene h (object_at scene h)
 
--- a table has the box of each object that it has a value for, but for its own height
-abbrev pub HoldsBoxes : Table LayoutBox → Scene → Type 0
+-- the boxes that are there are those of the objects, but for their own heights
+abbrev pub HoldsBoxes : List (Option LayoutBox) → Scene → Type 0
 HoldsBoxes boxes scene =
-    (h : ℕ) → IsSome (value_at boxes h) → but_height (box_at boxes h) ≡ but_height (scene_box scene h)
+    (h : ℕ) → IsSome (slice_index_or boxes h None) → but_height (box_at boxes h) ≡ but_height (scene_box scene h)
 
 -- the panel, where h is the active screen or a layer
 abbrev pub is_shown : Scene → ℕ → Bool

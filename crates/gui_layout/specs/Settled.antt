@@ -1,6 +1,6 @@
 -- Places object by object: what is known of an object fits what is known of its children.
 use Rattle.std.specs.Prelude.{◌≡◌, ℕ, Bool, true, false, not, ◌&&◌, List, [], ◌∷◌, map}
-use Rattle.std.specs.Prelude.{slice_index, slice_index_or, pos}
+use Rattle.std.specs.Prelude.{slice_index, slice_index_or, pos, Option}
 use Rattle.gui_base.specs.Forest.{Forest, Empty, Tree, roots, map_forest}
 use Rattle.gui_base.specs.declared.words.Length.{Length}
 use Rattle.gui_base.specs.declared.words.Length.TheVariants.{Pixels, Percent, Content}
@@ -9,6 +9,7 @@ use Rattle.layout_defs.specs.declared.Course.TheVariants.{Free, Across, Down}
 use Rattle.layout_defs.specs.Boxes.{Box, course_of, inner}
 use Rattle.layout_defs.specs.Solving.{Wide, Tall, Slot, nowhere, width_in, own_slot, room_of}
 use Rattle.layout_defs.specs.Solving.{natural_width, kid_widths, natural_height, kid_slots}
+use Rattle.gui_layout.specs.declared.layout_box.LayoutBox.{LayoutBox}
 
 -- what is known of an object
 pub record Known : Type 0 where
@@ -44,6 +45,7 @@ AllFit (Tree k cs rest) = Fits k (roots cs) × AllFit cs × AllFit rest
 
 -- what is found by handle
 pub record Layout : Type 0 where
+  pub boxes : List (Option LayoutBox)
   pub natural_widths : List ℕ
   pub widths : List ℕ
   pub natural_heights : List ℕ

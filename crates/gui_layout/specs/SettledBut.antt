@@ -11,25 +11,25 @@ use Rattle.gui_layout.specs.Renewed.{IsRenewed}
 use Rattle.gui_layout.specs.Scenes.{scene_box}
 use Rattle.gui_layout.specs.Settled.{FillsPanel, Fits}
 use Rattle.gui_layout.specs.Settles.{known_in}
-use Rattle.gui_layout.specs.Solved.{AreSettled, place_at}
+use Rattle.gui_layout.specs.Solved.{AreSettled, layout_of, place_at}
 use Rattle.scene_defs.specs.Place.{place}
 
 -- the objects that are looked at are right but for those that have changed, told by m: they have places, and
 -- their boxes, their sizes and their slots are right
 pub record AreRightButChanged (p : Places) (scene : Scene) (s m : ℕ → Bool) : Type 0 where
   pub boxes : (k : ℕ) → has (handles_of scene.trees) k ≡ true → s k ≡ true → m k ≡ false →
-      IsRenewed scene p.boxes k
+      IsRenewed scene (layout_of p).boxes k
   pub placed : (k : ℕ) → has (handles_of scene.trees) k ≡ true → s k ≡ true → m k ≡ false →
-      is_some (value_at p.positions k) ≡ true
+      is_some (value_at p.entries k) ≡ true
   pub fit : AllFitBut s m (known_in p scene) (handles_of scene.trees)
   pub fill : AllFillBut s m scene.limits.width scene.limits.height (known_in p scene) (handles_of scene.trees)
 
 -- so it is but for those, and for the lists of children of others, told by c
 pub record AreRightBut (p : Places) (scene : Scene) (s m c : ℕ → Bool) : Type 0 where
   pub boxes : (k : ℕ) → has (handles_of scene.trees) k ≡ true → s k ≡ true → m k ≡ false →
-      IsRenewed scene p.boxes k
+      IsRenewed scene (layout_of p).boxes k
   pub placed : (k : ℕ) → has (handles_of scene.trees) k ≡ true → s k ≡ true → m k ≡ false →
-      is_some (value_at p.positions k) ≡ true
+      is_some (value_at p.entries k) ≡ true
   pub fit : AllFitButBoth s m c (known_in p scene) (handles_of scene.trees)
   pub fill : AllFillBut s m scene.limits.width scene.limits.height (known_in p scene) (handles_of scene.trees)
 
@@ -47,11 +47,11 @@ nobody k = false
 -- all of them are, and of those that have not changed none has a place that is not there
 pub record AreSettledButChanged (p : Places) (scene : Scene) (m : ℕ → Bool) : Type 0 where
   pub right : AreRightButChanged p scene anyone m
-  pub there : (k : ℕ) → m k ≡ false → is_some (value_at p.positions k) ≡ has (handles_of scene.trees) k
+  pub there : (k : ℕ) → m k ≡ false → is_some (value_at p.entries k) ≡ has (handles_of scene.trees) k
 
 pub record AreSettledButMarks (p : Places) (scene : Scene) (m c : ℕ → Bool) : Type 0 where
   pub right : AreRightBut p scene anyone m c
-  pub there : (k : ℕ) → m k ≡ false → is_some (value_at p.positions k) ≡ has (handles_of scene.trees) k
+  pub there : (k : ℕ) → m k ≡ false → is_some (value_at p.entries k) ≡ has (handles_of scene.trees) k
 
 -- An object has the same children as before. Where its children alone may be others, each of them that has not
 -- changed was one before.
@@ -63,8 +63,8 @@ HasKids true m new old = (k : ℕ) → is_root k new ≡ true → m k ≡ false 
 pub record WasSolved (p : Places) (before scene : Scene) (m c : ℕ → Bool) (k : ℕ) : Type 0 where
   pub box : scene_box scene k ≡ scene_box before k
   pub kids : HasKids (c k) m (children_of (handles_of scene.trees) k) (children_of (handles_of before.trees) k)
-  pub known : IsRenewed before p.boxes k
-  pub placed : is_some (value_at p.positions k) ≡ true
+  pub known : IsRenewed before (layout_of p).boxes k
+  pub placed : is_some (value_at p.entries k) ≡ true
   pub fits : Fits (known_in p before k)
       (map (known_in p before) (roots (children_of (handles_of before.trees) k)))
   pub fills : parent_of (handles_of scene.trees) k ≡ None →

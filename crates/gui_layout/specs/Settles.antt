@@ -36,9 +36,8 @@ pub record SolvesTree (old new : Places) (scene : Scene) (h u : ℕ) : Type 0 wh
   pub keeps : KeepsRest (layout_of old) (layout_of new) (tree_at (handles_of scene.trees) u)
   pub lets : LetsStand (known_in old scene) (known_in new scene) u (parent_of (handles_of scene.trees) u)
   pub fills : FillsRoot scene.limits (known_in new scene u) (parent_of (handles_of scene.trees) u)
-  pub boxes : KeepsRenewed scene old.boxes new.boxes
-  pub listed_boxes : listing_of new.boxes ≡ listing_of old.boxes
-  pub listed : listing_of new.positions ≡ listing_of old.positions
+  pub boxes : KeepsRenewed scene (layout_of old).boxes (layout_of new).boxes
+  pub listed : listing_of new.entries ≡ listing_of old.entries
   pub limits : limits_of new ≡ limits_of old
 
 -- Some marks are settled, and the others are left: what was right but for the marks is right but for those
@@ -52,7 +51,6 @@ pub record Settles (old new : Places) (scene : Scene) (was is : ℕ → Bool) : 
       AllFillBut s is scene.limits.width scene.limits.height (known_in new scene) (handles_of scene.trees)
   pub others : (k : ℕ) → has (handles_of scene.trees) k ≡ true →
       has (marked_trees was (handles_of scene.trees)) k ≡ false → known_in new scene k ≡ known_in old scene k
-  pub boxes : KeepsRenewed scene old.boxes new.boxes
-  pub listed_boxes : listing_of new.boxes ≡ listing_of old.boxes
-  pub listed : listing_of new.positions ≡ listing_of old.positions
+  pub boxes : KeepsRenewed scene (layout_of old).boxes (layout_of new).boxes
+  pub listed : listing_of new.entries ≡ listing_of old.entries
   pub limits : limits_of new ≡ limits_of old

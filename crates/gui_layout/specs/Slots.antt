@@ -1,9 +1,7 @@
 -- Slots of children, from the tables and from items.
 use Rattle.std.specs.Prelude.{◌≡◌, ℕ, ◌*◌, ℤ, pos, ◌≤ℤ◌, ◌+ℤ◌, ◌-ℤ◌, List, [], map, slice_index}
 use Rattle.std.specs.Prelude.{slice_index_or}
-use Rattle.std.specs.Prelude.{Option, Some, None}
 use Rattle.std.specs.List.{All}
-use Rattle.gui_pool.specs.Table.{Table}
 use Rattle.gui_base.specs.Forest.{Forest, roots, map_forest}
 use Rattle.layout_defs.specs.declared.Course.{Course}
 use Rattle.layout_defs.specs.declared.Course.TheVariants.{Free, Across, Down}
@@ -49,14 +47,6 @@ abbrev pub item_slot : Course → Room → FlexItem → Slot
 item_slot Free room item = row_slot room (item_of item) (spot_of item)
 item_slot Across room item = row_slot room (item_of item) (spot_of item)
 item_slot Down room item = column_slot room (item_of item) (spot_of item)
-
-abbrev pub slot_or : Option Position → Slot
-slot_or None = nowhere
-slot_or (Some position) = slot_of position
-
--- the slot of each handle, nowhere where it has none
-abbrev pub slots_of : Table Position → List Slot
-slots_of places = map slot_or places.values
 
 -- the slots of items that are in the order of their flow, each with its size in a content area
 abbrev pub arranged : Course → Box → Room → List Item → List Slot

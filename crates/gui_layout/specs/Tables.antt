@@ -1,17 +1,58 @@
--- What tables by handle hold.
+-- What the table of entries holds.
 use Rattle.std.specs.Prelude.{◌≡◌, ℕ, Bool, true, false, List, map, Option, Some, None, is_some}
-use Rattle.std.specs.Prelude.{slice_index_or}
+use Rattle.std.specs.Prelude.{slice_index, slice_index_or}
+use Rattle.gui_base.specs.Area.{Rect, area_at}
 use Rattle.gui_base.specs.Forest.{Forest, has}
 use Rattle.gui_pool.specs.Table.{Table}
-use Rattle.gui_layout.specs.declared.size.Size.{Size}
+use Rattle.layout_defs.specs.Solving.{Slot, nowhere}
+use Rattle.gui_layout.specs.declared.entry.Entry.{Entry}
+use Rattle.gui_layout.specs.declared.layout_box.LayoutBox.{LayoutBox}
+use Rattle.gui_layout.specs.Settled.{Layout}
+use Rattle.gui_layout.specs.Slots.{slot_of, slot_at}
+use Rattle.gui_layout.specs.Views.{box_of, box_at}
 
-abbrev pub pixels_of : Option Size → ℕ
-pixels_of None = 0
-pixels_of (Some size) = size.pixels
+-- what an entry tells, and what is told where there is none
+abbrev pub wanted_or : Option Entry → Option LayoutBox
+wanted_or None = None
+wanted_or (Some e) = Some e.wanted
 
--- the size of each handle, 0 where it has none
-abbrev pub sizes_of : Table Size → List ℕ
-sizes_of t = map pixels_of t.values
+abbrev pub natural_width_or : Option Entry → ℕ
+natural_width_or None = 0
+natural_width_or (Some e) = e.natural_width.pixels
+
+abbrev pub width_or : Option Entry → ℕ
+width_or None = 0
+width_or (Some e) = e.width.pixels
+
+abbrev pub natural_height_or : Option Entry → ℕ
+natural_height_or None = 0
+natural_height_or (Some e) = e.natural_height.pixels
+
+abbrev pub slot_or : Option Entry → Slot
+slot_or None = nowhere
+slot_or (Some e) = slot_of e.position
+
+-- what the entries tell of each handle
+abbrev pub told : Table Entry → Layout
+told t = record {
+  boxes = map wanted_or t.values;
+  natural_widths = map natural_width_or t.values;
+  widths = map width_or t.values;
+  natural_heights = map natural_height_or t.values;
+  slots = map slot_or t.values;
+}
+
+-- an entry is that of h
+pub record IsEntry (l : Layout) (h : ℕ) (e : Entry) : Type 0 where
+  pub wanted : box_of h e.wanted ≡ box_at l.boxes h
+  pub natural_width : e.natural_width.pixels ≡ slice_index l.natural_widths h
+  pub width : e.width.pixels ≡ slice_index l.widths h
+  pub natural_height : e.natural_height.pixels ≡ slice_index l.natural_heights h
+  pub slot : slot_of e.position ≡ slot_at l.slots h
+
+-- the area of an object by its entry
+abbrev pub area_in : Entry → Rect
+area_in e = area_at e.position.x e.position.y e.width.pixels e.position.height
 
 -- whether each handle has a value, and how many more values fit
 pub record Listing : Type 0 where

@@ -1,41 +1,31 @@
 -- What the definitions see of boxes by handle.
-use Rattle.std.specs.Prelude.{ℕ, false, pos, Some, None}
+use Rattle.std.specs.Prelude.{ℕ, false, pos, List, Some, None, slice_index_or}
 use Rattle.std.specs.declared.option.Option.{Option}
 use Rattle.gui_base.specs.declared.words.Placing.TheVariants.{Start}
 use Rattle.gui_base.specs.declared.words.Length.TheVariants.{Pixels}
 use Rattle.layout_defs.specs.declared.Side.TheVariants.{Near}
 use Rattle.gui_base.specs.declared.words.Flow.TheVariants.{Free as NoFlow}
-use Rattle.layout_defs.specs.Boxes.{Axis, Box, side_across, side_down}
+use Rattle.layout_defs.specs.Boxes.{Axis, Box}
 use Rattle.gui_flex.specs.Items.{placings_of}
-use Rattle.gui_pool.specs.Table.{Table, value_at}
+use Rattle.gui_layout.specs.declared.axis.Axis.{Axis as WantedAxis}
 use Rattle.gui_layout.specs.declared.layout_box.LayoutBox.{LayoutBox}
 
-abbrev pub across_of : LayoutBox → Axis
-across_of b = record {
-  size = b.width;
-  side = side_across b.align;
-  wanted = b.x;
-  before = b.left;
-  after = b.right;
-  gap = b.gap_across;
-}
-
-abbrev pub down_of : LayoutBox → Axis
-down_of b = record {
-  size = b.height;
-  side = side_down b.align;
-  wanted = b.y;
-  before = b.top;
-  after = b.bottom;
-  gap = b.gap_down;
+abbrev pub axis_of : WantedAxis → Axis
+axis_of a = record {
+  size = a.size;
+  side = a.side;
+  wanted = a.wanted;
+  before = a.before;
+  after = a.after;
+  gap = a.gap;
 }
 
 abbrev pub box_of : ℕ → LayoutBox → Box
 box_of h b = record {
   handle = h;
   hidden = b.hidden;
-  across = across_of b;
-  down = down_of b;
+  across = axis_of b.across;
+  down = axis_of b.down;
   flow = b.flow;
   places = placings_of b.places;
   grow = b.grow;
@@ -64,5 +54,5 @@ box_or h None = no_box h
 box_or h (Some b) = box_of h b
 
 -- the box of a handle
-abbrev pub box_at : Table LayoutBox → ℕ → Box
-box_at boxes h = box_or h (value_at boxes h)
+abbrev pub box_at : List (Option LayoutBox) → ℕ → Box
+box_at boxes h = box_or h (slice_index_or boxes h None)

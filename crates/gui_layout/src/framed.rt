@@ -1,19 +1,17 @@
 //! Objects that stand by themselves.
-ghost use Rattle.std.specs.Prelude.{◌≡◌, ◌≤◌, ℕ, slice_index};
+ghost use Rattle.std.specs.Prelude.{◌≡◌, ◌≤◌, ℕ};
 ghost use Rattle.gui_layout.specs.Frames.{framed_width, framed_slot, FrameIsNearby};
 ghost use Rattle.gui_layout.specs.Kids.{wide_kid, tall_kid};
 ghost use Rattle.gui_layout.specs.Settled.{corner};
 ghost use Rattle.gui_layout.specs.Slots.{HasRoom, slot_of};
-ghost use Rattle.gui_layout.specs.Tables.{sizes_of};
 
+use crate::along::size_in;
+use crate::entry::Entry;
 use crate::frame::Frame;
 use crate::layout_box::LayoutBox;
 use crate::position::Position;
 use crate::positions::own_position;
 use crate::size::Size;
-use crate::widths::size_in;
-use gui_base::Handle;
-use gui_pool::Table;
 
 /// The width of an object in what it stands in.
 pub(crate) fn framed_width(frame: Frame, own: &LayoutBox, natural: u16) -> u16
@@ -22,7 +20,7 @@ pub(crate) fn framed_width(frame: Frame, own: &LayoutBox, natural: u16) -> u16
 {
     match frame {
         Frame::Panel(width, _) => width.pixels,
-        Frame::Content(inside) => size_in(own.width, inside.width, natural),
+        Frame::Content(inside) => size_in(&own.across, inside.width, natural),
     }
 }
 
@@ -38,21 +36,20 @@ fn at_corner(height: Size) -> Position
     }
 }
 
-/// The place of an object in what it stands in.
-pub(crate) fn framed_position(
-    frame: Frame,
-    own: &LayoutBox,
-    widths: &Table<Size>,
-    naturals: &Table<Size>,
-    h: Handle,
-) -> Position
+/// The place of an object in what it stands in, by its entry.
+pub(crate) fn framed_position(frame: Frame, own: &Entry) -> Position
     requires { FrameIsNearby frame }
-    ensures value { (k : ℕ) → slot_of result ≡ framed_slot frame (tall_kid k own.now
-        (slice_index (sizes_of widths.now) h.0) (slice_index (sizes_of naturals.now) h.0)) }
+    ensures value { (k : ℕ) → slot_of result ≡ framed_slot frame
+        (tall_kid k own.now.wanted own.now.width.pixels own.now.natural_height.pixels) }
     ensures room { HasRoom (slot_of result) 16 }
 {
     match frame {
         Frame::Panel(_, height) => at_corner(height),
-        Frame::Content(inside) => own_position(own, inside, widths, naturals, h),
+        Frame::Content(inside) => own_position(
+            &own.wanted,
+            inside,
+            own.width.pixels,
+            own.natural_height.pixels,
+        ),
     }
 }

@@ -1,69 +1,34 @@
 //! Natural heights.
-ghost use Rattle.std.specs.Prelude.{◌≡◌, ◌≤◌, ◌<◌, ◌+◌, ◌-◌, ◌*◌, ◌∷◌, ◌++◌, [], ℕ, true, map, max, vec_len};
+ghost use Rattle.std.specs.Prelude.{◌≡◌, ◌≤◌, ◌<◌, ◌+◌, ◌*◌, ◌∷◌, ◌++◌, [], ℕ, true, map, vec_len};
 ghost use Rattle.std.specs.Prelude.{vec_capacity, slice_index};
 ghost use Rattle.gui_base.specs.Forest.{StandsOnce, has, size, tree_at};
 ghost use Rattle.layout_defs.specs.declared.Course.TheVariants.{Across};
 ghost use Rattle.layout_defs.specs.Flex.{spanned, thickness, tracks};
-ghost use Rattle.layout_defs.specs.Boxes.{wraps, is_reversed, course_of};
+ghost use Rattle.layout_defs.specs.Boxes.{course_of, inner, is_reversed, wraps};
 ghost use Rattle.layout_defs.specs.Solving.{tall_box, taking_part, in_order, height_item, kids_height};
 ghost use Rattle.layout_defs.specs.Solving.{natural_height};
 ghost use Rattle.layout_defs.specs.Tables.{KeepsOthers};
 ghost use Rattle.gui_flex.specs.Items.{items_of};
 ghost use Rattle.gui_layout.specs.Kids.{tall_kid, high_kids, BelowHaveHeights};
-ghost use Rattle.gui_layout.specs.Views.{box_of, box_at};
-ghost use Rattle.gui_layout.specs.Rows.{row_of};
-ghost use Rattle.gui_layout.specs.Columns.{with_kid_down, kids_column, with_gaps_down};
+ghost use Rattle.gui_layout.specs.Views.{axis_of, box_of, box_at};
+ghost use Rattle.gui_layout.specs.Rows.{row_of, run_down, down_kid, sum_of};
 ghost use Rattle.gui_layout.specs.Talls.{HoldsNaturalHeights};
-ghost use Rattle.gui_layout.specs.Tables.{sizes_of, listing_of, AreListed};
+ghost use Rattle.gui_layout.specs.Layouts.{ButNaturalHeights};
+ghost use Rattle.gui_layout.specs.Tables.{told, listing_of, AreListed, IsEntry};
 
-use crate::boxes::{course_of, is_reversed, known_box, side_down, wraps};
+use crate::along::inner;
+use crate::boxes::{course_of, is_reversed, wraps};
+use crate::entry::Entry;
 use crate::layout_box::LayoutBox;
-use crate::natural::{Row, flowing, natural_size, reach};
-use crate::size::Size;
-use crate::tables::{set_size, size_at};
-use crate::widths::{inner, turn};
+use crate::measuring::{Row, natural_size, run_down, with_gaps, with_kid};
+use crate::tables::{entry_of, set_natural_height};
+use crate::widths::turn;
 use gui_base::Handle;
 use gui_base::words::Flow;
 use gui_flex::{FlexItem, measure};
 use gui_pool::Table;
 use gui_tree::Tree;
 use layout_defs::Course;
-
-/// The height of children so far, with one more. A hidden one takes no part.
-fn with_kid(row: Row, course: Course, kid: &LayoutBox, natural: u16) -> Row
-    requires size { row.size ≤ 70000 * row.count }
-    requires count { row.count < 4000 }
-    ensures value { (h width : ℕ) → row_of result
-        ≡ with_kid_down course (row_of row) (tall_kid h kid.now width natural) }
-    ensures size { result.size ≤ 70000 * result.count }
-    ensures count { result.count ≤ row.count + 1 }
-{
-    if kid.hidden {
-        return row;
-    }
-    let size = match course {
-        Course::Down => row.size + flowing(kid.grow, natural),
-        _ => row.size.max(reach(side_down(kid.align), kid.y, natural)),
-    };
-    Row {
-        size,
-        count: row.count + 1,
-    }
-}
-
-/// How high children are together that are so high, with the gaps of a column.
-fn with_gaps(row: Row, course: Course, gap: u16) -> u32
-    requires size { row.size ≤ 70000 * row.count }
-    requires count { row.count ≤ 4000 }
-    requires gap { gap ≤ 1000 }
-    ensures value { result ≡ with_gaps_down course gap (row_of row) }
-    ensures small { result ≤ 500000000 }
-{
-    match course {
-        Course::Down => row.size + u32::from(gap) * row.count.saturating_sub(1),
-        _ => row.size,
-    }
-}
 
 /// Puts a child that takes part behind the others.
 fn push_kid(items: &mut Vec<FlexItem>, kid: &LayoutBox, width: u16, natural: u16)
@@ -89,32 +54,26 @@ fn push_kid(items: &mut Vec<FlexItem>, kid: &LayoutBox, width: u16, natural: u16
 }
 
 /// Makes the children that take part items, as wide as they are and as high as they are by nature.
-fn fill_row(
-    tree: &Tree,
-    boxes: &Table<LayoutBox>,
-    widths: &Table<Size>,
-    naturals: &Table<Size>,
-    items: &mut Vec<FlexItem>,
-    h: Handle,
-)
+fn fill_row(tree: &Tree, entries: &Table<Entry>, items: &mut Vec<FlexItem>, h: Handle)
     requires once { StandsOnce tree.now.forest }
     requires few { size tree.now.forest ≤ 4000 }
-    requires found { BelowHaveHeights boxes.now widths.now naturals.now tree.now.forest h.0 }
+    requires found { BelowHaveHeights (told entries.now) tree.now.forest h.0 }
     requires capacity { size tree.now.forest ≤ vec_capacity items.old }
-    requires listed_boxes { AreListed (listing_of boxes.now) (tree_at tree.now.forest h.0) }
+    requires listed { AreListed (listing_of entries.now) (tree_at tree.now.forest h.0) }
     ensures items { items_of items.new.items
-        ≡ map height_item (taking_part tall_box (high_kids boxes.now widths.now tree.now.forest h.0)) }
+        ≡ map height_item (taking_part tall_box (high_kids (told entries.now) tree.now.forest h.0)) }
     ensures few { vec_len items.new ≤ 4000 }
     ensures capacity { vec_capacity items.new ≡ vec_capacity items.old }
 {
     items.clear();
     let mut next = tree.first_child(h);
     while let Some(child) = next {
+        let kid = entry_of(entries, child);
         push_kid(
             items,
-            known_box(boxes, child),
-            size_at(widths, child),
-            size_at(naturals, child),
+            &kid.wanted,
+            kid.width.pixels,
+            kid.natural_height.pixels,
         );
         next = tree.next(child);
     }
@@ -145,136 +104,129 @@ fn tracks_height(items: &mut Vec<FlexItem>, flow: Flow, room: u16, gap: u16, tra
 #[inline(never)]
 fn row_height(
     tree: &Tree,
-    boxes: &Table<LayoutBox>,
-    widths: &Table<Size>,
-    naturals: &Table<Size>,
+    entries: &Table<Entry>,
     items: &mut Vec<FlexItem>,
     h: Handle,
-    own: &LayoutBox,
+    own: &Entry,
 ) -> u32
     requires once { StandsOnce tree.now.forest }
     requires few { size tree.now.forest ≤ 4000 }
-    requires found { BelowHaveHeights boxes.now widths.now naturals.now tree.now.forest h.0 }
+    requires found { BelowHaveHeights (told entries.now) tree.now.forest h.0 }
     requires capacity { size tree.now.forest ≤ vec_capacity items.old }
-    requires listed_boxes { AreListed (listing_of boxes.now) (tree_at tree.now.forest h.0) }
-    ensures value { result ≡ kids_height Across (box_of h.0 own.now)
-        (slice_index (sizes_of widths.now) h.0 - (own.now.left + own.now.right))
-        (taking_part tall_box (high_kids boxes.now widths.now tree.now.forest h.0)) }
+    requires listed { AreListed (listing_of entries.now) (tree_at tree.now.forest h.0) }
+    ensures value { result ≡ kids_height Across (box_of h.0 own.now.wanted)
+        (inner (axis_of own.now.wanted.across) own.now.width.pixels)
+        (taking_part tall_box (high_kids (told entries.now) tree.now.forest h.0)) }
     ensures small { result ≤ 500000000 }
     ensures capacity { vec_capacity items.new ≡ vec_capacity items.old }
 {
-    fill_row(tree, boxes, widths, naturals, items, h);
-    let room = inner(size_at(widths, h), own.left, own.right);
-    tracks_height(items, own.flow, room, own.gap_across, own.gap_down)
+    fill_row(tree, entries, items, h);
+    let room = inner(&own.wanted.across, own.width.pixels);
+    tracks_height(
+        items,
+        own.wanted.flow,
+        room,
+        own.wanted.across.gap,
+        own.wanted.down.gap,
+    )
 }
 
 /// How high the children of an object are together, which are together so high where they stand in no row.
 fn kids_height(
     tree: &Tree,
-    boxes: &Table<LayoutBox>,
-    widths: &Table<Size>,
-    naturals: &Table<Size>,
+    entries: &Table<Entry>,
     items: &mut Vec<FlexItem>,
     h: Handle,
-    own: &LayoutBox,
+    own: &Entry,
     row: Row,
 ) -> u32
     requires once { StandsOnce tree.now.forest }
     requires few { size tree.now.forest ≤ 4000 }
-    requires found { BelowHaveHeights boxes.now widths.now naturals.now tree.now.forest h.0 }
+    requires found { BelowHaveHeights (told entries.now) tree.now.forest h.0 }
     requires capacity { size tree.now.forest ≤ vec_capacity items.old }
-    requires row { row_of row
-        ≡ kids_column (course_of own.now.flow) (high_kids boxes.now widths.now tree.now.forest h.0) }
+    requires row { row_of row ≡ sum_of down_kid (run_down (course_of own.now.wanted.flow))
+        (high_kids (told entries.now) tree.now.forest h.0) }
     requires size { row.size ≤ 70000 * row.count }
     requires count { row.count ≤ 4000 }
-    requires listed_boxes { AreListed (listing_of boxes.now) (tree_at tree.now.forest h.0) }
-    ensures value { result ≡ kids_height (course_of own.now.flow) (box_of h.0 own.now)
-        (slice_index (sizes_of widths.now) h.0 - (own.now.left + own.now.right))
-        (taking_part tall_box (high_kids boxes.now widths.now tree.now.forest h.0)) }
+    requires listed { AreListed (listing_of entries.now) (tree_at tree.now.forest h.0) }
+    ensures value { result ≡ kids_height (course_of own.now.wanted.flow) (box_of h.0 own.now.wanted)
+        (inner (axis_of own.now.wanted.across) own.now.width.pixels)
+        (taking_part tall_box (high_kids (told entries.now) tree.now.forest h.0)) }
     ensures small { result ≤ 500000000 }
     ensures capacity { vec_capacity items.new ≡ vec_capacity items.old }
 {
     if row.count == 0 {
         return 0;
     }
-    let course = course_of(own.flow);
+    let course = course_of(own.wanted.flow);
     match course {
-        Course::Across => row_height(tree, boxes, widths, naturals, items, h, own),
-        _ => with_gaps(row, course, own.gap_down),
+        Course::Across => row_height(tree, entries, items, h, own),
+        _ => with_gaps(row, run_down(course), own.wanted.down.gap),
     }
 }
 
-/// The natural height of an object whose children are together so high where they stand in no row.
+/// The natural height of an object with this entry whose children are together so high where they stand in no
+/// row.
 fn natural_height(
     tree: &Tree,
-    boxes: &Table<LayoutBox>,
-    widths: &Table<Size>,
-    naturals: &Table<Size>,
+    entries: &Table<Entry>,
     items: &mut Vec<FlexItem>,
     h: Handle,
-    own: &LayoutBox,
+    own: &Entry,
     row: Row,
 ) -> u16
     requires once { StandsOnce tree.now.forest }
     requires few { size tree.now.forest ≤ 4000 }
-    requires found { BelowHaveHeights boxes.now widths.now naturals.now tree.now.forest h.0 }
+    requires found { BelowHaveHeights (told entries.now) tree.now.forest h.0 }
     requires capacity { size tree.now.forest ≤ vec_capacity items.old }
-    requires own { box_of h.0 own.now ≡ box_at boxes.now h.0 }
-    requires row { row_of row
-        ≡ kids_column (course_of own.now.flow) (high_kids boxes.now widths.now tree.now.forest h.0) }
+    requires own { IsEntry (told entries.now) h.0 own.now }
+    requires row { row_of row ≡ sum_of down_kid (run_down (course_of own.now.wanted.flow))
+        (high_kids (told entries.now) tree.now.forest h.0) }
     requires size { row.size ≤ 70000 * row.count }
     requires count { row.count ≤ 4000 }
-    requires listed_boxes { AreListed (listing_of boxes.now) (tree_at tree.now.forest h.0) }
-    ensures value { result ≡ natural_height (box_at boxes.now h.0) (slice_index (sizes_of widths.now) h.0)
-        (high_kids boxes.now widths.now tree.now.forest h.0) }
+    requires listed { AreListed (listing_of entries.now) (tree_at tree.now.forest h.0) }
+    ensures value { result ≡ natural_height (box_at (told entries.now).boxes h.0)
+        (slice_index (told entries.now).widths h.0) (high_kids (told entries.now) tree.now.forest h.0) }
     ensures small { result ≤ 8191 }
     ensures capacity { vec_capacity items.new ≡ vec_capacity items.old }
 {
-    let kids = kids_height(tree, boxes, widths, naturals, items, h, own, row);
-    natural_size(
-        own.height,
-        u32::from(own.top) + u32::from(own.bottom),
-        own.own_height.max(kids),
-    )
+    let kids = kids_height(tree, entries, items, h, own, row);
+    natural_size(&own.wanted.down, own.wanted.own_height.max(kids))
 }
 
-/// Finds the natural heights of an object that has this box and of all below it, children first. It answers
-/// that of the object.
+/// Finds the natural heights of an object and of all below it, children first. It answers that of the object.
 pub(crate) fn find_natural_heights(
     tree: &Tree,
-    boxes: &Table<LayoutBox>,
-    widths: &Table<Size>,
-    naturals: &mut Table<Size>,
+    entries: &mut Table<Entry>,
     items: &mut Vec<FlexItem>,
     h: Handle,
-    own: &LayoutBox,
 ) -> u16
     requires once { StandsOnce tree.now.forest }
-    requires listed { AreListed (listing_of naturals.old) (tree_at tree.now.forest h.0) }
+    requires listed { AreListed (listing_of entries.old) (tree_at tree.now.forest h.0) }
     requires few { size tree.now.forest ≤ 4000 }
     requires there { has tree.now.forest h.0 ≡ true }
     requires capacity { size tree.now.forest ≤ vec_capacity items.old }
-    requires own { box_of h.0 own.now ≡ box_at boxes.now h.0 }
-    requires listed_boxes { AreListed (listing_of boxes.now) (tree_at tree.now.forest h.0) }
-    ensures value { result ≡ natural_height (box_at boxes.now h.0) (slice_index (sizes_of widths.now) h.0)
-        (high_kids boxes.now widths.now tree.now.forest h.0) }
-    ensures found { HoldsNaturalHeights (box_at boxes.now) (sizes_of widths.now) (sizes_of naturals.new)
+    ensures value { result ≡ natural_height (box_at (told entries.old).boxes h.0)
+        (slice_index (told entries.old).widths h.0) (high_kids (told entries.old) tree.now.forest h.0) }
+    ensures found { HoldsNaturalHeights (box_at (told entries.old).boxes) (told entries.old).widths
+        (told entries.new).natural_heights (tree_at tree.now.forest h.0) }
+    ensures others { KeepsOthers 0 (told entries.old).natural_heights (told entries.new).natural_heights
         (tree_at tree.now.forest h.0) }
-    ensures others { KeepsOthers 0 (sizes_of naturals.old) (sizes_of naturals.new)
-        (tree_at tree.now.forest h.0) }
+    ensures rest { ButNaturalHeights (told entries.old) (told entries.new) }
     ensures capacity { vec_capacity items.new ≡ vec_capacity items.old }
-    ensures listed { listing_of naturals.new ≡ listing_of naturals.old }
+    ensures listed { listing_of entries.new ≡ listing_of entries.old }
 {
-    let course = course_of(own.flow);
+    let run = run_down(course_of(entry_of(entries, h).wanted.flow));
     let mut row = Row { size: 0, count: 0 };
     let mut next = tree.first_child(h);
     while let Some(child) = next {
-        let kid = known_box(boxes, child);
-        let natural = find_natural_heights(tree, boxes, widths, naturals, items, child, kid);
-        row = with_kid(row, course, kid, natural);
+        let natural = find_natural_heights(tree, entries, items, child);
+        let kid = entry_of(entries, child);
+        row = with_kid(row, run, &kid.wanted, &kid.wanted.down, natural);
         next = tree.next(child);
     }
-    let natural = natural_height(tree, boxes, widths, naturals, items, h, own, row);
-    set_size(naturals, h, natural);
+    let own = entry_of(entries, h);
+    let natural = natural_height(tree, entries, items, h, own, row);
+    set_natural_height(entries, h, natural);
     natural
 }

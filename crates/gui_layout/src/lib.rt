@@ -3,21 +3,21 @@
 //! Each root is solved by itself, in four passes over its tree: natural widths upward, widths downward,
 //! natural heights upward, heights and places downward. Between the second and the third each object gets its
 //! own height, which goes by its width. A pass goes down by recursion, 16 deep at most, and along siblings by
-//! loops. It reads the tables of the passes before it and writes one of its own.
+//! loops. It reads what the passes before it found of each object, and writes one thing more into its entry.
 //!
-//! Where one object has changed, or what lies below it, the places are settled: the passes go through the
-//! tree of the nearest object, from that one upward, that stands by itself in a parent whose place does not
-//! go by its children. All else stays. Where an object has come, is gone or has gone elsewhere among its
-//! siblings, and these stand by themselves in such a parent, all others stay as they are.
-//!
-//! Where any objects have changed, come or gone, they are marked ([`Marks`]), and the places are settled for all
-//! of them at once: each mark has one such tree solved, and a tree without marks stays as it is.
+//! Where objects have changed, come or gone, or stand elsewhere among their siblings, they are marked
+//! ([`Marks`]), and the places are settled for all of them at once. Each mark has one tree solved: that of the
+//! nearest object, from the marked one upward, that stands by itself in a parent whose place does not go by
+//! its children. A tree without marks stays as it is.
 //!
 //! All memory is taken at [`Places::open`] and [`Marks::open`].
 #![tactic(auto)]
 
 mod all;
+mod along;
+mod axis;
 mod boxes;
+mod entry;
 mod frame;
 mod framed;
 mod gone;
@@ -28,6 +28,7 @@ mod listing;
 mod looks;
 mod mark;
 mod marks;
+mod measuring;
 mod natural;
 mod objects;
 mod own_heights;

@@ -1,7 +1,7 @@
 //! The objects that have entries.
 ghost use Rattle.std.specs.Prelude.{◌≡◌, ◌≤◌, ◌<◌, ◌+◌, ◌++◌, [], ℕ, true, None, length, vec_len};
 ghost use Rattle.std.specs.Prelude.{vec_capacity};
-ghost use Rattle.std.specs.Option.{ForSome};
+ghost use Rattle.std.specs.Option.{ForSome, option_to_list};
 ghost use Rattle.gui_base.specs.Forest.{StandsOnce, has, preorder, size};
 ghost use Rattle.gui_pool.specs.Table.{value_at, value_inserted};
 ghost use Rattle.gui_tree.specs.Handles.{numbers};
@@ -27,6 +27,17 @@ pub(crate) fn list_trees(tree: &Tree, listed: &mut Vec<Handle>, first: Option<Ha
         listed.push_reserved(h);
         list_trees(tree, listed, tree.first_child(h));
         next = tree.next(h);
+    }
+}
+
+/// Lists an object, if there is one.
+pub(crate) fn add_any(listed: &mut Vec<Handle>, h: Option<Handle>)
+    requires room { length listed.old.items < vec_capacity listed.old }
+    ensures items { listed.new.items ≡ listed.old.items ++ option_to_list h }
+    ensures capacity { vec_capacity listed.new ≡ vec_capacity listed.old }
+{
+    if let Some(h) = h {
+        listed.push_reserved(h);
     }
 }
 

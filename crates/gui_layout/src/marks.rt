@@ -17,26 +17,30 @@ const HANDLES: u32 = 65536;
 /// that is gone may be marked too. Of an object either anything may differ, or its list of children alone.
 ///
 /// Marking takes constant time, and letting go of all marks takes time by their number. Each of so many
-/// objects takes 26 to 30 bytes.
+/// objects takes 28 to 32 bytes.
 #[derive(Drop)]
 pub struct Marks {
     // Each once, in the order of marking.
     pub(crate) listed: Vec<Handle>,
     // Of these alone: how far the mark goes. What a mark concerns is settled only while places are.
     pub(crate) pending: Table<Mark>,
+    // The objects at the top of the trees that were solved last.
+    pub(crate) solved: Vec<Handle>,
     objects: u32,
     ghost marks: { AreMarks objects pending listed.items },
     ghost room: { objects ≤ vec_capacity listed },
+    ghost solved_room: { objects ≤ vec_capacity solved },
 }
 
 impl Marks {
-    ghost use Rattle.gui_layout.specs.Marks.{is_changed, is_marked, is_parent, mark_count, most_marks};
+    ghost use Rattle.gui_layout.specs.Marks.{is_changed, is_marked, is_parent, mark_count, most_marks, solved_in};
 
     /// No marks. It takes all the memory that so many marks need; NoMemory where there is too little.
     pub fn open(alloc: Global, objects: u32) -> Result<Marks, NoMemory>
         ensures none { IfOk result (λ marks. (h : ℕ) → is_marked marks h ≡ false) }
         ensures count { IfOk result (λ marks. mark_count marks ≡ 0) }
         ensures most { IfOk result (λ marks. most_marks marks ≡ objects) }
+        ensures solved { IfOk result (λ marks. solved_in marks ≡ []) }
     {
         let Ok(listed) = Vec::with_capacity(alloc, objects as usize) else {
             return Err(NoMemory);
@@ -44,11 +48,23 @@ impl Marks {
         let Ok(pending) = Table::open(alloc, HANDLES, objects) else {
             return Err(NoMemory);
         };
+        let Ok(solved) = Vec::with_capacity(alloc, objects as usize) else {
+            return Err(NoMemory);
+        };
         Ok(Marks {
             listed,
             pending,
+            solved,
             objects,
         })
+    }
+
+    /// The objects at the top of the trees that were solved when these marks were settled last, in the order
+    /// of solving.
+    pub fn solved(&self) -> &[Handle]
+        ensures { result.now ≡ solved_in self.now }
+    {
+        self.solved.as_slice()
     }
 
     /// Marks an object, be it there or gone: anything of it may have changed.
@@ -60,6 +76,7 @@ impl Marks {
         ensures count { mark_count self.new
             ≡ (if is_marked self.old h.0 then mark_count self.old else mark_count self.old + 1) }
         ensures most { most_marks self.new ≡ most_marks self.old }
+        ensures solved { solved_in self.new ≡ solved_in self.old }
     {
         if has_mark(&self.pending, h) {
             let _ = self.pending.replace(h.0 as u32, Mark::All);
@@ -79,6 +96,7 @@ impl Marks {
         ensures count { mark_count self.new
             ≡ (if is_marked self.old h.0 then mark_count self.old else mark_count self.old + 1) }
         ensures most { most_marks self.new ≡ most_marks self.old }
+        ensures solved { solved_in self.new ≡ solved_in self.old }
     {
         if has_mark(&self.pending, h) {
             return;

@@ -1,33 +1,31 @@
 //! The boxes of the objects of a store.
-ghost use Rattle.std.specs.Prelude.{◌≡◌, ◌≤◌, ◌+◌, ◌-◌, ℕ, true, Some, pos, slice_index};
+ghost use Rattle.std.specs.Prelude.{◌≡◌, ◌≤◌, true, Some, pos};
 ghost use Rattle.gui_base.specs.Props.{is_value, values_of};
 ghost use Rattle.gui_base.specs.declared.intervals.TheConstants.{PAD};
 ghost use Rattle.gui_base.specs.declared.props.Prop.TheVariants.{BorderWidth, PadTop, PadBottom, PadLeft};
 ghost use Rattle.gui_base.specs.declared.props.Prop.TheVariants.{PadRight};
 ghost use Rattle.gui_base.specs.declared.words.Part.TheVariants.{Main};
+ghost use Rattle.layout_defs.specs.Boxes.{inner};
 ghost use Rattle.layout_defs.specs.OwnHeights.{but_height};
 ghost use Rattle.scene_defs.specs.Place.{box_of as object_box, pixels_of, inset_of};
 ghost use Rattle.scene_defs.specs.Row.{shown_row};
 ghost use Rattle.scene_defs.specs.Scene.{row_at, value};
 ghost use Rattle.scene_defs.specs.Valid.{IsRow};
 ghost use Rattle.gui_flex.specs.Items.{placings_of};
-ghost use Rattle.gui_layout.specs.Listing.{times, value_count};
 ghost use Rattle.gui_store.specs.Views.{scene_of};
-ghost use Rattle.gui_layout.specs.Views.{box_of};
-ghost use Rattle.gui_layout.specs.Scenes.{object_with, scene_box, HoldsBoxes};
+ghost use Rattle.gui_layout.specs.Views.{axis_of, box_of};
+ghost use Rattle.gui_layout.specs.Scenes.{object_with, scene_box};
 ghost use Rattle.gui_layout.specs.Own.{has_own_size};
-ghost use Rattle.gui_layout.specs.Tables.{sizes_of, listing_of};
 
-use crate::boxes::empty_box;
+use crate::along::inner;
+use crate::axis::Axis;
+use crate::boxes::{empty_box, side_across, side_down};
+use crate::entry::Entry;
 use crate::layout_box::LayoutBox;
 use crate::looks::look_in;
-use crate::size::Size;
-use crate::tables::size_at;
-use crate::widths::inner;
 use arrayvec::ArrayVec;
 use gui_base::{Flag, Handle, Kind, Part, Prop};
 use gui_flex::FlexPlaces;
-use gui_pool::Table;
 use gui_store::{Row, Store};
 use gui_widgets::{own_height, own_width};
 
@@ -129,16 +127,16 @@ fn shown_height(store: &Store, h: Handle, row: &Row, room: u16) -> u32
     own_height(&look_in(store, h, row, &mut text), i32::from(room)).unsigned_abs()
 }
 
-/// The own height of what an object with this box shows at the width that was found, in pixels: 0 where the
-/// object is not there. The width is looked up where something is shown.
-pub(crate) fn own_height_of(store: &Store, h: Handle, own: &LayoutBox, widths: &Table<Size>) -> u32
+/// The own height of what an object with this entry shows at the width that was found, in pixels: 0 where the
+/// object is not there.
+pub(crate) fn own_height_of(store: &Store, h: Handle, own: &Entry) -> u32
     ensures value { result ≡ (scene_box (scene_of store.now) h.0).own_height
-        (slice_index (sizes_of widths.now) h.0 - (own.now.left + own.now.right)) }
+        (inner (axis_of own.now.wanted.across) own.now.width.pixels) }
     ensures small { result ≤ 1000000 }
 {
     match store.row(h) {
         Some(row) if has_own_size(row.kind) => {
-            let room = inner(size_at(widths, h), own.left, own.right);
+            let room = inner(&own.wanted.across, own.width.pixels);
             shown_height(store, h, row, room)
         }
         _ => 0,
@@ -154,23 +152,28 @@ fn row_box(store: &Store, h: Handle, row: &Row) -> LayoutBox
 {
     let border = border(store, h, row);
     LayoutBox {
+        across: Axis {
+            size: row.width,
+            wanted: row.x,
+            before: inset(store, h, row, border, Prop::PadLeft),
+            after: inset(store, h, row, border, Prop::PadRight),
+            gap: pad(store, h, row, Prop::PadColumn),
+            side: side_across(row.align),
+        },
+        down: Axis {
+            size: row.height,
+            wanted: row.y,
+            before: inset(store, h, row, border, Prop::PadTop),
+            after: inset(store, h, row, border, Prop::PadBottom),
+            gap: pad(store, h, row, Prop::PadRow),
+            side: side_down(row.align),
+        },
+        own_width: own_width_of(store, h, row),
+        own_height: 0,
         hidden: row.is_on(Flag::Hidden),
-        width: row.width,
-        height: row.height,
-        align: row.align,
-        x: row.x,
-        y: row.y,
         flow: row.flow,
         places: placings(row),
         grow: row.grow,
-        left: inset(store, h, row, border, Prop::PadLeft),
-        right: inset(store, h, row, border, Prop::PadRight),
-        top: inset(store, h, row, border, Prop::PadTop),
-        bottom: inset(store, h, row, border, Prop::PadBottom),
-        gap_across: pad(store, h, row, Prop::PadColumn),
-        gap_down: pad(store, h, row, Prop::PadRow),
-        own_width: own_width_of(store, h, row),
-        own_height: 0,
     }
 }
 
@@ -181,16 +184,5 @@ pub(crate) fn box_in(store: &Store, h: Handle) -> LayoutBox
     match store.row(h) {
         Some(row) => row_box(store, h, row),
         None => empty_box(),
-    }
-}
-
-/// Gives each listed object its box, before its own height is known. They are the objects that have one.
-pub(crate) fn set_boxes(boxes: &mut Table<LayoutBox>, listed: &[Handle], store: &Store)
-    requires { (h : ℕ) → value_count boxes.old h ≡ times listed.now h }
-    ensures listing { listing_of boxes.new ≡ listing_of boxes.old }
-    ensures found { HoldsBoxes boxes.new (scene_of store.now) }
-{
-    for h in listed {
-        let _ = boxes.replace(h.0 as u32, box_in(store, *h));
     }
 }

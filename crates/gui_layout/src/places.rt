@@ -2,7 +2,7 @@
 ghost use Rattle.std.specs.Prelude.{◌≡◌, ◌≤◌, ◌+ℤ◌, ◌-ℤ◌, pos, ℕ, Bool, [], true, false, None, Some, IfOk};
 ghost use Rattle.std.specs.Prelude.{IfSome, eqb, is_some, option_map};
 ghost use Rattle.std.specs.Prelude.{◌<◌, ◌+◌, length, vec_capacity};
-ghost use Rattle.std.specs.Option.{ForSome};
+ghost use Rattle.std.specs.Option.{option_to_list};
 ghost use Rattle.gui_base.specs.Area.{area_at, is_empty, width_of};
 ghost use Rattle.gui_base.specs.Bounded.{bounds_of};
 ghost use Rattle.gui_base.specs.Corners.{rect_of};
@@ -19,13 +19,11 @@ ghost use Rattle.scene_defs.specs.Scene.{handles_of, is_there, object_at, value}
 ghost use Rattle.gui_widgets.specs.Looks.{IsLook, widget_of};
 ghost use Rattle.gui_store.specs.Views.{scene_of};
 ghost use Rattle.gui_layout.specs.Painted.{PaintsLike};
-ghost use Rattle.gui_layout.specs.Kept.{AddsEntries, AreEntries, KeepEntries};
-ghost use Rattle.gui_layout.specs.Same.{SameEntries};
 ghost use Rattle.scene_defs.specs.Place.{place};
 ghost use Rattle.scene_defs.specs.Visible.{some_area, met, visible};
 ghost use Rattle.gui_layout.specs.Frames.{FrameIsNearby, IsFrameOf, Encloses};
 ghost use Rattle.gui_layout.specs.declared.frame.Frame.TheVariants.{Content};
-ghost use Rattle.gui_layout.specs.Settled.{known_at, tall_of, is_steady, IsSteady};
+ghost use Rattle.gui_layout.specs.Settled.{known_at, tall_of, IsSteady};
 ghost use Rattle.gui_layout.specs.Slots.{room_in};
 ghost use Rattle.gui_layout.specs.Views.{box_at};
 ghost use Rattle.gui_layout.specs.Reaches.{IsPlaced};
@@ -33,29 +31,30 @@ ghost use Rattle.gui_layout.specs.Renewed.{AreRenewed, IsRenewed, KeepsRenewed};
 ghost use Rattle.gui_layout.specs.Marked.{marked_trees};
 ghost use Rattle.gui_layout.specs.Pending.{is_any, is_marked_in, is_partly, is_pending};
 ghost use Rattle.gui_pool.specs.Table.{value_at};
-ghost use Rattle.gui_layout.specs.Scenes.{HoldsBoxes, scene_box, shown_panel};
-ghost use Rattle.gui_layout.specs.Listing.{AreProper, HasThese, times};
+ghost use Rattle.gui_layout.specs.Scenes.{HoldsBoxes, shown_panel};
+ghost use Rattle.gui_layout.specs.Listing.{AddsValue, AreProper, HasThese, KeepsThose, SameValue, times};
+ghost use Rattle.gui_layout.specs.Layouts.{ButBoxes};
 ghost use Rattle.gui_layout.specs.Tables.{AreListed, IsListed, listing_of};
 
 use crate::all::solve_trees;
-use crate::boxes::{empty_box, has_box, known_box};
+use crate::boxes::empty_box;
+use crate::entry::Entry;
 use crate::frame::Frame;
 use crate::gone::{have_left, take_gone};
 use crate::inside::Inside;
-use crate::layout_box::LayoutBox;
-use crate::listing::{are_same, clear, fill, list_trees, put};
+use crate::listing::{add_any, are_same, clear, fill, list_trees, put};
 use crate::looks::{look_in, paint_look_in};
 use crate::mark::Mark;
 use crate::marks::{Marks, clear_marks};
-use crate::objects::{box_in, set_boxes};
+use crate::objects::box_in;
 use crate::pending::{finish_tree, is_pending};
-use crate::position::{CORNER, Position};
+use crate::position::Position;
 use crate::positions::inside_of;
 use crate::raising::raise_marks;
-use crate::renewal::{renew_boxes, renew_marked};
+use crate::renewal::{renew_all, renew_marked};
 use crate::size::Size;
 use crate::steady::{is_nearby, is_steady};
-use crate::tables::{position_at, size_at};
+use crate::tables::{entry_of, has_entry, new_entry};
 use crate::tree::solve_tree;
 use arrayvec::ArrayVec;
 use gui_base::intervals::HANDLE;
@@ -81,11 +80,7 @@ const HANDLES: u32 = HANDLE.high as u32 + 1;
 /// Natural sizes and places under one root depend on that root's tree alone.
 #[derive(Drop)]
 pub struct Places {
-    boxes: Table<LayoutBox>,
-    natural_widths: Table<Size>,
-    widths: Table<Size>,
-    natural_heights: Table<Size>,
-    positions: Table<Position>,
+    entries: Table<Entry>,
     // The objects that have entries.
     listed: Vec<Handle>,
     // Room to list those of a store.
@@ -93,13 +88,7 @@ pub struct Places {
     // The children of one object that take part in its flow.
     items: Vec<FlexItem>,
     limits: Limits,
-    ghost kept: { AreEntries limits.objects (record {
-      boxes = boxes;
-      natural_widths = natural_widths;
-      widths = widths;
-      natural_heights = natural_heights;
-      positions = positions;
-    }) listed.items },
+    ghost kept: { HasThese limits.objects entries listed.items },
     ghost list_room: { limits.objects ≤ vec_capacity listed },
     ghost found_room: { limits.objects ≤ vec_capacity found },
     ghost items_room: { limits.objects ≤ vec_capacity items },
@@ -174,13 +163,12 @@ fn shown_panel(store: &Store, root: Handle) -> Option<Area>
 
 impl Places {
     ghost use Rattle.gui_layout.specs.Solved.{limits_of, layout_of, place_at, AreSolved, AreSettled};
-    ghost use Rattle.gui_layout.specs.Solved.{entries_of, AreSettledBefore, AreSettledBut, AreSettledElse};
-    ghost use Rattle.gui_layout.specs.Solved.{AreSettledWithout};
     ghost use Rattle.gui_layout.specs.Naturals.{naturals, naturals_at};
-    ghost use Rattle.gui_layout.specs.Marks.{is_changed, is_marked, is_parent, mark_count, most_marks};
+    ghost use Rattle.gui_layout.specs.Marks.{is_changed, is_marked, is_parent, mark_count, most_marks, solved_in};
     ghost use Rattle.gui_layout.specs.SettledBut.{AreRightBut, AreRightButChanged, AreSettledButMarks};
     ghost use Rattle.gui_layout.specs.SettledBut.{SettlesChanged, SettlesMarks, in_marked, nobody};
     ghost use Rattle.gui_layout.specs.Settles.{Settles, SolvesTree};
+    ghost use Rattle.gui_layout.specs.Tops.{MovesAt, SolvesAt, in_trees_at};
 
     /// No object has a place. It takes all the memory that solving will need, or answers NoMemory where there
     /// is too little.
@@ -189,20 +177,12 @@ impl Places {
         ensures none { IfOk result (λ places. (h : ℕ) → place_at places h ≡ None) }
     {
         let objects = limits.objects;
-        let boxes = open_table(alloc, objects)?;
-        let natural_widths = open_table(alloc, objects)?;
-        let widths = open_table(alloc, objects)?;
-        let natural_heights = open_table(alloc, objects)?;
-        let positions = open_table(alloc, objects)?;
+        let entries = open_table(alloc, objects)?;
         let listed = open_list(alloc, objects)?;
         let found = open_list(alloc, objects)?;
         let items = open_list(alloc, objects)?;
         Ok(Places {
-            boxes,
-            natural_widths,
-            widths,
-            natural_heights,
-            positions,
+            entries,
             listed,
             found,
             items,
@@ -223,45 +203,12 @@ impl Places {
         self.solve(store);
     }
 
-    /// Settles the places of a store in which an object has changed, or what lies below it, since they were
-    /// settled, and nothing else. Of the objects that stand by themselves in a parent whose place does not go
-    /// by its children, the nearest above the object is found; what lies below that one is solved anew, and
-    /// all else stays. The answer is that object.
-    pub fn settle(&mut self, store: &Store, h: Handle) -> Handle
-        requires there { is_there (scene_of store.now) h.0 ≡ true }
-        requires but { AreSettledBut self.old (scene_of store.now) h.0 }
-        requires limits { limits_of self.old ≡ (scene_of store.now).limits }
-        ensures settled { AreSettled self.new (scene_of store.now) }
-        ensures there { is_there (scene_of store.now) result.0 ≡ true }
-        ensures encloses { Encloses (handles_of (scene_of store.now).trees) result.0 h.0 }
-        ensures others { (k : ℕ) → has (tree_at (handles_of (scene_of store.now).trees) result.0) k ≡ false →
-            place_at self.new k ≡ place_at self.old k }
-        ensures limits { limits_of self.new ≡ limits_of self.old }
-    {
-        let tree = store.tree();
-        renew_boxes(tree, &mut self.boxes, store, h);
-        let (top, frame) = self.frame_of(tree, h);
-        solve_tree(
-            tree,
-            &mut self.boxes,
-            store,
-            &mut self.natural_widths,
-            &mut self.widths,
-            &mut self.natural_heights,
-            &mut self.positions,
-            &mut self.items,
-            top,
-            frame,
-        );
-        top
-    }
-
     /// Settles the places of a store in which marked objects alone may differ from what they were when the
     /// places were settled: objects that have changed, come or gone, and those whose children are others. Of
     /// a tree in which none is marked all places stay as they were. Where the list of children alone is
     /// another, nothing is solved for an object whose sizes are not those of its content and whose children
-    /// stand by themselves. The marks are let go.
-    pub fn settle_marks(&mut self, store: &Store, marks: &mut Marks)
+    /// stand by themselves. The marks are let go, and they tell at which objects trees were solved.
+    pub fn settle(&mut self, store: &Store, marks: &mut Marks)
         requires limits { limits_of self.old ≡ (scene_of store.now).limits }
         requires but { AreRightBut self.old (scene_of store.now)
             (in_marked (is_marked marks.old) (scene_of store.now)) (is_changed marks.old) (is_parent marks.old) }
@@ -284,72 +231,25 @@ impl Places {
             AreRightBut self.new (scene_of store.now) s nobody nobody }
         ensures settled { AreSettledButMarks self.old (scene_of store.now) (is_changed marks.old) (is_parent marks.old) →
             AreSettled self.new (scene_of store.now) }
+        ensures tops { (u : ℕ) → 0 < times (solved_in marks.new) u → is_there (scene_of store.now) u ≡ true }
+        ensures whole { (k : ℕ) → is_there (scene_of store.now) k ≡ true → is_changed marks.old k ≡ true →
+            in_trees_at (handles_of (scene_of store.now).trees) (solved_in marks.new) k ≡ true }
+        ensures stays { (k : ℕ) → is_there (scene_of store.now) k ≡ true →
+            in_trees_at (handles_of (scene_of store.now).trees) (solved_in marks.new) k ≡ false →
+            place_at self.new k ≡ place_at self.old k }
         ensures empty { (k : ℕ) → is_marked marks.new k ≡ false }
         ensures count { mark_count marks.new ≡ 0 }
         ensures most { most_marks marks.new ≡ most_marks marks.old }
         ensures limits { limits_of self.new ≡ limits_of self.old }
     {
-        self.settle_listed(store, marks.listed.as_slice(), &mut marks.pending);
-        clear_marks(&mut marks.pending, &mut marks.listed);
-    }
-
-    /// Whether the places stay settled for a store in which a child of an object went elsewhere among its
-    /// siblings since they were settled, and all else is the same: where these stand by themselves, and the
-    /// object's sizes are not those of its content.
-    pub fn stay_settled(&self, store: &Store, parent: Handle) -> bool
-        requires { AreSettledElse self.now (scene_of store.now) parent.0 }
-        ensures value { result ≡ is_steady (scene_box (scene_of store.now) parent.0) }
-        ensures settled { result ≡ true → AreSettled self.now (scene_of store.now) }
-    {
-        // Lending the tree tells that the scene is in order.
-        let _tree = store.tree();
-        is_steady(known_box(&self.boxes, parent))
-    }
-
-    /// Settles the places of a store from which an object and all below it are gone since they were settled,
-    /// and all else is the same. It was a child of `parent`, or a root where that is None. The places of the
-    /// others stay as they are for a root, and where the parent's children stand by themselves and its sizes
-    /// are not those of its content.
-    pub fn settle_without(&mut self, store: &Store, parent: Option<Handle>)
-        requires gone { AreSettledWithout self.old (scene_of store.now) (option_map (λ h. h.0) parent) }
-        requires limits { limits_of self.old ≡ (scene_of store.now).limits }
-        ensures settled { AreSettled self.new (scene_of store.now) }
-        ensures limits { limits_of self.new ≡ limits_of self.old }
-    {
-        if self.lets_go(parent) {
-            self.leave(store.tree());
-        } else {
-            self.solve_all(store);
-        }
-    }
-
-    /// Settles the places of a store in which an object without children has come since they were settled,
-    /// the last child of `parent`, and all else is the same. It alone is solved where the parent's children
-    /// stand by themselves, and the parent's sizes are not those of its content.
-    pub fn settle_with(&mut self, store: &Store, h: Handle, parent: Handle)
-        requires before { AreSettledBefore self.old (scene_of store.now) h.0 parent.0 }
-        requires limits { limits_of self.old ≡ (scene_of store.now).limits }
-        ensures settled { AreSettled self.new (scene_of store.now) }
-        ensures limits { limits_of self.new ≡ limits_of self.old }
-    {
-        let Some(inside) = self.steady_inside(parent) else {
-            self.solve_all(store);
-            return;
-        };
-        let tree = store.tree();
-        self.add_entries(store, h);
-        solve_tree(
-            tree,
-            &mut self.boxes,
+        marks.solved.clear();
+        self.settle_listed(
             store,
-            &mut self.natural_widths,
-            &mut self.widths,
-            &mut self.natural_heights,
-            &mut self.positions,
-            &mut self.items,
-            h,
-            Frame::Content(inside),
+            marks.listed.as_slice(),
+            &mut marks.pending,
+            &mut marks.solved,
         );
+        clear_marks(&mut marks.pending, &mut marks.listed);
     }
 
     /// The place of an object, or None exactly where it was not there when the places were solved. It lies
@@ -359,8 +259,8 @@ impl Places {
         ensures near { IfSome result (λ area. IsNear (rect_of area)) }
         ensures narrow { IfSome result (λ area. width_of (rect_of area) ≤ 8191) }
     {
-        match self.positions.get(h.0 as u32) {
-            Some(position) => Some(area_of(position, size_at(&self.widths, h))),
+        match self.entries.get(h.0 as u32) {
+            Some(own) => Some(area_of(&own.position, own.width.pixels)),
             None => None,
         }
     }
@@ -435,31 +335,19 @@ impl Places {
         }
     }
 
-    /// Whether nothing goes by a child of an object, or by a root where that is None.
-    fn lets_go(&self, parent: Option<Handle>) -> bool
-        requires { ForSome parent (λ h. IsListed (listing_of self.now.boxes) h.0) }
-        ensures { result ≡ true → ForSome parent (λ h. IsSteady (box_at self.now.boxes h.0)) }
-    {
-        match parent {
-            Some(parent) => is_steady(known_box(&self.boxes, parent)),
-            None => true,
-        }
-    }
-
     /// The content area of an object whose place does not go by its children, and in which these stand by
     /// themselves.
     fn steady_inside(&self, h: Handle) -> Option<Inside>
-        requires { IsListed (listing_of self.now.boxes) h.0 }
-        ensures steady { IfSome result (λ inside. IsSteady (box_at self.now.boxes h.0)) }
+        requires { IsListed (listing_of self.now.entries) h.0 }
+        ensures steady { IfSome result (λ inside. IsSteady (box_at (layout_of self.now).boxes h.0)) }
         ensures room { IfSome result (λ inside. room_in inside ≡
-            room_of (tall_of (known_at (box_at self.now.boxes) (layout_of self.now) h.0))
-            (known_at (box_at self.now.boxes) (layout_of self.now) h.0).slot) }
+            room_of (tall_of (known_at (box_at (layout_of self.now).boxes) (layout_of self.now) h.0))
+            (known_at (box_at (layout_of self.now).boxes) (layout_of self.now) h.0).slot) }
         ensures near { IfSome result (λ inside. FrameIsNearby (Content inside)) }
     {
-        let own = known_box(&self.boxes, h);
-        let position = position_at(&self.positions, h);
-        if is_steady(own) && is_nearby(position) {
-            Some(inside_of(own, position, size_at(&self.widths, h)))
+        let own = entry_of(&self.entries, h);
+        if is_steady(&own.wanted) && is_nearby(own.position) {
+            Some(inside_of(&own.wanted, own.position, own.width.pixels))
         } else {
             None
         }
@@ -470,11 +358,11 @@ impl Places {
         requires once { StandsOnce tree.now.forest }
         requires there { has tree.now.forest h.0 ≡ true }
         requires listed { (k : ℕ) → Encloses tree.now.forest k h.0 → has tree.now.forest k ≡ true →
-            IsListed (listing_of self.now.boxes) k }
+            IsListed (listing_of self.now.entries) k }
         ensures there { has tree.now.forest result.0.0 ≡ true }
         ensures encloses { Encloses tree.now.forest result.0.0 h.0 }
         ensures near { FrameIsNearby result.1 }
-        ensures frame { IsFrameOf (limits_of self.now) (known_at (box_at self.now.boxes) (layout_of self.now))
+        ensures frame { IsFrameOf (limits_of self.now) (known_at (box_at (layout_of self.now).boxes) (layout_of self.now))
             (parent_of tree.now.forest result.0.0) result.1 }
     {
         let Some(parent) = tree.parent(h) else {
@@ -489,14 +377,14 @@ impl Places {
     /// Takes out the entries of objects that are gone, where a marked one is.
     fn leave_gone(&mut self, tree: &Tree, marked: &[Handle])
         ensures kept { (k : ℕ) → has tree.now.forest k ≡ true →
-            SameEntries k (entries_of self.old) (entries_of self.new) }
+            SameValue k self.old.entries self.new.entries }
         ensures gone { (k : ℕ) → 0 < times marked.now k → has tree.now.forest k ≡ false →
-            is_some (value_at self.new.positions k) ≡ false }
-        ensures none { (k : ℕ) → is_some (value_at self.old.positions k) ≡ false →
-            is_some (value_at self.new.positions k) ≡ false }
+            is_some (value_at self.new.entries k) ≡ false }
+        ensures none { (k : ℕ) → is_some (value_at self.old.entries k) ≡ false →
+            is_some (value_at self.new.entries k) ≡ false }
         ensures limits { limits_of self.new ≡ limits_of self.old }
     {
-        if have_left(tree, &self.positions, marked) {
+        if have_left(tree, &self.entries, marked) {
             return;
         }
         self.leave(tree);
@@ -506,13 +394,13 @@ impl Places {
     fn make_room(&mut self, store: &Store, h: Handle)
         requires limits { limits_of self.old ≡ (scene_of store.now).limits }
         requires there { has (handles_of (scene_of store.now).trees) h.0 ≡ true }
-        requires new { is_some (value_at self.old.boxes h.0) ≡ false }
+        requires new { is_some (value_at self.old.entries h.0) ≡ false }
         ensures room { length self.new.listed.items < self.new.limits.objects }
-        ensures new { is_some (value_at self.new.boxes h.0) ≡ false }
+        ensures new { is_some (value_at self.new.entries h.0) ≡ false }
         ensures kept { (k : ℕ) → has (handles_of (scene_of store.now).trees) k ≡ true →
-            SameEntries k (entries_of self.old) (entries_of self.new) }
-        ensures none { (k : ℕ) → is_some (value_at self.old.positions k) ≡ false →
-            is_some (value_at self.new.positions k) ≡ false }
+            SameValue k self.old.entries self.new.entries }
+        ensures none { (k : ℕ) → is_some (value_at self.old.entries k) ≡ false →
+            is_some (value_at self.new.entries k) ≡ false }
         ensures limits { limits_of self.new ≡ limits_of self.old }
     {
         let tree = store.tree();
@@ -526,22 +414,22 @@ impl Places {
     fn enter_one(&mut self, store: &Store, h: Handle)
         requires limits { limits_of self.old ≡ (scene_of store.now).limits }
         ensures own { has (handles_of (scene_of store.now).trees) h.0 ≡ true →
-            is_some (value_at self.new.boxes h.0) ≡ true }
+            is_some (value_at self.new.entries h.0) ≡ true }
         ensures others { (k : ℕ) → has (handles_of (scene_of store.now).trees) k ≡ true →
-            eqb k h.0 ≡ false → SameEntries k (entries_of self.old) (entries_of self.new) }
+            eqb k h.0 ≡ false → SameValue k self.old.entries self.new.entries }
         ensures kept { (k : ℕ) → has (handles_of (scene_of store.now).trees) k ≡ true →
-            is_some (value_at self.old.boxes k) ≡ true →
-            SameEntries k (entries_of self.old) (entries_of self.new) }
+            is_some (value_at self.old.entries k) ≡ true →
+            SameValue k self.old.entries self.new.entries }
         ensures none { (k : ℕ) → has (handles_of (scene_of store.now).trees) k ≡ false →
-            is_some (value_at self.old.positions k) ≡ false →
-            is_some (value_at self.new.positions k) ≡ false }
+            is_some (value_at self.old.entries k) ≡ false →
+            is_some (value_at self.new.entries k) ≡ false }
         ensures limits { limits_of self.new ≡ limits_of self.old }
     {
         let tree = store.tree();
         if !tree.has(h) {
             return;
         }
-        if has_box(&self.boxes, h) {
+        if has_entry(&self.entries, h) {
             return;
         }
         self.make_room(store, h);
@@ -553,15 +441,15 @@ impl Places {
         requires limits { limits_of self.old ≡ (scene_of store.now).limits }
         ensures own { (k : ℕ) → 0 < times marked.now k →
             has (handles_of (scene_of store.now).trees) k ≡ true →
-            is_some (value_at self.new.boxes k) ≡ true }
+            is_some (value_at self.new.entries k) ≡ true }
         ensures others { (k : ℕ) → has (handles_of (scene_of store.now).trees) k ≡ true →
-            times marked.now k ≡ 0 → SameEntries k (entries_of self.old) (entries_of self.new) }
+            times marked.now k ≡ 0 → SameValue k self.old.entries self.new.entries }
         ensures kept { (k : ℕ) → has (handles_of (scene_of store.now).trees) k ≡ true →
-            is_some (value_at self.old.boxes k) ≡ true →
-            SameEntries k (entries_of self.old) (entries_of self.new) }
+            is_some (value_at self.old.entries k) ≡ true →
+            SameValue k self.old.entries self.new.entries }
         ensures none { (k : ℕ) → has (handles_of (scene_of store.now).trees) k ≡ false →
-            is_some (value_at self.old.positions k) ≡ false →
-            is_some (value_at self.new.positions k) ≡ false }
+            is_some (value_at self.old.entries k) ≡ false →
+            is_some (value_at self.new.entries k) ≡ false }
         ensures limits { limits_of self.new ≡ limits_of self.old }
     {
         for h in marked {
@@ -573,54 +461,73 @@ impl Places {
     fn renew_marked(&mut self, store: &Store, marked: &[Handle], pending: &Table<Mark>)
         requires entries { (k : ℕ) → 0 < times marked.now k → is_pending pending.now k ≡ true →
             has (handles_of (scene_of store.now).trees) k ≡ true →
-            is_some (value_at self.old.boxes k) ≡ true }
+            is_some (value_at self.old.entries k) ≡ true }
         ensures own { (k : ℕ) → 0 < times marked.now k → is_pending pending.now k ≡ true →
             has (handles_of (scene_of store.now).trees) k ≡ true →
-            IsRenewed (scene_of store.now) self.new.boxes k }
-        ensures kept { KeepsRenewed (scene_of store.now) self.old.boxes self.new.boxes }
-        ensures listed_boxes { listing_of self.new.boxes ≡ listing_of self.old.boxes }
-        ensures layout { layout_of self.new ≡ layout_of self.old }
-        ensures positions { self.new.positions ≡ self.old.positions }
+            IsRenewed (scene_of store.now) (layout_of self.new).boxes k }
+        ensures kept { KeepsRenewed (scene_of store.now) (layout_of self.old).boxes (layout_of self.new).boxes }
+        ensures listed { listing_of self.new.entries ≡ listing_of self.old.entries }
+        ensures rest { ButBoxes (layout_of self.old) (layout_of self.new) }
         ensures limits { limits_of self.new ≡ limits_of self.old }
     {
-        renew_marked(store.tree(), &mut self.boxes, store, marked, pending);
+        renew_marked(store.tree(), &mut self.entries, store, marked, pending);
     }
 
     /// Settles the places of a store in which marked objects alone may differ, each of which is listed.
-    fn settle_listed(&mut self, store: &Store, marked: &[Handle], pending: &mut Table<Mark>)
+    fn settle_listed(
+        &mut self,
+        store: &Store,
+        marked: &[Handle],
+        pending: &mut Table<Mark>,
+        solved: &mut Vec<Handle>,
+    )
         requires limits { limits_of self.old ≡ (scene_of store.now).limits }
         requires marked { (k : ℕ) → 0 < times marked.now k → is_any (value_at pending.old k) ≡ true }
         requires listed { (k : ℕ) → is_any (value_at pending.old k) ≡ true → 0 < times marked.now k }
         requires but { AreRightBut self.old (scene_of store.now)
             (in_marked (is_marked_in pending.old) (scene_of store.now))
             (is_pending pending.old) (is_partly pending.old) }
+        requires empty { solved.old.items ≡ [] }
+        requires room { length marked.now ≤ vec_capacity solved.old }
         ensures settles { SettlesMarks self.old self.new (scene_of store.now)
             (is_marked_in pending.old) (is_pending pending.old) (is_partly pending.old) }
+        ensures moves { MovesAt self.old self.new (scene_of store.now) (is_pending pending.old) solved.new.items }
         ensures marks { listing_of pending.new ≡ listing_of pending.old }
+        ensures capacity { vec_capacity solved.new ≡ vec_capacity solved.old }
         ensures limits { limits_of self.new ≡ limits_of self.old }
     {
-        raise_marks(store.tree(), &self.boxes, pending, marked);
-        self.settle_changed(store, marked, pending);
+        raise_marks(store.tree(), &self.entries, pending, marked);
+        self.settle_changed(store, marked, pending, solved);
     }
 
     /// Settles the places of a store in which pending objects alone may differ, each of which is listed. What
     /// else is listed has entries.
-    fn settle_changed(&mut self, store: &Store, marked: &[Handle], pending: &mut Table<Mark>)
+    fn settle_changed(
+        &mut self,
+        store: &Store,
+        marked: &[Handle],
+        pending: &mut Table<Mark>,
+        solved: &mut Vec<Handle>,
+    )
         requires limits { limits_of self.old ≡ (scene_of store.now).limits }
         requires listed { (k : ℕ) → is_pending pending.old k ≡ true → 0 < times marked.now k }
         requires entries { (k : ℕ) → 0 < times marked.now k → is_pending pending.old k ≡ false →
-            is_some (value_at self.old.boxes k) ≡ true }
+            is_some (value_at self.old.entries k) ≡ true }
         requires but { AreRightButChanged self.old (scene_of store.now)
             (in_marked (is_pending pending.old) (scene_of store.now)) (is_pending pending.old) }
+        requires empty { solved.old.items ≡ [] }
+        requires room { length marked.now ≤ vec_capacity solved.old }
         ensures settles { SettlesChanged self.old self.new (scene_of store.now) (is_pending pending.old) }
+        ensures moves { MovesAt self.old self.new (scene_of store.now) (is_pending pending.old) solved.new.items }
         ensures marks { listing_of pending.new ≡ listing_of pending.old }
+        ensures capacity { vec_capacity solved.new ≡ vec_capacity solved.old }
         ensures limits { limits_of self.new ≡ limits_of self.old }
     {
         let tree = store.tree();
         self.leave_gone(tree, marked);
         self.enter_marked(store, marked);
         self.renew_marked(store, marked, pending);
-        self.settle_marked(store, marked, pending);
+        self.settle_marked(store, marked, pending, solved);
     }
 
     /// Solves the tree in which an object lies that is marked, from the nearest one upward that stands by
@@ -629,76 +536,82 @@ impl Places {
         requires limits { limits_of self.old ≡ (scene_of store.now).limits }
         requires there { has (handles_of (scene_of store.now).trees) h.0 ≡ true }
         requires entries { (u : ℕ) → Encloses (handles_of (scene_of store.now).trees) u h.0 →
-            AreListed (listing_of self.old.boxes) (tree_at (handles_of (scene_of store.now).trees) u) }
+            AreListed (listing_of self.old.entries) (tree_at (handles_of (scene_of store.now).trees) u) }
         requires boxes { (u : ℕ) → Encloses (handles_of (scene_of store.now).trees) u h.0 →
-            AreRenewed (scene_of store.now) self.old.boxes
+            AreRenewed (scene_of store.now) (layout_of self.old).boxes
             (tree_at (handles_of (scene_of store.now).trees) u) }
         ensures { SolvesTree self.old self.new (scene_of store.now) h.0 result.0 }
     {
         let tree = store.tree();
         let (top, frame) = self.frame_of(tree, h);
-        solve_tree(
-            tree,
-            &mut self.boxes,
-            store,
-            &mut self.natural_widths,
-            &mut self.widths,
-            &mut self.natural_heights,
-            &mut self.positions,
-            &mut self.items,
-            top,
-            frame,
-        );
+        solve_tree(tree, store, &mut self.entries, &mut self.items, top, frame);
         top
     }
 
-    /// Settles what the mark of an object concerns, if it is there and its mark is pending.
-    fn settle_mark(&mut self, store: &Store, pending: &mut Table<Mark>, h: Handle)
+    /// Settles what the mark of an object concerns, if it is there and its mark is pending. The answer is the
+    /// object at the top of the tree that was solved, or None.
+    fn settle_mark(&mut self, store: &Store, pending: &mut Table<Mark>, h: Handle) -> Option<Handle>
         requires limits { limits_of self.old ≡ (scene_of store.now).limits }
-        requires entries { AreListed (listing_of self.old.boxes)
+        requires entries { AreListed (listing_of self.old.entries)
             (marked_trees (is_pending pending.old) (handles_of (scene_of store.now).trees)) }
-        requires boxes { AreRenewed (scene_of store.now) self.old.boxes
+        requires boxes { AreRenewed (scene_of store.now) (layout_of self.old).boxes
             (marked_trees (is_pending pending.old) (handles_of (scene_of store.now).trees)) }
         ensures settles { Settles self.old self.new (scene_of store.now)
             (is_pending pending.old) (is_pending pending.new) }
+        ensures solves { SolvesAt self.old self.new (scene_of store.now)
+            (is_pending pending.old) (is_pending pending.new) (option_to_list result) }
         ensures own { has (handles_of (scene_of store.now).trees) h.0 ≡ true →
             is_pending pending.new h.0 ≡ false }
         ensures marks { listing_of pending.new ≡ listing_of pending.old }
     {
         let tree = store.tree();
         if !is_pending(pending, h) {
-            return;
+            return None;
         }
         if !tree.has(h) {
-            return;
+            return None;
         }
         let top = self.settle_at(store, h);
         finish_tree(tree, pending, top);
+        Some(top)
     }
 
-    /// Settles what the marks of these objects concern, of those that are there.
-    fn settle_marked(&mut self, store: &Store, marked: &[Handle], pending: &mut Table<Mark>)
+    /// Settles what the marks of these objects concern, of those that are there, and lists the objects at the
+    /// top of the trees that were solved.
+    fn settle_marked(
+        &mut self,
+        store: &Store,
+        marked: &[Handle],
+        pending: &mut Table<Mark>,
+        solved: &mut Vec<Handle>,
+    )
         requires limits { limits_of self.old ≡ (scene_of store.now).limits }
-        requires entries { AreListed (listing_of self.old.boxes)
+        requires entries { AreListed (listing_of self.old.entries)
             (marked_trees (is_pending pending.old) (handles_of (scene_of store.now).trees)) }
-        requires boxes { AreRenewed (scene_of store.now) self.old.boxes
+        requires boxes { AreRenewed (scene_of store.now) (layout_of self.old).boxes
             (marked_trees (is_pending pending.old) (handles_of (scene_of store.now).trees)) }
         requires marked { (k : ℕ) → is_pending pending.old k ≡ true → 0 < times marked.now k }
+        requires empty { solved.old.items ≡ [] }
+        requires room { length marked.now ≤ vec_capacity solved.old }
         ensures settles { Settles self.old self.new (scene_of store.now)
             (is_pending pending.old) (is_pending pending.new) }
+        ensures solves { SolvesAt self.old self.new (scene_of store.now)
+            (is_pending pending.old) (is_pending pending.new) solved.new.items }
         ensures all { (k : ℕ) → has (handles_of (scene_of store.now).trees) k ≡ true →
             is_pending pending.new k ≡ false }
         ensures marks { listing_of pending.new ≡ listing_of pending.old }
+        ensures capacity { vec_capacity solved.new ≡ vec_capacity solved.old }
     {
         for h in marked {
-            self.settle_mark(store, pending, *h);
+            let top = self.settle_mark(store, pending, *h);
+            add_any(solved, top);
         }
     }
 
     /// What a root stands in.
     fn panel(&self) -> Frame
         ensures near { FrameIsNearby result }
-        ensures frame { IsFrameOf (limits_of self.now) (known_at (box_at self.now.boxes) (layout_of self.now))
+        ensures frame { IsFrameOf (limits_of self.now) (known_at (box_at (layout_of self.now).boxes) (layout_of self.now))
             None result }
     {
         let width = Size {
@@ -716,19 +629,13 @@ impl Places {
         ensures found { self.new.found.items ≡ self.old.found.items }
         ensures limits { limits_of self.new ≡ limits_of self.old }
     {
-        let listed = self.listed.as_slice();
-        clear(&mut self.boxes, listed);
-        clear(&mut self.natural_widths, listed);
-        clear(&mut self.widths, listed);
-        clear(&mut self.natural_heights, listed);
-        clear(&mut self.positions, listed);
+        clear(&mut self.entries, self.listed.as_slice());
         self.listed.clear();
     }
 
     /// Takes out the entries of the objects that a tree does not have.
     fn leave(&mut self, tree: &Tree)
-        ensures kept { KeepEntries tree.now.forest self.old.listed.items
-            (entries_of self.old) (entries_of self.new) }
+        ensures kept { KeepsThose tree.now.forest self.old.listed.items self.old.entries self.new.entries }
         ensures limits { limits_of self.new ≡ limits_of self.old }
     {
         self.found.clear();
@@ -736,11 +643,7 @@ impl Places {
             tree,
             self.listed.as_slice(),
             &mut self.found,
-            &mut self.boxes,
-            &mut self.natural_widths,
-            &mut self.widths,
-            &mut self.natural_heights,
-            &mut self.positions,
+            &mut self.entries,
         );
         mem::swap(&mut self.listed, &mut self.found);
     }
@@ -750,16 +653,10 @@ impl Places {
         requires low { h.0 < HANDLE.high + 1 }
         requires new { times self.old.listed.items h.0 ≡ 0 }
         requires room { length self.old.listed.items < self.old.limits.objects }
-        ensures own { IsRenewed (scene_of store.now) self.new.boxes h.0 }
-        ensures added { AddsEntries h.0 (entries_of self.old) (entries_of self.new) }
+        ensures added { AddsValue h.0 self.old.entries self.new.entries }
         ensures limits { limits_of self.new ≡ limits_of self.old }
     {
-        let none = Size { pixels: 0 };
-        put(&mut self.boxes, h, box_in(store, h));
-        put(&mut self.natural_widths, h, none);
-        put(&mut self.widths, h, none);
-        put(&mut self.natural_heights, h, none);
-        put(&mut self.positions, h, CORNER);
+        put(&mut self.entries, h, new_entry(box_in(store, h)));
         self.listed.push_reserved(h);
     }
 
@@ -771,13 +668,11 @@ impl Places {
         ensures limits { limits_of self.new ≡ limits_of self.old }
     {
         self.forget();
-        let found = self.found.as_slice();
-        let none = Size { pixels: 0 };
-        fill(&mut self.boxes, found, empty_box());
-        fill(&mut self.natural_widths, found, none);
-        fill(&mut self.widths, found, none);
-        fill(&mut self.natural_heights, found, none);
-        fill(&mut self.positions, found, CORNER);
+        fill(
+            &mut self.entries,
+            self.found.as_slice(),
+            new_entry(empty_box()),
+        );
         mem::swap(&mut self.listed, &mut self.found);
     }
 
@@ -797,30 +692,26 @@ impl Places {
 
     /// Gives each object that has entries its box in a store, before its own height is known.
     fn set_boxes(&mut self, store: &Store)
-        ensures boxes { HoldsBoxes self.new.boxes (scene_of store.now) }
+        ensures boxes { HoldsBoxes (layout_of self.new).boxes (scene_of store.now) }
         ensures listed { self.new.listed.items ≡ self.old.listed.items }
         ensures limits { limits_of self.new ≡ limits_of self.old }
     {
-        set_boxes(&mut self.boxes, self.listed.as_slice(), store);
+        renew_all(&mut self.entries, store, self.listed.as_slice());
     }
 
     /// Solves the places of the objects of a store, each of which has an entry with its box.
     fn solve(&mut self, store: &Store)
         requires limits { limits_of self.old ≡ (scene_of store.now).limits }
         requires listed { numbers self.old.listed.items ≡ preorder (handles_of (scene_of store.now).trees) }
-        requires boxes { HoldsBoxes self.old.boxes (scene_of store.now) }
+        requires boxes { HoldsBoxes (layout_of self.old).boxes (scene_of store.now) }
         ensures settled { AreSettled self.new (scene_of store.now) }
         ensures naturals { (h : ℕ) → naturals_at self.new h ≡ naturals (scene_of store.now) h }
         ensures limits { limits_of self.new ≡ limits_of self.old }
     {
         solve_trees(
             store.tree(),
-            &mut self.boxes,
             store,
-            &mut self.natural_widths,
-            &mut self.widths,
-            &mut self.natural_heights,
-            &mut self.positions,
+            &mut self.entries,
             &mut self.items,
             Size {
                 pixels: self.limits.width as u16,

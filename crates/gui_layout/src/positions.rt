@@ -1,104 +1,46 @@
 //! Heights and places, downward.
-ghost use Rattle.std.specs.Prelude.{◌≡◌, ◌≤◌, ◌<◌, ◌+◌, ◌-◌, ◌∷◌, ◌++◌, [], ℕ, ℤ, List, true, length, map};
-ghost use Rattle.std.specs.Prelude.{drop, vec_len, vec_capacity, pos, negsuc, ◌≤ℤ◌, ◌+ℤ◌, ◌-ℤ◌, slice_index};
+ghost use Rattle.std.specs.Prelude.{◌≡◌, ◌≤◌, ◌<◌, ◌+◌, ◌∷◌, ◌++◌, [], ℕ, List, true, length, map};
+ghost use Rattle.std.specs.Prelude.{drop, vec_len, vec_capacity};
 ghost use Rattle.std.specs.List.{All};
 ghost use Rattle.gui_base.specs.Forest.{StandsOnce, has, height, size, tree_at, children_of};
 ghost use Rattle.layout_defs.specs.declared.Course.TheVariants.{Across, Down};
 ghost use Rattle.layout_defs.specs.Flex.{shared, spots};
 ghost use Rattle.layout_defs.specs.Boxes.{course_of};
-ghost use Rattle.layout_defs.specs.Solving.{Tall, tall_box, taking_part, in_order, dealt, side_at, half};
+ghost use Rattle.layout_defs.specs.Solving.{Tall, tall_box, taking_part, in_order, dealt, nowhere};
 ghost use Rattle.layout_defs.specs.Solving.{own_slot, row_slot, column_slot, flow_slots, kid_slots, room_of};
-ghost use Rattle.layout_defs.specs.Solving.{nowhere};
 ghost use Rattle.layout_defs.specs.Tables.{KeepsOthers};
 ghost use Rattle.gui_flex.specs.Items.{items_of, item_of, spot_of, spots_of, placings_of};
 ghost use Rattle.gui_layout.specs.Kids.{tall_kid, tall_kids};
 ghost use Rattle.gui_layout.specs.Views.{box_of, box_at};
-ghost use Rattle.gui_layout.specs.Reaches.{IsInner, IsPlaced};
-ghost use Rattle.gui_layout.specs.Slots.{slot_of, slots_of, room_in, arranged, item_in, flow_item, item_slot};
+ghost use Rattle.gui_layout.specs.Slots.{slot_of, room_in, arranged, item_in, flow_item, item_slot};
 ghost use Rattle.gui_layout.specs.Slots.{IsClose, HasRoom, HoldsSlots, Deals, IsAtCorner, IsBelow, tall_at};
 ghost use Rattle.gui_layout.specs.Slots.{slot_at, at_roots};
-ghost use Rattle.gui_layout.specs.Tables.{sizes_of, listing_of, AreListed};
+ghost use Rattle.gui_layout.specs.Layouts.{ButSlots};
+ghost use Rattle.gui_layout.specs.Tables.{told, listing_of, AreListed};
 
-use crate::boxes::{course_of, is_reversed, known_box, side_across, side_down, wraps};
+use crate::along::{corner, from_corner, inner, own_at, size_in};
+use crate::boxes::{course_of, is_reversed, wraps};
+use crate::entry::Entry;
 use crate::inside::Inside;
 use crate::layout_box::LayoutBox;
 use crate::position::Position;
-use crate::size::Size;
-use crate::tables::{position_at, set_position, size_at};
-use crate::widths::{inner, size_in};
+use crate::tables::{entry_of, set_position};
 use gui_base::Handle;
 use gui_flex::{FlexItem, FlexPlaces, place, share};
 use gui_pool::Table;
 use gui_tree::Tree;
-use layout_defs::{Course, Side};
+use layout_defs::Course;
 
-/// Where its side puts an object that is so large in a content area.
-fn side_at(side: Side, room: u16, size: u16) -> i32
-    ensures value { result ≡ side_at side room size }
-    ensures least { negsuc 65535 ≤ℤ result }
-    ensures most { result ≤ℤ pos 65535 }
-{
-    match side {
-        Side::Near => 0,
-        Side::Middle => half(i32::from(room) - i32::from(size)),
-        Side::Far => i32::from(room) - i32::from(size),
-    }
-}
-
-/// Half of a number, rounded down.
-fn half(n: i32) -> i32
-    requires least { negsuc 65535 ≤ℤ n }
-    requires most { n ≤ℤ pos 65535 }
-    ensures value { result ≡ half n }
-    ensures least { negsuc 65535 ≤ℤ result }
-    ensures most { result ≤ℤ pos 65535 }
-{
-    if n < 0 { -((1 - n) / 2) } else { n / 2 }
-}
-
-/// A coordinate so far from one of a content area.
-fn from_corner(corner: i32, far: i32) -> i32
-    requires corner { IsInner corner }
-    requires least { negsuc 49999999 ≤ℤ far }
-    requires most { far ≤ℤ pos 50000000 }
-    ensures value { result ≡ corner +ℤ far }
-    ensures fits { IsPlaced result }
-    ensures near_least { (corner -ℤ pos 50000000) ≤ℤ result }
-    ensures near_most { result ≤ℤ (corner +ℤ pos 50000000) }
-{
-    corner + far
-}
-
-/// How far an object that is so large stands from the corner of a content area, without flex.
-fn aligned_at(side: Side, wanted: i32, room: u16, size: u16) -> i32
-    requires wanted_least { negsuc 3999 ≤ℤ wanted }
-    requires wanted_most { wanted ≤ℤ pos 4000 }
-    ensures value { result ≡ side_at side room size +ℤ wanted }
-    ensures least { negsuc 49999999 ≤ℤ result }
-    ensures most { result ≤ℤ pos 50000000 }
-{
-    side_at(side, room, size) + wanted
-}
-
-/// A child's place without flex.
-pub(crate) fn own_position(
-    kid: &LayoutBox,
-    inside: Inside,
-    widths: &Table<Size>,
-    naturals: &Table<Size>,
-    child: Handle,
-) -> Position
-    ensures value { (h : ℕ) → slot_of result ≡ own_slot (room_in inside) (tall_kid h kid.now
-        (slice_index (sizes_of widths.now) child.0) (slice_index (sizes_of naturals.now) child.0)) }
+/// A child's place without flex, by its box and its sizes.
+pub(crate) fn own_position(kid: &LayoutBox, inside: Inside, width: u16, natural: u16) -> Position
+    ensures value { (h : ℕ) → slot_of result
+        ≡ own_slot (room_in inside) (tall_kid h kid.now width natural) }
     ensures close { IsClose inside.x inside.y (slot_of result) }
 {
-    let width = size_at(widths, child);
-    let height = size_in(kid.height, inside.height, size_at(naturals, child));
-    let x = aligned_at(side_across(kid.align), kid.x, inside.width, width);
-    let y = aligned_at(side_down(kid.align), kid.y, inside.height, height);
+    let height = size_in(&kid.down, inside.height, natural);
     Position {
-        x: from_corner(inside.x, x),
-        y: from_corner(inside.y, y),
+        x: own_at(&kid.across, inside.x, inside.width, width),
+        y: own_at(&kid.down, inside.y, inside.height, height),
         height,
     }
 }
@@ -158,7 +100,7 @@ fn push_kid(
     if kid.hidden {
         return;
     }
-    let height = size_in(kid.height, room, natural);
+    let height = size_in(&kid.down, room, natural);
     items.push_reserved(flow_item(course, width, height, kid.grow));
 }
 
@@ -263,8 +205,8 @@ fn place_row(items: &mut Vec<FlexItem>, own: &LayoutBox, inside: Inside)
         own.places,
         inside.width,
         inside.height,
-        own.gap_across,
-        own.gap_down,
+        own.across.gap,
+        own.down.gap,
     );
 }
 
@@ -276,45 +218,54 @@ fn place_column(items: &mut Vec<FlexItem>, own: &LayoutBox, inside: Inside)
     ensures len { vec_len items.new ≡ vec_len items.old }
     ensures capacity { vec_capacity items.new ≡ vec_capacity items.old }
 {
-    share_all(items, wraps(own.flow), inside.height, own.gap_down);
+    share_all(items, wraps(own.flow), inside.height, own.down.gap);
     place_all(
         items,
         wraps(own.flow),
         own.places,
         inside.height,
         inside.width,
-        own.gap_down,
-        own.gap_across,
+        own.down.gap,
+        own.across.gap,
     );
 }
 
-/// The place that a child is dealt, and how many items are dealt then. Its sizes are looked up where it is
-/// dealt no item.
+/// The place of a child by itself, by its entry.
+fn kid_position(kid: &Entry, inside: Inside) -> Position
+    ensures value { (h : ℕ) → slot_of result ≡ own_slot (room_in inside)
+        (tall_kid h kid.now.wanted kid.now.width.pixels kid.now.natural_height.pixels) }
+    ensures close { IsClose inside.x inside.y (slot_of result) }
+{
+    own_position(
+        &kid.wanted,
+        inside,
+        kid.width.pixels,
+        kid.natural_height.pixels,
+    )
+}
+
+/// The place that a child is dealt, and how many items are dealt then.
 fn dealt_position(
-    kid: &LayoutBox,
+    kid: &Entry,
     course: Course,
     inside: Inside,
-    widths: &Table<Size>,
-    naturals: &Table<Size>,
-    child: Handle,
     items: &[FlexItem],
     i: usize,
 ) -> (Position, usize)
     requires within { i ≤ length items.now }
     ensures value { (h : ℕ) (kids : List Tall) → dealt tall_box (own_slot (room_in inside))
-        (tall_kid h kid.now (slice_index (sizes_of widths.now) child.0)
-        (slice_index (sizes_of naturals.now) child.0) ∷ kids)
+        (tall_kid h kid.now.wanted kid.now.width.pixels kid.now.natural_height.pixels ∷ kids)
         (map (item_slot course (room_in inside)) (drop i items.now))
         ≡ slot_of result.0 ∷ dealt tall_box (own_slot (room_in inside)) kids
         (map (item_slot course (room_in inside)) (drop result.1 items.now)) }
     ensures close { IsClose inside.x inside.y (slot_of result.0) }
     ensures within { result.1 ≤ length items.now }
 {
-    if kid.hidden {
-        return (own_position(kid, inside, widths, naturals, child), i);
+    if kid.wanted.hidden {
+        return (kid_position(kid, inside), i);
     }
     if i == items.len() {
-        return (own_position(kid, inside, widths, naturals, child), i);
+        return (kid_position(kid, inside), i);
     }
     (item_position(course, &items[i], inside), i + 1)
 }
@@ -322,9 +273,7 @@ fn dealt_position(
 /// Makes the children that take part items of a flow, first to last.
 fn fill_flow(
     tree: &Tree,
-    boxes: &Table<LayoutBox>,
-    widths: &Table<Size>,
-    naturals: &Table<Size>,
+    entries: &Table<Entry>,
     items: &mut Vec<FlexItem>,
     h: Handle,
     course: Course,
@@ -333,23 +282,23 @@ fn fill_flow(
     requires once { StandsOnce tree.now.forest }
     requires few { size tree.now.forest ≤ 4000 }
     requires capacity { size tree.now.forest ≤ vec_capacity items.old }
-    requires listed_boxes { AreListed (listing_of boxes.now) (tree_at tree.now.forest h.0) }
-    ensures items { items_of items.new.items
-        ≡ map (flow_item course room) (taking_part tall_box
-        (tall_kids boxes.now widths.now naturals.now tree.now.forest h.0)) }
+    requires listed { AreListed (listing_of entries.now) (tree_at tree.now.forest h.0) }
+    ensures items { items_of items.new.items ≡ map (flow_item course room)
+        (taking_part tall_box (tall_kids (told entries.now) tree.now.forest h.0)) }
     ensures few { vec_len items.new ≤ 4000 }
     ensures capacity { vec_capacity items.new ≡ vec_capacity items.old }
 {
     items.clear();
     let mut next = tree.first_child(h);
     while let Some(child) = next {
+        let kid = entry_of(entries, child);
         push_kid(
             items,
-            known_box(boxes, child),
+            &kid.wanted,
             course,
             room,
-            size_at(widths, child),
-            size_at(naturals, child),
+            kid.width.pixels,
+            kid.natural_height.pixels,
         );
         next = tree.next(child);
     }
@@ -358,9 +307,7 @@ fn fill_flow(
 /// Makes the items the children that take part in a flow, each with its place, first to last.
 fn place_flow(
     tree: &Tree,
-    boxes: &Table<LayoutBox>,
-    widths: &Table<Size>,
-    naturals: &Table<Size>,
+    entries: &Table<Entry>,
     items: &mut Vec<FlexItem>,
     h: Handle,
     own: &LayoutBox,
@@ -369,10 +316,10 @@ fn place_flow(
     requires once { StandsOnce tree.now.forest }
     requires few { size tree.now.forest ≤ 4000 }
     requires capacity { size tree.now.forest ≤ vec_capacity items.old }
-    requires listed_boxes { AreListed (listing_of boxes.now) (tree_at tree.now.forest h.0) }
+    requires listed { AreListed (listing_of entries.now) (tree_at tree.now.forest h.0) }
     ensures slots { map (item_slot (course_of own.now.flow) (room_in inside)) items.new.items
-        ≡ flow_slots (box_of h.0 own.now) (room_in inside) (taking_part tall_box
-        (tall_kids boxes.now widths.now naturals.now tree.now.forest h.0)) }
+        ≡ flow_slots (box_of h.0 own.now) (room_in inside)
+        (taking_part tall_box (tall_kids (told entries.now) tree.now.forest h.0)) }
     ensures capacity { vec_capacity items.new ≡ vec_capacity items.old }
 {
     let course = course_of(own.flow);
@@ -380,31 +327,13 @@ fn place_flow(
     match course {
         Course::Free => items.clear(),
         Course::Across => {
-            fill_flow(
-                tree,
-                boxes,
-                widths,
-                naturals,
-                items,
-                h,
-                course,
-                inside.height,
-            );
+            fill_flow(tree, entries, items, h, course, inside.height);
             turn_round(items, back);
             place_row(items, own, inside);
             turn_round(items, back);
         }
         Course::Down => {
-            fill_flow(
-                tree,
-                boxes,
-                widths,
-                naturals,
-                items,
-                h,
-                course,
-                inside.height,
-            );
+            fill_flow(tree, entries, items, h, course, inside.height);
             turn_round(items, back);
             place_column(items, own, inside);
             turn_round(items, back);
@@ -416,37 +345,25 @@ fn place_flow(
 /// flow, and its own to each other.
 fn deal_positions(
     tree: &Tree,
-    boxes: &Table<LayoutBox>,
-    widths: &Table<Size>,
-    naturals: &Table<Size>,
-    places: &mut Table<Position>,
+    entries: &mut Table<Entry>,
     items: &[FlexItem],
     h: Handle,
     course: Course,
     inside: Inside,
 )
     requires once { StandsOnce tree.now.forest }
-    requires listed { AreListed (listing_of places.old) (tree_at tree.now.forest h.0) }
-    requires listed_boxes { AreListed (listing_of boxes.now) (tree_at tree.now.forest h.0) }
-    ensures deals { Deals (box_at boxes.now) (sizes_of widths.now) (sizes_of naturals.now) (room_in inside)
-        (slots_of places.old) (slots_of places.new) (children_of tree.now.forest h.0)
-        (map (item_slot course (room_in inside)) items.now) }
-    ensures listed { listing_of places.new ≡ listing_of places.old }
+    requires listed { AreListed (listing_of entries.old) (tree_at tree.now.forest h.0) }
+    ensures deals { Deals (box_at (told entries.old).boxes) (told entries.old).widths
+        (told entries.old).natural_heights (room_in inside) (told entries.old).slots (told entries.new).slots
+        (children_of tree.now.forest h.0) (map (item_slot course (room_in inside)) items.now) }
+    ensures rest { ButSlots (told entries.old) (told entries.new) }
+    ensures listed { listing_of entries.new ≡ listing_of entries.old }
 {
     let mut next = tree.first_child(h);
     let mut i = 0;
     while let Some(child) = next {
-        let (position, later) = dealt_position(
-            known_box(boxes, child),
-            course,
-            inside,
-            widths,
-            naturals,
-            child,
-            items,
-            i,
-        );
-        set_position(places, child, position);
+        let (position, later) = dealt_position(entry_of(entries, child), course, inside, items, i);
+        set_position(entries, child, position);
         i = later;
         next = tree.next(child);
     }
@@ -461,103 +378,71 @@ pub(crate) fn inside_of(own: &LayoutBox, at: Position, width: u16) -> Inside
     ensures near { IsAtCorner (slot_of at) (room_in result) }
 {
     Inside {
-        x: corner(at.x, own.left),
-        y: corner(at.y, own.top),
-        width: inner(width, own.left, own.right),
-        height: inner(at.height, own.top, own.bottom),
+        x: corner(&own.across, at.x),
+        y: corner(&own.down, at.y),
+        width: inner(&own.across, width),
+        height: inner(&own.down, at.height),
     }
-}
-
-/// A coordinate of a content area's corner.
-fn corner(at: i32, before: u16) -> i32
-    requires least { negsuc 919999999 ≤ℤ at }
-    requires most { at ≤ℤ pos 920000000 }
-    requires before { before ≤ 1100 }
-    ensures value { result ≡ at +ℤ pos before }
-    ensures fits { IsInner result }
-    ensures near_least { at ≤ℤ result }
-    ensures near_most { result ≤ℤ (at +ℤ pos 1100) }
-{
-    at + i32::from(before)
 }
 
 /// Sets the places of the children of an object whose own place is set. It is not inlined, so that an object
 /// without children pays nothing for it.
 #[inline(never)]
-fn set_kid_positions(
-    tree: &Tree,
-    boxes: &Table<LayoutBox>,
-    widths: &Table<Size>,
-    naturals: &Table<Size>,
-    places: &mut Table<Position>,
-    items: &mut Vec<FlexItem>,
-    h: Handle,
-)
+fn set_kid_positions(tree: &Tree, entries: &mut Table<Entry>, items: &mut Vec<FlexItem>, h: Handle)
     requires once { StandsOnce tree.now.forest }
-    requires listed { AreListed (listing_of places.old) (tree_at tree.now.forest h.0) }
+    requires listed { AreListed (listing_of entries.old) (tree_at tree.now.forest h.0) }
     requires few { size tree.now.forest ≤ 4000 }
     requires capacity { size tree.now.forest ≤ vec_capacity items.old }
-    requires room { HasRoom (slot_at (slots_of places.old) h.0) 1 }
-    requires listed_boxes { AreListed (listing_of boxes.now) (tree_at tree.now.forest h.0) }
+    requires room { HasRoom (slot_at (told entries.old).slots h.0) 1 }
     requires there { has tree.now.forest h.0 ≡ true }
-    ensures kids { at_roots (slots_of places.new) (children_of tree.now.forest h.0)
-        ≡ kid_slots (tall_at (box_at boxes.now) (sizes_of widths.now) (sizes_of naturals.now) h.0)
-        (slot_at (slots_of places.old) h.0)
-        (tall_kids boxes.now widths.now naturals.now tree.now.forest h.0) }
-    ensures others { KeepsOthers nowhere (slots_of places.old) (slots_of places.new)
+    ensures kids { at_roots (told entries.new).slots (children_of tree.now.forest h.0)
+        ≡ kid_slots (tall_at (box_at (told entries.old).boxes) (told entries.old).widths
+        (told entries.old).natural_heights h.0) (slot_at (told entries.old).slots h.0)
+        (tall_kids (told entries.old) tree.now.forest h.0) }
+    ensures others { KeepsOthers nowhere (told entries.old).slots (told entries.new).slots
         (children_of tree.now.forest h.0) }
-    ensures near { All (IsBelow (slot_at (slots_of places.old) h.0)) (at_roots (slots_of places.new)
-        (children_of tree.now.forest h.0)) }
+    ensures near { All (IsBelow (slot_at (told entries.old).slots h.0))
+        (at_roots (told entries.new).slots (children_of tree.now.forest h.0)) }
+    ensures rest { ButSlots (told entries.old) (told entries.new) }
     ensures capacity { vec_capacity items.new ≡ vec_capacity items.old }
-    ensures listed { listing_of places.new ≡ listing_of places.old }
+    ensures listed { listing_of entries.new ≡ listing_of entries.old }
 {
-    let own = known_box(boxes, h);
-    let inside = inside_of(own, position_at(places, h), size_at(widths, h));
-    place_flow(tree, boxes, widths, naturals, items, h, own, inside);
-    deal_positions(
-        tree,
-        boxes,
-        widths,
-        naturals,
-        places,
-        items.as_slice(),
-        h,
-        course_of(own.flow),
-        inside,
-    );
+    let own = entry_of(entries, h);
+    let inside = inside_of(&own.wanted, own.position, own.width.pixels);
+    let course = course_of(own.wanted.flow);
+    place_flow(tree, entries, items, h, &own.wanted, inside);
+    deal_positions(tree, entries, items.as_slice(), h, course, inside);
 }
 
 /// Finds the heights and places of all that lies below an object whose own place is set, parents first.
 pub(crate) fn find_places(
     tree: &Tree,
-    boxes: &Table<LayoutBox>,
-    widths: &Table<Size>,
-    naturals: &Table<Size>,
-    places: &mut Table<Position>,
+    entries: &mut Table<Entry>,
     items: &mut Vec<FlexItem>,
     h: Handle,
 )
     requires once { StandsOnce tree.now.forest }
-    requires listed { AreListed (listing_of places.old) (tree_at tree.now.forest h.0) }
+    requires listed { AreListed (listing_of entries.old) (tree_at tree.now.forest h.0) }
     requires few { size tree.now.forest ≤ 4000 }
     requires there { has tree.now.forest h.0 ≡ true }
     requires capacity { size tree.now.forest ≤ vec_capacity items.old }
-    requires room { HasRoom (slot_at (slots_of places.old) h.0) (height (tree_at tree.now.forest h.0)) }
-    requires listed_boxes { AreListed (listing_of boxes.now) (tree_at tree.now.forest h.0) }
-    ensures found { HoldsSlots (box_at boxes.now) (sizes_of widths.now) (sizes_of naturals.now)
-        (slot_at (slots_of places.old) h.0 ∷ []) (slots_of places.new) (tree_at tree.now.forest h.0) }
-    ensures others { KeepsOthers nowhere (slots_of places.old) (slots_of places.new)
+    requires room { HasRoom (slot_at (told entries.old).slots h.0) (height (tree_at tree.now.forest h.0)) }
+    ensures found { HoldsSlots (box_at (told entries.old).boxes) (told entries.old).widths
+        (told entries.old).natural_heights (slot_at (told entries.old).slots h.0 ∷ [])
+        (told entries.new).slots (tree_at tree.now.forest h.0) }
+    ensures others { KeepsOthers nowhere (told entries.old).slots (told entries.new).slots
         (tree_at tree.now.forest h.0) }
+    ensures rest { ButSlots (told entries.old) (told entries.new) }
     ensures capacity { vec_capacity items.new ≡ vec_capacity items.old }
-    ensures listed { listing_of places.new ≡ listing_of places.old }
+    ensures listed { listing_of entries.new ≡ listing_of entries.old }
 {
     if tree.first_child(h).is_none() {
         return;
     }
-    set_kid_positions(tree, boxes, widths, naturals, places, items, h);
+    set_kid_positions(tree, entries, items, h);
     let mut next = tree.first_child(h);
     while let Some(child) = next {
-        find_places(tree, boxes, widths, naturals, places, items, child);
+        find_places(tree, entries, items, child);
         next = tree.next(child);
     }
 }

@@ -6,7 +6,7 @@ ghost use Rattle.gui_layout.specs.Pending.{is_any, is_partly, is_pending};
 ghost use Rattle.gui_layout.specs.Raised.{Rests};
 ghost use Rattle.gui_layout.specs.Tables.{listing_of};
 
-use crate::layout_box::LayoutBox;
+use crate::entry::Entry;
 use crate::mark::Mark;
 use crate::pending::is_partly;
 use crate::steady::is_steady;
@@ -15,22 +15,22 @@ use gui_pool::Table;
 use gui_tree::Tree;
 
 /// Whether an object is there, and by the box that it has its place does not go by its children.
-fn rests(tree: &Tree, boxes: &Table<LayoutBox>, h: Handle) -> bool
-    ensures { result ≡ true → Rests tree.now.forest boxes.now h.0 }
+fn rests(tree: &Tree, entries: &Table<Entry>, h: Handle) -> bool
+    ensures { result ≡ true → Rests tree.now.forest entries.now h.0 }
 {
     if !tree.has(h) {
         return false;
     }
-    match boxes.get(h.0 as u32) {
-        Some(own) => is_steady(own),
+    match entries.get(h.0 as u32) {
+        Some(own) => is_steady(&own.wanted),
         None => false,
     }
 }
 
 /// Makes a mark of an object's children one of the object, but where it rests.
-fn raise(tree: &Tree, boxes: &Table<LayoutBox>, pending: &mut Table<Mark>, h: Handle)
+fn raise(tree: &Tree, entries: &Table<Entry>, pending: &mut Table<Mark>, h: Handle)
     ensures own { is_partly pending.old h.0 ≡ true → is_pending pending.new h.0 ≡ false →
-        Rests tree.now.forest boxes.now h.0 }
+        Rests tree.now.forest entries.now h.0 }
     ensures more { (k : ℕ) → is_pending pending.old k ≡ true → is_pending pending.new k ≡ true }
     ensures still { (k : ℕ) → is_partly pending.old k ≡ true → is_pending pending.new k ≡ false →
         is_partly pending.new k ≡ true }
@@ -40,7 +40,7 @@ fn raise(tree: &Tree, boxes: &Table<LayoutBox>, pending: &mut Table<Mark>, h: Ha
     if !is_partly(pending, h) {
         return;
     }
-    if rests(tree, boxes, h) {
+    if rests(tree, entries, h) {
         return;
     }
     let _ = pending.replace(h.0 as u32, Mark::All);
@@ -49,17 +49,17 @@ fn raise(tree: &Tree, boxes: &Table<LayoutBox>, pending: &mut Table<Mark>, h: Ha
 /// Makes the marks of children marks of their parents, but of those that rest.
 pub(crate) fn raise_marks(
     tree: &Tree,
-    boxes: &Table<LayoutBox>,
+    entries: &Table<Entry>,
     pending: &mut Table<Mark>,
     marked: &[Handle],
 )
     ensures own { (k : ℕ) → 0 < times marked.now k → is_partly pending.old k ≡ true →
-        is_pending pending.new k ≡ false → Rests tree.now.forest boxes.now k }
+        is_pending pending.new k ≡ false → Rests tree.now.forest entries.now k }
     ensures more { (k : ℕ) → is_pending pending.old k ≡ true → is_pending pending.new k ≡ true }
     ensures any { (k : ℕ) → is_any (value_at pending.new k) ≡ is_any (value_at pending.old k) }
     ensures listed { listing_of pending.new ≡ listing_of pending.old }
 {
     for h in marked {
-        raise(tree, boxes, pending, *h);
+        raise(tree, entries, pending, *h);
     }
 }

@@ -33,7 +33,7 @@ pub(crate) fn is_steady(own: &LayoutBox) -> bool
     ensures value { (h : ℕ) → result ≡ is_steady (box_of h own.now) }
     ensures steady { result ≡ true → (h : ℕ) → IsSteady (box_of h own.now) }
 {
-    is_free(course_of(own.flow)) && (!is_content(own.width) && !is_content(own.height))
+    is_free(course_of(own.flow)) && (!is_content(own.across.size) && !is_content(own.down.size))
 }
 
 /// Whether trees of any height have room in an object that stands there.

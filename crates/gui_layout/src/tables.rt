@@ -1,51 +1,119 @@
-//! What is found of objects, by handle.
-ghost use Rattle.std.specs.Prelude.{◌≡◌, ◌≤◌, true, slice_index, slice_set};
-ghost use Rattle.gui_layout.specs.Tables.{IsListed, sizes_of, listing_of};
-ghost use Rattle.gui_layout.specs.Slots.{slot_of, slot_at, slots_of};
+//! Entries by handle.
+ghost use Rattle.std.specs.Prelude.{◌≡◌, ◌≤◌, Some, true, is_some, slice_set};
+ghost use Rattle.gui_pool.specs.Table.{value_at};
+ghost use Rattle.gui_layout.specs.Slots.{slot_of};
+ghost use Rattle.gui_layout.specs.Tables.{told, IsEntry, IsListed, listing_of};
 
-use crate::position::Position;
+use crate::entry::Entry;
+use crate::layout_box::LayoutBox;
+use crate::position::{CORNER, Position};
 use crate::size::Size;
 use gui_base::Handle;
 use gui_pool::Table;
 
-/// The size of an object: 0 where it has none.
-pub(crate) fn size_at(sizes: &Table<Size>, h: Handle) -> u16
-    ensures value { result ≡ slice_index (sizes_of sizes.now) h.0 }
-    ensures small { result ≤ 8191 }
+/// The entry of an object that has one.
+#[inline]
+pub(crate) fn entry_of(entries: &Table<Entry>, h: Handle) -> &Entry
+    requires { IsListed (listing_of entries.now) h.0 }
+    ensures entry { Some result.now ≡ value_at entries.now h.0 }
+    ensures told { IsEntry (told entries.now) h.0 result.now }
 {
-    match sizes.get(h.0 as u32) {
-        Some(size) => size.pixels,
-        None => 0,
+    let Some(found) = entries.get(h.0 as u32) else {
+        unreachable!()
+    };
+    found
+}
+
+/// Whether an object has an entry.
+pub(crate) fn has_entry(entries: &Table<Entry>, h: Handle) -> bool
+    ensures { result ≡ is_some (value_at entries.now h.0) }
+{
+    entries.get(h.0 as u32).is_some()
+}
+
+/// An entry with this box, of which nothing is found.
+pub(crate) fn new_entry(wanted: LayoutBox) -> Entry
+    ensures { result.wanted ≡ wanted }
+{
+    let none = Size { pixels: 0 };
+    Entry {
+        wanted,
+        natural_width: none,
+        width: none,
+        natural_height: none,
+        position: CORNER,
     }
 }
 
-/// Gives another size to an object that has one. Nothing is written where it is the same: most sizes stay.
-#[inline]
-pub(crate) fn set_size(sizes: &mut Table<Size>, h: Handle, pixels: u16)
-    requires listed { IsListed (listing_of sizes.old) h.0 }
-    requires small { pixels ≤ 8191 }
-    ensures set { sizes_of sizes.new ≡ slice_set (sizes_of sizes.old) h.0 pixels }
-    ensures listed { listing_of sizes.new ≡ listing_of sizes.old }
+/// Gives another box to an object that has an entry.
+pub(crate) fn set_wanted(entries: &mut Table<Entry>, h: Handle, wanted: LayoutBox)
+    requires { IsListed (listing_of entries.old) h.0 }
+    ensures set { told entries.new ≡ record (told entries.old) {
+      boxes = slice_set (told entries.old).boxes h.0 (Some wanted);
+    } }
+    ensures listed { listing_of entries.new ≡ listing_of entries.old }
 {
-    let known = size_at(sizes, h);
-    if known == pixels {
+    let mut changed = *entry_of(entries, h);
+    changed.wanted = wanted;
+    let _ = entries.replace(h.0 as u32, changed);
+}
+
+/// Gives another natural width to an object that has an entry. Nothing is written where it is the same: most
+/// sizes stay.
+#[inline]
+pub(crate) fn set_natural_width(entries: &mut Table<Entry>, h: Handle, pixels: u16)
+    requires listed { IsListed (listing_of entries.old) h.0 }
+    requires small { pixels ≤ 8191 }
+    ensures set { told entries.new ≡ record (told entries.old) {
+      natural_widths = slice_set (told entries.old).natural_widths h.0 pixels;
+    } }
+    ensures listed { listing_of entries.new ≡ listing_of entries.old }
+{
+    let known = entry_of(entries, h);
+    if known.natural_width.pixels == pixels {
         return;
     }
-    let _ = sizes.replace(h.0 as u32, Size { pixels });
+    let mut changed = *known;
+    changed.natural_width = Size { pixels };
+    let _ = entries.replace(h.0 as u32, changed);
 }
 
-/// Where an object stands: in the panel's corner, with no height, where it has no place.
-pub(crate) fn position_at(places: &Table<Position>, h: Handle) -> Position
-    ensures { slot_of result ≡ slot_at (slots_of places.now) h.0 }
+/// Gives another width to an object that has an entry. Nothing is written where it is the same.
+#[inline]
+pub(crate) fn set_width(entries: &mut Table<Entry>, h: Handle, pixels: u16)
+    requires listed { IsListed (listing_of entries.old) h.0 }
+    requires small { pixels ≤ 8191 }
+    ensures set { told entries.new ≡ record (told entries.old) {
+      widths = slice_set (told entries.old).widths h.0 pixels;
+    } }
+    ensures listed { listing_of entries.new ≡ listing_of entries.old }
 {
-    match places.get(h.0 as u32) {
-        Some(position) => *position,
-        None => Position {
-            x: 0,
-            y: 0,
-            height: 0,
-        },
+    let known = entry_of(entries, h);
+    if known.width.pixels == pixels {
+        return;
     }
+    let mut changed = *known;
+    changed.width = Size { pixels };
+    let _ = entries.replace(h.0 as u32, changed);
+}
+
+/// Gives another natural height to an object that has an entry. Nothing is written where it is the same.
+#[inline]
+pub(crate) fn set_natural_height(entries: &mut Table<Entry>, h: Handle, pixels: u16)
+    requires listed { IsListed (listing_of entries.old) h.0 }
+    requires small { pixels ≤ 8191 }
+    ensures set { told entries.new ≡ record (told entries.old) {
+      natural_heights = slice_set (told entries.old).natural_heights h.0 pixels;
+    } }
+    ensures listed { listing_of entries.new ≡ listing_of entries.old }
+{
+    let known = entry_of(entries, h);
+    if known.natural_height.pixels == pixels {
+        return;
+    }
+    let mut changed = *known;
+    changed.natural_height = Size { pixels };
+    let _ = entries.replace(h.0 as u32, changed);
 }
 
 /// Whether both are the same place.
@@ -55,16 +123,21 @@ fn is_same(position: &Position, other: &Position) -> bool
     position.x == other.x && position.y == other.y && position.height == other.height
 }
 
-/// Gives another place to an object that has one. Nothing is written where it is the same: most places stay.
+/// Gives another place to an object that has an entry. Nothing is written where it is the same: most places
+/// stay.
 #[inline]
-pub(crate) fn set_position(places: &mut Table<Position>, h: Handle, position: Position)
-    requires { IsListed (listing_of places.old) h.0 }
-    ensures set { slots_of places.new ≡ slice_set (slots_of places.old) h.0 (slot_of position) }
-    ensures listed { listing_of places.new ≡ listing_of places.old }
+pub(crate) fn set_position(entries: &mut Table<Entry>, h: Handle, position: Position)
+    requires { IsListed (listing_of entries.old) h.0 }
+    ensures set { told entries.new ≡ record (told entries.old) {
+      slots = slice_set (told entries.old).slots h.0 (slot_of position);
+    } }
+    ensures listed { listing_of entries.new ≡ listing_of entries.old }
 {
-    let known = position_at(places, h);
-    if is_same(&known, &position) {
+    let known = entry_of(entries, h);
+    if is_same(&known.position, &position) {
         return;
     }
-    let _ = places.replace(h.0 as u32, position);
+    let mut changed = *known;
+    changed.position = position;
+    let _ = entries.replace(h.0 as u32, changed);
 }

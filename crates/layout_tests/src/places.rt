@@ -184,7 +184,7 @@ fn settled_unmarked(alloc: Global) -> Result<Places, &'static str> {
     let Ok(mut marks) = Marks::open(alloc, 4) else {
         return Err("no memory");
     };
-    places.settle_marks(&store, &mut marks);
+    places.settle(&store, &mut marks);
     Ok(places)
 }
 

@@ -17,14 +17,14 @@ right : (c : After-mark_new) → AreSettledButMarks c.args.places.now (scene_of 
 right c =
     new-right c.args.places.now (scene_of c.args.store.now) c.requires.was.made c.requires.was.concerned c.requires.was.removed c.args.h c.args.parent c.requires.was.edited c.mark_new.new.marks c.mark_new.ensures.own c.mark_new.ensures.parent
 
-pub settle_marks-requires-clause-but : goal.settle_marks-requires-clause-but
-settle_marks-requires-clause-but c =
+pub settle-requires-clause-but : goal.settle-requires-clause-but
+settle-requires-clause-but c =
     let scene = scene_of c.args.store.now in
     let marks = c.mark_new.new.marks in
-    right_fewer c.args.places.now scene anyone (in_marked (is_marked marks) scene) (is_changed marks) (is_parent marks) (λ k looked. refl) (right (goal.at.settle_marks-requires-clause-but c).After-mark_new).right
+    right_fewer c.args.places.now scene anyone (in_marked (is_marked marks) scene) (is_changed marks) (is_parent marks) (λ k looked. refl) (right (goal.at.settle-requires-clause-but c).After-mark_new).right
 
 pub returns-clause-settled : goal.returns-clause-settled
-returns-clause-settled c = c.settle_marks.ensures.settled (right (goal.at.returns-clause-settled c).After-mark_new)
+returns-clause-settled c = c.settle.ensures.settled (right (goal.at.returns-clause-settled c).After-mark_new)
 
 pub returns-clause-none : goal.returns-clause-none
-returns-clause-none c = record { none = c.settle_marks.ensures.empty; most = c.settle_marks.ensures.most ∙ (c.mark_new.ensures.most ∙ c.requires.none.most) }
+returns-clause-none c = record { none = c.settle.ensures.empty; most = c.settle.ensures.most ∙ (c.mark_new.ensures.most ∙ c.requires.none.most) }

@@ -1,11 +1,8 @@
-use Rattle.std.proofs.Common.{◌≡◌, ◌≤◌, ℕ, true, ◌&&◌, ◌||◌}
+use Rattle.std.proofs.Common.{◌≡◌, ◌≤◌, ℕ, true, ◌||◌}
 use Rattle.gui_base.specs.Forest.{has, size}
-use Rattle.gui_store.specs.Views.{scene_of}
-use Rattle.scene_defs.specs.Scene.{handles_of}
 use Rattle.gui_layout.specs.Marks.{is_changed, is_parent, most_marks}
 use Rattle.gui_layout.specs.Walks.{trees_from}
 use Rattle.gui_layout.proofs.Parts.{IsNext}
-use Rattle.gui_change.specs.Concerned.{may_be}
 use Rattle.gui_change.specs.Marking.{AreMarked}
 use Rattle.gui_change.proofs.marking.+mark_trees.Given as goal
 
@@ -16,12 +13,11 @@ abbrev pub invariant-loop-next : goal.invariant-loop-next
 invariant-loop-next l =
     let f = l.tree.forest in
     let later = trees_from l.next f in
-    let may = may_be (scene_of l.store) l.concerned in
     record {
       next_is : IsNext f l.next;
       fewer : size later ≤ size (trees_from l.fn.first f);
-      room : AreMarked l.marks (handles_of (scene_of l.store).trees);
-      changed : (k : ℕ) → (is_changed l.marks k || (has later k && may k)) ≡ (is_changed l.fn.marks k || (has (trees_from l.fn.first f) k && may k));
+      room : AreMarked l.marks f;
+      changed : (k : ℕ) → (is_changed l.marks k || has later k) ≡ (is_changed l.fn.marks k || has (trees_from l.fn.first f) k);
       most : most_marks l.marks ≡ most_marks l.fn.marks;
       parents : (k : ℕ) → is_parent l.marks k ≡ true → is_parent l.fn.marks k ≡ true;
     }

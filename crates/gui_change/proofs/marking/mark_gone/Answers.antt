@@ -1,4 +1,4 @@
-use Rattle.std.proofs.Common.{◌≡◌, ◌∙◌, ◌<◌, ◌≤◌, ◌+◌, sym, ap, subst, ℕ, Bool, true, false, ◌||◌, Option, Some, None, length, arith}
+use Rattle.std.proofs.Common.{◌≡◌, ◌∙◌, sym, ap, subst, ℕ, Bool, true, ◌||◌, Some, None, length, arith}
 use Rattle.std.proofs.lemmas.List.{length-map}
 use Rattle.debt_defs.specs.Look.{is_among}
 use Rattle.gui_base.specs.declared.Handle.{Handle}

@@ -1,12 +1,12 @@
-use Rattle.std.proofs.Common.{◌≡◌, ◌∙◌, ◌∷◌, [], ◌+◌, ◌≤◌, ◌<◌, sym, ap, refl, ℕ, Bool, true, false, eqb, cond, ◌||◌, List, drop, get_or, length, arith}
+use Rattle.std.proofs.Common.{◌≡◌, ◌∙◌, [], ◌+◌, ◌≤◌, sym, ap, refl, ℕ, Bool, true, false, eqb, cond, ◌||◌, List, drop, get_or, arith}
 use Rattle.std.proofs.lemmas.List.{drop_all}
 use Rattle.debt_defs.specs.Look.{is_among}
 use Rattle.gui_base.specs.declared.Handle.{Handle}
 use Rattle.gui_tree.specs.Handles.{numbers}
-use Rattle.gui_layout.specs.Marks.{is_changed, is_marked, mark_count, most_marks}
+use Rattle.gui_layout.specs.Marks.{is_changed, is_marked, mark_count}
 use Rattle.gui_change.proofs.Marks.{also-mark, or-false, or-three}
 use Rattle.gui_change.proofs.Orders.{nobody}
-use Rattle.gui_change.proofs.Within.{next_of}
+use Rattle.gui_change.proofs.Renewing.{next_of}
 use Rattle.gui_change.proofs.marking.mark_listed.Goals as goal
 
 pub loop-h-init : goal.loop-h-init

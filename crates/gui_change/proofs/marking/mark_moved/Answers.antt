@@ -1,14 +1,13 @@
-use Rattle.std.proofs.Common.{◌≡◌, ◌∙◌, sym, ap, refl, ℕ, Bool, true, false, ◌&&◌, ◌||◌, arith}
+use Rattle.std.proofs.Common.{◌≡◌, ◌∙◌, sym, ℕ, true, false, ◌&&◌, arith}
 use Rattle.std.proofs.lemmas.Bool.{and_from, both_ways, false_from_ne_true, or_right}
-use Rattle.gui_pool.specs.Table.{value_at}
 use Rattle.gui_store.specs.Views.{scene_of}
 use Rattle.scene_defs.specs.Scene.{is_there}
 use Rattle.gui_layout.specs.Marks.{is_changed, is_marked, is_parent}
-use Rattle.gui_layout.specs.declared.marks.Marks.{Marks}
 use Rattle.gui_layout.proofs.Entering.{few}
 use Rattle.gui_change.specs.Concerned.{may_be}
-use Rattle.gui_change.proofs.Unmoved.{nobody-told, others-told}
+use Rattle.gui_change.proofs.Unmoved.{nobody-boxes, nobody-told, others-boxes, others-told}
 use Rattle.gui_change.proofs.marking.mark_moved.Goals as goal
+use Rattle.gui_change.proofs.marking.mark_moved.Goals.{After-mark_concerned}
 
 pub returns-then-moves_nobody-clause-tell : goal.returns-then-moves_nobody-clause-tell
 returns-then-moves_nobody-clause-tell c edit removed kept places was =
@@ -21,11 +20,24 @@ mark_concerned-requires c =
     let most = c.requires.none.most in
     record { room = record { there = λ k is. absurd (both_ways (is_marked c.args.marks.now k) (c.requires.none.none k) is); room = omega arith } }
 
+-- what is there and not marked is none that the change may concern
+off-may : (c : After-mark_concerned) (k : ℕ) → is_there (scene_of c.args.store.now) k ≡ true → is_changed c.mark_concerned.new.marks k ≡ false → may_be (scene_of c.args.store.now) c.args.concerned k ≡ false
+off-may c k there off =
+    let scene = scene_of c.args.store.now in
+    false_from_ne_true (may_be scene c.args.concerned k) (λ may.
+    both_ways (is_changed c.mark_concerned.new.marks k) off
+    (c.mark_concerned.ensures.marks.changed k ∙ or_right (is_changed c.args.marks.now k) (is_there scene k && may_be scene c.args.concerned k) (and_from (is_there scene k) (may_be scene c.args.concerned k) there may)))
+
 pub returns-clause-tell : goal.returns-clause-tell
 returns-clause-tell c edit removed kept places was =
     let scene = scene_of c.args.store.now in
     let marks = c.mark_concerned.new.marks in
-    others-told places scene edit c.args.change.now c.args.concerned removed was (is_changed marks) (is_parent marks) kept
-    (λ k there off. false_from_ne_true (may_be scene c.args.concerned k) (λ may.
-    both_ways (is_changed marks k) off
-    (c.mark_concerned.ensures.marks.changed k ∙ or_right (is_changed c.args.marks.now k) (is_there scene k && may_be scene c.args.concerned k) (and_from (is_there scene k) (may_be scene c.args.concerned k) there may))))
+    others-told places scene edit c.args.change.now c.args.concerned removed was (is_changed marks) (is_parent marks) kept (off-may (goal.at.returns-clause-tell c).After-mark_concerned)
+
+pub returns-then-moves_nobody-clause-boxes : goal.returns-then-moves_nobody-clause-boxes
+returns-then-moves_nobody-clause-boxes c edit removed kept places was k there un =
+    nobody-boxes places (scene_of c.args.store.now) c.args.change.now c.args.concerned was.was (sym c.moves_nobody.ensures ∙ c.if-moves_nobody.true) k
+
+pub returns-clause-boxes : goal.returns-clause-boxes
+returns-clause-boxes c edit removed kept places was k there un =
+    others-boxes places (scene_of c.args.store.now) edit c.args.change.now c.args.concerned removed was k there (off-may (goal.at.returns-clause-boxes c).After-mark_concerned k there un)

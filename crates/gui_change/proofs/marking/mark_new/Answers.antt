@@ -1,6 +1,6 @@
-use Rattle.std.proofs.Common.{◌≡◌, ◌∙◌, sym, ap, subst, ℕ, true, eqb}
+use Rattle.std.proofs.Common.{◌≡◌, ◌∙◌, subst, true, eqb}
 use Rattle.std.proofs.lemmas.Bool.{eqb-true}
-use Rattle.gui_base.specs.Forest.{Forest, has}
+use Rattle.gui_base.specs.Forest.{has}
 use Rattle.gui_store.specs.Views.{scene_of}
 use Rattle.scene_defs.specs.Scene.{handles_of}
 use Rattle.gui_change.proofs.Marks.{also-mark, none-there, room, there-still}

@@ -1,30 +1,26 @@
-use Rattle.std.proofs.Common.{◌≡◌, ◌∙◌, sym, ap, refl, subst, ℕ, true, false, eqb, ◌&&◌, ◌||◌, inl, inr}
-use Rattle.std.proofs.lemmas.Bool.{cases_Bool, eqb-true}
-use Rattle.gui_base.specs.Forest.{Forest, has}
-use Rattle.gui_store.specs.Views.{scene_of}
-use Rattle.scene_defs.specs.Scene.{is_there}
-use Rattle.gui_layout.specs.Marks.{is_changed}
-use Rattle.gui_change.specs.Concerned.{may_be}
-use Rattle.gui_change.proofs.Marks.{also-alike, also-none}
+use Rattle.std.proofs.Common.{◌∙◌, sym, eqb, ◌&&◌}
+use Rattle.std.proofs.lemmas.Bool.{and_parts}
+use Rattle.gui_base.specs.Forest.{has}
+use Rattle.gui_change.specs.Marking.{AlsoMarks}
+use Rattle.gui_change.proofs.Marks.{also-none, also-one, room, there-still}
 use Rattle.gui_change.proofs.marking.mark_there.Goals as goal
+use Rattle.gui_change.proofs.marking.mark_there.Goals.{After-mark}
 
 pub returns-then-not-has-clause-marks : goal.returns-then-not-has-clause-marks
-returns-then-not-has-clause-marks c =
-    let scene = scene_of c.args.store.now in
-    let gone : is_there scene c.args.h.0 ≡ false = ap (λ (f : Forest ℕ). has f c.args.h.0) (sym c.tree.ensures.forest) ∙ (sym c.has.ensures ∙ c.if-not-has.true) in
-    also-none c.args.marks.now c.args.h.0 (λ k. is_there scene k && may_be scene c.args.concerned k) (rw gone refl)
+returns-then-not-has-clause-marks c = also-none c.args.marks.now c.args.h.0 (has c.args.tree.now.forest) (sym c.has.ensures ∙ c.if-not-has.true)
 
-pub mark_one-requires-clause-there : goal.mark_one-requires-clause-there
-mark_one-requires-clause-there c = ap (λ (f : Forest ℕ). has f c.args.h.0) (sym c.tree.ensures.forest) ∙ (sym c.has.ensures ∙ c.if-not-has.false)
+pub mark-requires : goal.mark-requires
+mark-requires c = record { room = room c.args.marks.now c.args.tree.now.forest c.args.h c.requires.room (sym c.has.ensures ∙ c.if-not-has.false) }
+
+also : (c : After-mark) → AlsoMarks c.args.marks.now c.mark.new.self (λ k. eqb c.args.h.0 k && has c.args.tree.now.forest k)
+also c =
+    also-one c.args.marks.now c.mark.new.self c.args.h.0 (has c.args.tree.now.forest) (sym c.has.ensures ∙ c.if-not-has.false) c.mark.ensures.own c.mark.ensures.others c.mark.ensures.parents
 
 pub returns-clause-marks : goal.returns-clause-marks
-returns-clause-marks c =
-    let scene = scene_of c.args.store.now in
-    let may = may_be scene c.args.concerned in
-    let h = c.args.h.0 in
-    let there : is_there scene h ≡ true = ap (λ (f : Forest ℕ). has f h) (sym c.tree.ensures.forest) ∙ (sym c.has.ensures ∙ c.if-not-has.false) in
-    also-alike c.args.marks.now c.mark_one.new.marks (λ k. eqb h k && may k) (λ k. eqb h k && (is_there scene k && may k)) c.mark_one.ensures.marks
-    (λ k. elim (cases_Bool (eqb h k)) [
-      | inl same ↦ let here : is_there scene k ≡ true = subst (λ j. is_there scene j ≡ true) (eqb-true h k same) there in rw (same, here) refl
-      | inr other ↦ rw other refl
-    ])
+returns-clause-marks c = also (goal.at.returns-clause-marks c).After-mark
+
+pub returns-clause-room : goal.returns-clause-room
+returns-clause-room c =
+    let f = c.args.tree.now.forest in
+    there-still c.args.marks.now c.mark.new.self f (λ k. eqb c.args.h.0 k && has f k) c.requires.room (also (goal.at.returns-clause-room c).After-mark)
+    (λ k is. (and_parts (eqb c.args.h.0 k) (has f k) is).1) c.mark.ensures.most

@@ -1,13 +1,13 @@
 use Rattle.std.proofs.Common.{◌≡◌, ◌∙◌, sym, ap, subst, refl, Option, arith}
 use Rattle.gui_base.specs.Forest.{Empty, Tree}
 use Rattle.gui_base.specs.declared.Handle.{Handle}
-use Rattle.gui_layout.specs.Layouts.{told, KeepsRest}
+use Rattle.gui_layout.specs.Layouts.{KeepsRest}
 use Rattle.gui_layout.specs.Settled.{Layout, known, AllFit}
 use Rattle.gui_store.specs.Views.{scene_of}
 use Rattle.gui_layout.specs.Scenes.{scene_box}
 use Rattle.gui_layout.proofs.Parts.{whole, distinct_once, distinct-part, has-part, here, first_of, IsHead, next_head, next_first, IsNext, GoesOn, trees_from, trees_from-first_of, walk_goes_on}
 use Rattle.gui_layout.proofs.Renewals.{holds-still, renewed-in}
-use Rattle.gui_layout.specs.Tables.{Listing, IsListed, AreListed}
+use Rattle.gui_layout.specs.Tables.{Listing, IsListed, AreListed, told}
 use Rattle.gui_layout.proofs.Settling.{tree-in}
 use Rattle.gui_layout.proofs.Solves.{Solves, solves_none, solves_first}
 use Rattle.gui_layout.proofs.all.solve_trees.Goals as goal
@@ -21,14 +21,10 @@ loop-next-init c =
     record {
       next_is = next_first f f c.first_root-next.result whole distinct is;
       boxes = c.requires.boxes;
-      listed_boxes = refl;
       listed = refl;
-      listed_widths = refl;
-      listed_heights = refl;
-      listed_places = refl;
       capacity = refl;
       later = λ (now : Layout) all.
-          subst (Solves (scene_box (scene_of c.args.store.now)) c.args.width.pixels c.args.height.pixels (told c.args.natural_widths.now c.args.widths.now c.args.natural_heights.now c.args.places.now) now)
+          subst (Solves (scene_box (scene_of c.args.store.now)) c.args.width.pixels c.args.height.pixels (told c.args.entries.now) now)
           (ap (λ (o : Option Handle). trees_from o f) is ∙ trees_from-first_of f f whole distinct) all;
     }
 
@@ -39,22 +35,10 @@ pub solve_tree-requires-clause-boxes : goal.solve_tree-requires-clause-boxes
 solve_tree-requires-clause-boxes c =
     let f = c.args.tree.now.forest in
     let inv = c.loop-next.invariant in
-    renewed-in (scene_of c.args.store.now) c.loop-next.boxes f c.in-Some.root.0 inv.boxes (subst (λ (ks : Listing). AreListed ks f) (sym inv.listed_boxes) c.requires.listed_boxes)
-
-pub solve_tree-requires-clause-listed_boxes : goal.solve_tree-requires-clause-listed_boxes
-solve_tree-requires-clause-listed_boxes c k i = subst (λ (ks : Listing). IsListed ks k) (sym c.loop-next.invariant.listed_boxes) (c.requires.listed_boxes k (tree-in c.in-Some.root.0 k c.args.tree.now.forest i))
+    renewed-in (scene_of c.args.store.now) c.loop-next.entries f c.in-Some.root.0 inv.boxes (subst (λ (ks : Listing). AreListed ks f) (sym inv.listed) c.requires.listed)
 
 pub solve_tree-requires-clause-listed : goal.solve_tree-requires-clause-listed
 solve_tree-requires-clause-listed c k i = subst (λ (ks : Listing). IsListed ks k) (sym c.loop-next.invariant.listed) (c.requires.listed k (tree-in c.in-Some.root.0 k c.args.tree.now.forest i))
-
-pub solve_tree-requires-clause-listed_widths : goal.solve_tree-requires-clause-listed_widths
-solve_tree-requires-clause-listed_widths c k i = subst (λ (ks : Listing). IsListed ks k) (sym c.loop-next.invariant.listed_widths) (c.requires.listed_widths k (tree-in c.in-Some.root.0 k c.args.tree.now.forest i))
-
-pub solve_tree-requires-clause-listed_heights : goal.solve_tree-requires-clause-listed_heights
-solve_tree-requires-clause-listed_heights c k i = subst (λ (ks : Listing). IsListed ks k) (sym c.loop-next.invariant.listed_heights) (c.requires.listed_heights k (tree-in c.in-Some.root.0 k c.args.tree.now.forest i))
-
-pub solve_tree-requires-clause-listed_places : goal.solve_tree-requires-clause-listed_places
-solve_tree-requires-clause-listed_places c k i = subst (λ (ks : Listing). IsListed ks k) (sym c.loop-next.invariant.listed_places) (c.requires.listed_places k (tree-in c.in-Some.root.0 k c.args.tree.now.forest i))
 
 pub solve_tree-requires-clause-there : goal.solve_tree-requires-clause-there
 solve_tree-requires-clause-there c =
@@ -82,8 +66,8 @@ loop-next-preserved c =
     let box = scene_box (scene_of c.args.store.now) in
     let g = goes d in
     let h = c.in-Some.root.0 in
-    let was = told c.loop-next.natural_widths c.loop-next.widths c.loop-next.natural_heights c.loop-next.places in
-    let now = told c.solve_tree.new.natural_widths c.solve_tree.new.widths c.solve_tree.new.natural_heights c.solve_tree.new.places in
+    let was = told c.loop-next.entries in
+    let now = told c.solve_tree.new.entries in
     let tree = Tree h g.children Empty in
     let stands = c.solve_tree.ensures.stands in
     let first : Solves box c.args.width.pixels c.args.height.pixels was now tree = record {
@@ -95,12 +79,8 @@ loop-next-preserved c =
     } in
     record {
       next_is = g.next_is;
-      boxes = holds-still (scene_of c.args.store.now) c.loop-next.boxes c.solve_tree.new.boxes inv.boxes c.solve_tree.ensures.boxes c.solve_tree.ensures.listed_boxes;
-      listed_boxes = c.solve_tree.ensures.listed_boxes ∙ inv.listed_boxes;
+      boxes = holds-still (scene_of c.args.store.now) c.loop-next.entries c.solve_tree.new.entries inv.boxes c.solve_tree.ensures.boxes c.solve_tree.ensures.listed;
       listed = c.solve_tree.ensures.listed ∙ inv.listed;
-      listed_widths = c.solve_tree.ensures.listed_widths ∙ inv.listed_widths;
-      listed_heights = c.solve_tree.ensures.listed_heights ∙ inv.listed_heights;
-      listed_places = c.solve_tree.ensures.listed_places ∙ inv.listed_places;
       capacity = c.solve_tree.ensures.capacity ∙ inv.capacity;
       later = λ (last : Layout) all.
           inv.later last
@@ -112,6 +92,6 @@ pub returns-clause-settled : goal.returns-clause-settled
 returns-clause-settled c =
     let f = c.args.tree.now.forest in
     let box = scene_box (scene_of c.args.store.now) in
-    let now = told c.loop-next.natural_widths c.loop-next.widths c.loop-next.natural_heights c.loop-next.places in
+    let now = told c.loop-next.entries in
     let none : trees_from c.loop-next.next f ≡ Empty = ap (λ (o : Option Handle). trees_from o f) c.in_default.is in
     (c.loop-next.invariant.later now (subst (Solves box c.args.width.pixels c.args.height.pixels now now) (sym none) (solves_none box c.args.width.pixels c.args.height.pixels now))).settled

@@ -30,27 +30,19 @@ loop-h-preserved c =
           let items : w.push_reserved.new.self.items ≡ xs ++ h ∷ [] = w.push_reserved.ensures.items in
           let over : xs ++ drop i hs ≡ w.push_reserved.new.self.items ++ ys = goes-over xs ys (drop i hs) h first ∙ ap (λ ws. ws ++ ys) (sym items) in
           let len = w.push_reserved.ensures.len in
-          rw (w.found-is, w.boxes-is, w.natural_widths-is, w.widths-is, w.natural_heights-is, w.positions-is) (record {
+          rw (w.found-is, w.entries-is) (record {
             found = ap (λ ws. ws ++ those_in f ys) items ∙ goes-on xs ys (drop i hs) h first f hs inv.found there;
             few = omega arith;
             capacity = w.push_reserved.ensures.capacity ∙ inv.capacity;
-            boxes = subst (λ left. KeepsLeft f hs left c.args.boxes.now c.loop-h.boxes) over inv.boxes;
-            natural_widths = subst (λ left. KeepsLeft f hs left c.args.natural_widths.now c.loop-h.natural_widths) over inv.natural_widths;
-            widths = subst (λ left. KeepsLeft f hs left c.args.widths.now c.loop-h.widths) over inv.widths;
-            natural_heights = subst (λ left. KeepsLeft f hs left c.args.natural_heights.now c.loop-h.natural_heights) over inv.natural_heights;
-            positions = subst (λ left. KeepsLeft f hs left c.args.positions.now c.loop-h.positions) over inv.positions;
+            entries = subst (λ left. KeepsLeft f hs left c.args.entries.now c.loop-h.entries) over inv.entries;
           })
       | else-has w ↦
           let gone : has f h.0 ≡ false = sym c.has.ensures ∙ w.if-has.false in
-          rw (w.found-is, w.boxes-is, w.natural_widths-is, w.widths-is, w.natural_heights-is, w.positions-is) (record {
+          rw (w.found-is, w.entries-is) (record {
             found = goes-past xs ys (drop i hs) h first f hs inv.found gone;
             few = omega arith;
             capacity = inv.capacity;
-            boxes = left_gone f hs xs ys h c.args.boxes.now c.loop-h.boxes w.remove.new.self w.remove.result w.remove.ensures.value w.remove.ensures.removes w.remove.ensures.absent gone (subst (λ zs. KeepsLeft f hs (xs ++ zs) c.args.boxes.now c.loop-h.boxes) first inv.boxes);
-            natural_widths = left_gone f hs xs ys h c.args.natural_widths.now c.loop-h.natural_widths w.remove-else-has.new.self w.remove-else-has.result w.remove-else-has.ensures.value w.remove-else-has.ensures.removes w.remove-else-has.ensures.absent gone (subst (λ zs. KeepsLeft f hs (xs ++ zs) c.args.natural_widths.now c.loop-h.natural_widths) first inv.natural_widths);
-            widths = left_gone f hs xs ys h c.args.widths.now c.loop-h.widths w.remove-else-has-2.new.self w.remove-else-has-2.result w.remove-else-has-2.ensures.value w.remove-else-has-2.ensures.removes w.remove-else-has-2.ensures.absent gone (subst (λ zs. KeepsLeft f hs (xs ++ zs) c.args.widths.now c.loop-h.widths) first inv.widths);
-            natural_heights = left_gone f hs xs ys h c.args.natural_heights.now c.loop-h.natural_heights w.remove-else-has-3.new.self w.remove-else-has-3.result w.remove-else-has-3.ensures.value w.remove-else-has-3.ensures.removes w.remove-else-has-3.ensures.absent gone (subst (λ zs. KeepsLeft f hs (xs ++ zs) c.args.natural_heights.now c.loop-h.natural_heights) first inv.natural_heights);
-            positions = left_gone f hs xs ys h c.args.positions.now c.loop-h.positions w.remove-else-has-4.new.self w.remove-else-has-4.result w.remove-else-has-4.ensures.value w.remove-else-has-4.ensures.removes w.remove-else-has-4.ensures.absent gone (subst (λ zs. KeepsLeft f hs (xs ++ zs) c.args.positions.now c.loop-h.positions) first inv.positions);
+            entries = left_gone f hs xs ys h c.args.entries.now c.loop-h.entries w.remove.new.self w.remove.result w.remove.ensures.value w.remove.ensures.removes w.remove.ensures.absent gone (subst (λ zs. KeepsLeft f hs (xs ++ zs) c.args.entries.now c.loop-h.entries) first inv.entries);
           })
     ]
 
@@ -63,10 +55,4 @@ returns-clause-kept c =
     let xs = c.loop-h.found.items in
     let all : xs ++ drop c.loop-h.h-index hs ≡ those_in f hs =
     ap (λ zs. xs ++ zs) none_left ∙ (ap (λ zs. xs ++ those_in f zs) (sym none_left) ∙ inv.found) in
-    record {
-      boxes = left_all f hs (xs ++ drop c.loop-h.h-index hs) c.args.boxes.now c.loop-h.boxes all inv.boxes;
-      natural_widths = left_all f hs (xs ++ drop c.loop-h.h-index hs) c.args.natural_widths.now c.loop-h.natural_widths all inv.natural_widths;
-      widths = left_all f hs (xs ++ drop c.loop-h.h-index hs) c.args.widths.now c.loop-h.widths all inv.widths;
-      natural_heights = left_all f hs (xs ++ drop c.loop-h.h-index hs) c.args.natural_heights.now c.loop-h.natural_heights all inv.natural_heights;
-      positions = left_all f hs (xs ++ drop c.loop-h.h-index hs) c.args.positions.now c.loop-h.positions all inv.positions;
-    }
+    left_all f hs (xs ++ drop c.loop-h.h-index hs) c.args.entries.now c.loop-h.entries all inv.entries

@@ -11,9 +11,5 @@ invariant-loop-h l =
       found : l.found.items ++ those_in f (drop l.h-index l.listed) ≡ those_in f l.listed;
       few : vec_len l.found ≤ l.h-index;
       capacity : vec_capacity l.found ≡ vec_capacity l.fn.found;
-      boxes : KeepsLeft f l.listed left l.fn.boxes l.boxes;
-      natural_widths : KeepsLeft f l.listed left l.fn.natural_widths l.natural_widths;
-      widths : KeepsLeft f l.listed left l.fn.widths l.widths;
-      natural_heights : KeepsLeft f l.listed left l.fn.natural_heights l.natural_heights;
-      positions : KeepsLeft f l.listed left l.fn.positions l.positions;
+      entries : KeepsLeft f l.listed left l.fn.entries l.entries;
     }

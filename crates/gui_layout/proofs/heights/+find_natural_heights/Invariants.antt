@@ -1,10 +1,9 @@
 use Rattle.std.proofs.Common.{ℕ, List, ◌≡◌, ◌<◌, ◌≤◌, ◌+◌, ◌*◌, vec_capacity}
-use Rattle.std.specs.List.{fold}
 use Rattle.gui_base.specs.Forest.{roots, size, tree_at, children_of}
-use Rattle.gui_layout.specs.Columns.{with_kid_down, kids_column}
-use Rattle.gui_layout.specs.Rows.{row_of}
+use Rattle.gui_layout.specs.Rows.{row_of, down_kid, with_kids, sum_of}
 use Rattle.gui_layout.specs.Talls.{heights_of}
-use Rattle.gui_layout.specs.Tables.{sizes_of, listing_of}
+use Rattle.gui_layout.specs.Tables.{told, listing_of}
+use Rattle.gui_layout.specs.Layouts.{ButNaturalHeights}
 use Rattle.gui_layout.specs.Views.{box_at}
 use Rattle.gui_layout.proofs.Parts.{IsNext, trees_from}
 use Rattle.gui_layout.proofs.Within.{LieIn}
@@ -18,17 +17,18 @@ abbrev pub invariant-loop-next : goal.invariant-loop-next
 invariant-loop-next l =
     let f = l.tree.forest in
     let trees = trees_from l.next f in
-    let box = box_at l.boxes in
+    let box = box_at (told l.fn.entries).boxes in
     record {
       next_is : IsNext f l.next;
       inside : LieIn (trees_from l.next f) (tree_at f l.h.0);
       small : size trees < size (tree_at f l.h.0);
       few : l.row.count + size trees ≤ 4000;
       sized : l.row.size ≤ 70000 * l.row.count;
-      left : fold (with_kid_down l.course) (row_of l.row) (roots (heights_of box (sizes_of l.widths) trees)) ≡ kids_column l.course (roots (heights_of box (sizes_of l.widths) (children_of f l.h.0)));
-      listed : listing_of l.naturals ≡ listing_of l.fn.naturals;
+      left : with_kids down_kid l.run (row_of l.row) (roots (heights_of box (told l.fn.entries).widths trees)) ≡ sum_of down_kid l.run (roots (heights_of box (told l.fn.entries).widths (children_of f l.h.0)));
+      listed : listing_of l.entries ≡ listing_of l.fn.entries;
+      rest : ButNaturalHeights (told l.fn.entries) (told l.entries);
       capacity : vec_capacity l.items ≡ vec_capacity l.fn.items;
-      later : (u : List ℕ) → Heightens box (sizes_of l.widths) (sizes_of l.naturals) u (trees_from l.next f) → Heightens box (sizes_of l.widths) (sizes_of l.fn.naturals) u (children_of f l.h.0);
+      later : (u : List ℕ) → Heightens box (told l.fn.entries).widths (told l.entries).natural_heights u (trees_from l.next f) → Heightens box (told l.fn.entries).widths (told l.fn.entries).natural_heights u (children_of f l.h.0);
     }
 
 abbrev pub decreases-loop-next : goal.decreases-loop-next

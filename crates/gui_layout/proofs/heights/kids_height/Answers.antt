@@ -1,35 +1,36 @@
-use Rattle.std.proofs.Common.{◌∙◌, ◌+◌, ◌-◌, ap, refl, sym, slice_index}
+use Rattle.std.proofs.Common.{◌∙◌, ap, refl, sym}
 use Rattle.gui_base.specs.Forest.{roots, children_of}
 use Rattle.layout_defs.specs.declared.Course.{Course}
-use Rattle.layout_defs.specs.Boxes.{course_of}
+use Rattle.layout_defs.specs.Boxes.{course_of, inner}
 use Rattle.layout_defs.specs.Solving.{tall_box, taking_part, kids_height}
-use Rattle.gui_layout.specs.Tables.{sizes_of}
-use Rattle.gui_layout.specs.Views.{box_of, box_at}
-use Rattle.gui_layout.specs.Rows.{row_of}
-use Rattle.gui_layout.specs.Columns.{kids_column}
+use Rattle.gui_layout.specs.declared.measuring.Run.{Run}
+use Rattle.gui_layout.specs.Tables.{told}
+use Rattle.gui_layout.specs.Views.{axis_of, box_of, box_at}
+use Rattle.gui_layout.specs.Rows.{row_of, run_down, down_kid, sum_of, with_gaps}
 use Rattle.gui_layout.specs.Talls.{heights_of}
 use Rattle.gui_layout.proofs.Columns.{column_is, none_is}
 use Rattle.gui_layout.proofs.heights.kids_height.Goals as goal
 
 pub returns-then-row-eq0-clause-value : goal.returns-then-row-eq0-clause-value
 returns-then-row-eq0-clause-value c =
-    let own = c.args.own.now in
-    let room = slice_index (sizes_of c.args.widths.now) c.args.h.0 - (own.left + own.right) in
-    let kids = roots (heights_of (box_at c.args.boxes.now) (sizes_of c.args.widths.now) (children_of c.args.tree.now.forest c.args.h.0)) in
+    let own = c.args.own.now.wanted in
+    let room = inner (axis_of own.across) c.args.own.now.width.pixels in
+    let kids = roots (heights_of (box_at (told c.args.entries.now).boxes) (told c.args.entries.now).widths (children_of c.args.tree.now.forest c.args.h.0)) in
     sym (none_is (course_of own.flow) (box_of c.args.h.0 own) room kids (row_of c.args.row) c.requires.row c.if-row-eq0.true)
 
 pub returns-in_default : goal.returns-in_default
 returns-in_default c =
-    let own = c.args.own.now in
+    let own = c.args.own.now.wanted in
     let box = box_of c.args.h.0 own in
-    let room = slice_index (sizes_of c.args.widths.now) c.args.h.0 - (own.left + own.right) in
-    let kids = roots (heights_of (box_at c.args.boxes.now) (sizes_of c.args.widths.now) (children_of c.args.tree.now.forest c.args.h.0)) in
-    let row = c.requires.row ∙ ap (λ (course : Course). kids_column course kids) (sym c.course_of-course.ensures) in
+    let room = inner (axis_of own.across) c.args.own.now.width.pixels in
+    let kids = roots (heights_of (box_at (told c.args.entries.now).boxes) (told c.args.entries.now).widths (children_of c.args.tree.now.forest c.args.h.0)) in
+    let row = c.requires.row ∙ ap (λ (course : Course). sum_of down_kid (run_down course) kids) (sym c.course_of-course.ensures) in
     record {
       value =
           c.with_gaps.ensures.value
+          ∙ (ap (λ (run : Run). with_gaps run own.down.gap (row_of c.args.row)) c.run_down.ensures
           ∙ (column_is c.course_of-course.result box room kids (row_of c.args.row) c.in_default.not-Across row
-          ∙ ap (λ (course : Course). kids_height course box room (taking_part tall_box kids)) c.course_of-course.ensures);
+          ∙ ap (λ (course : Course). kids_height course box room (taking_part tall_box kids)) c.course_of-course.ensures));
       small = c.with_gaps.ensures.small;
       capacity = refl;
     }

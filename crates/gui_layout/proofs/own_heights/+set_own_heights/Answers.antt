@@ -1,12 +1,12 @@
-use Rattle.std.proofs.Common.{◌≡◌, ◌<◌, ◌∙◌, sym, ap, subst, ℕ, Option, Some, arith, rules}
+use Rattle.std.proofs.Common.{◌≡◌, ◌<◌, ◌∙◌, sym, ap, subst, ℕ, List, Option, Some, arith, rules}
 use Rattle.gui_base.specs.Forest.{Empty, Tree, size, tree_at}
 use Rattle.gui_base.specs.declared.Handle.{Handle}
-use Rattle.gui_pool.specs.Table.{Table}
 use Rattle.gui_store.specs.Views.{scene_of}
 use Rattle.gui_layout.specs.declared.layout_box.LayoutBox.{LayoutBox}
-use Rattle.gui_layout.specs.OwnHeights.{IsFixed, AreFixed}
+use Rattle.gui_layout.specs.OwnHeights.{IsFixed, AreFixed, KeepsFixed}
 use Rattle.gui_layout.specs.Scenes.{scene_box}
-use Rattle.gui_layout.specs.Tables.{Listing, IsListed, listing_of, sizes_of, AreListed}
+use Rattle.gui_layout.specs.Settled.{Layout}
+use Rattle.gui_layout.specs.Tables.{Listing, IsListed, listing_of, told, AreListed}
 use Rattle.gui_layout.proofs.Climbing.{in_own_tree}
 use Rattle.gui_layout.proofs.OwnHeights.{each_none, each_top, each_first}
 use Rattle.gui_layout.specs.Renewed.{AreRenewed}
@@ -29,13 +29,14 @@ loop-next-init t c =
     let at = there f c.args.h.0 c.requires.there in
     let known = found at.part distinct in
     let box = scene_box (scene_of c.args.store.now) in
-    let w = sizes_of c.args.widths.now in
+    let w = (told c.args.entries.now).widths in
     record {
       next_is = begins.next_is;
       small = rw (begins.all, known.children, known.tree) (omega arith);
       inside = begins_within f c.args.h.0 c.first_child-next.result begins.all;
       boxes = c.set_own_height.ensures.boxes;
       listed = c.set_own_height.ensures.listed;
+      rest = c.set_own_height.ensures.rest;
       kept = c.set_own_height.ensures.kept;
       top = c.set_own_height.ensures.fixed;
       later = λ u kept fixed. subst (AreFixed box w u) begins.all fixed;
@@ -57,8 +58,8 @@ set_own_heights-requires t c =
     let smaller : size (tree_at f c.in-Some.child.0) < size (tree_at f c.args.h.0) = rw known.tree (omega arith) in
     let inv = c.loop-next.invariant in
     let lies = tree_within f (tree_at f c.args.h.0) c.in-Some.child c.loop-next.next c.in-Some.is inv.inside (distinct_once f c.requires.once) e in
-    let listed : AreListed (listing_of c.loop-next.boxes) (tree_at f c.in-Some.child.0) = λ k i. subst (λ (ks : Listing). IsListed ks k) (sym inv.listed) (c.requires.listed k (lies k i)) in
-    let renewed : AreRenewed (scene_of c.args.store.now) c.loop-next.boxes (tree_at f c.in-Some.child.0) = λ k i. inv.boxes k (c.requires.boxes k (lies k i)) in
+    let listed : AreListed (listing_of c.loop-next.entries) (tree_at f c.in-Some.child.0) = λ k i. subst (λ (ks : Listing). IsListed ks k) (sym inv.listed) (c.requires.listed k (lies k i)) in
+    let renewed : AreRenewed (scene_of c.args.store.now) (told c.loop-next.entries).boxes (tree_at f c.in-Some.child.0) = λ k i. inv.boxes k (c.requires.boxes k (lies k i)) in
     (search rules, (c.requires.once, (listed, (has-part e.part c.in-Some.child.0 (here c.in-Some.child.0 e.children e.rest), renewed))))
 
 goes : (t : ℕ) (c : After-next-next t) → GoesOn c.args.tree.now.forest c.in-Some.child c.next-next.result
@@ -81,21 +82,24 @@ loop-next-preserved t c =
     let done = c.set_own_heights.ensures in
     let f = c.args.tree.now.forest in
     let box = scene_box (scene_of c.args.store.now) in
-    let w = sizes_of c.args.widths.now in
+    let w = (told c.args.entries.now).widths in
     let g = goes t d in
     let h = c.in-Some.child.0 in
     let small : size (Tree h g.children g.rest) < size (tree_at f c.args.h.0) = rw (now_is t d) at inv.small in
-    let first : AreFixed box w c.set_own_heights.new.boxes (Tree h g.children Empty) = subst (AreFixed box w c.set_own_heights.new.boxes) g.tree done.fixed in
+    let first : AreFixed box w (told c.set_own_heights.new.entries).boxes (Tree h g.children Empty) = subst (λ (l : Layout). AreFixed box l.widths (told c.set_own_heights.new.entries).boxes (Tree h g.children Empty)) inv.rest
+    (subst (AreFixed box (told c.loop-next.entries).widths (told c.set_own_heights.new.entries).boxes) g.tree done.fixed) in
+    let keeps : KeepsFixed box w (told c.loop-next.entries).boxes (told c.set_own_heights.new.entries).boxes = subst (λ (l : Layout). KeepsFixed box l.widths (told c.loop-next.entries).boxes (told c.set_own_heights.new.entries).boxes) inv.rest done.kept in
     record {
       next_is = g.next_is;
       small = rw g.later (omega arith);
       inside = goes_within f (tree_at f c.args.h.0) c.in-Some.child c.loop-next.next c.in-Some.is inv.inside c.next-next.result g;
       boxes = λ k was. done.boxes k (inv.boxes k was);
       listed = done.listed ∙ inv.listed;
-      kept = λ k is. done.kept k (inv.kept k is);
-      top = done.kept c.args.h.0 inv.top;
-      later = λ (u : Table LayoutBox) kept fixed.
-          inv.later u (λ k is. kept k (done.kept k is))
+      rest = done.rest ∙ ap (λ (l : Layout). record l { boxes = (told c.set_own_heights.new.entries).boxes }) inv.rest;
+      kept = λ k is. keeps k (inv.kept k is);
+      top = keeps c.args.h.0 inv.top;
+      later = λ (u : List (Option LayoutBox)) kept fixed.
+          inv.later u (λ k is. kept k (keeps k is))
           (subst (AreFixed box w u) (sym (now_is t d))
           (each_first (IsFixed box w u) h g.children g.rest (λ k inside. kept k (first k inside)) (subst (AreFixed box w u) g.later fixed)));
     }
@@ -105,8 +109,8 @@ returns-clause-fixed t c =
     let f = c.args.tree.now.forest in
     let h = c.args.h.0 in
     let box = scene_box (scene_of c.args.store.now) in
-    let w = sizes_of c.args.widths.now in
-    let u = c.loop-next.boxes in
+    let w = (told c.args.entries.now).widths in
+    let u = (told c.loop-next.entries).boxes in
     let inv = c.loop-next.invariant in
     let at = there f h c.requires.there in
     let known = found at.part (distinct_once f c.requires.once) in

@@ -5,9 +5,10 @@ use Rattle.gui_base.specs.Forest.{Forest, Empty, Tree, roots, size, height, tree
 use Rattle.gui_base.specs.declared.Handle.{Handle}
 use Rattle.layout_defs.specs.Solving.{Slot, nowhere, kid_slots}
 use Rattle.layout_defs.specs.Tables.{KeepsOthers}
-use Rattle.gui_layout.specs.Tables.{Listing, IsListed, listing_of, sizes_of, AreListed}
+use Rattle.gui_layout.specs.Tables.{Listing, IsListed, listing_of, told, AreListed}
+use Rattle.gui_layout.specs.Settled.{Layout}
 use Rattle.gui_layout.specs.Views.{box_at}
-use Rattle.gui_layout.specs.Slots.{slots_of, slot_at, at_roots, tall_at, talls, HoldsSlots, IsBelow}
+use Rattle.gui_layout.specs.Slots.{slot_at, at_roots, tall_at, talls, HoldsSlots, IsBelow}
 use Rattle.gui_layout.proofs.Parts.{distinct_once, distinct-part, has-part, here, IsHead, next_head, IsNext, GoesOn, trees_from, walk_begins, walk_goes_on, there, found, leaf_is}
 use Rattle.gui_layout.proofs.Within.{begins_within, goes_within, tree_within}
 use Rattle.gui_layout.proofs.Stands.{Stands, stands_none, stands_first, stands_top, later_kept, room_below, room_fewer, stands_leaf}
@@ -20,12 +21,12 @@ set_kid_positions-requires-clause-room t c =
     let h = c.args.h.0 in
     let known = found (there f h c.requires.there).part (distinct_once f c.requires.once) in
     let high : 1 ≤ height (tree_at f h) = rw known.tree (omega arith) in
-    room_fewer (slot_at (slots_of c.args.places.now) h) 1 (height (tree_at f h)) c.requires.room high
+    room_fewer (slot_at (told c.args.entries.now).slots h) 1 (height (tree_at f h)) c.requires.room high
 
 pub loop-next-init : goal.loop-next-init
 loop-next-init t c =
     let f = c.args.tree.now.forest in
-    let box = box_at c.args.boxes.now in
+    let box = box_at (told c.args.entries.now).boxes in
     let distinct = distinct_once f c.requires.once in
     let begins = walk_begins f c.args.h.0 c.first_child-next.result distinct c.first_child-next.ensures in
     let at = there f c.args.h.0 c.requires.there in
@@ -36,9 +37,10 @@ loop-next-init t c =
       fewer = rw (begins.all, known.children, known.tree) (omega arith);
       lower = rw (begins.all, known.children, known.tree) (omega arith);
       listed = c.set_kid_positions.ensures.listed;
+      rest = c.set_kid_positions.ensures.rest;
       near = rw begins.all c.set_kid_positions.ensures.near;
       capacity = c.set_kid_positions.ensures.capacity;
-      later = λ (u : List Slot) rest. subst (Stands box (sizes_of c.args.widths.now) (sizes_of c.args.naturals.now) (slots_of c.set_kid_positions.new.places) u) begins.all rest;
+      later = λ (u : List Slot) rest. subst (Stands box (told c.args.entries.now).widths (told c.args.entries.now).natural_heights (told c.set_kid_positions.new.entries).slots u) begins.all rest;
     }
 
 head : (t : ℕ) (c : In-Some t) → IsHead c.args.tree.now.forest c.in-Some.child
@@ -57,16 +59,15 @@ find_places-requires t c =
     let smaller : size (tree_at f h) < size (tree_at f c.args.h.0) = rw known.tree (omega arith) in
     let lower : height (Tree h e.children e.rest) + 1 ≤ height (tree_at f c.args.h.0) = rw now at inv.lower in
     let low : height (tree_at f h) + 1 ≤ height (tree_at f c.args.h.0) = rw known.tree (omega arith) in
-    let parent = slot_at (slots_of c.args.places.now) c.args.h.0 in
-    let child = slot_at (slots_of c.loop-next.places) h in
-    let near : All (IsBelow parent) (at_roots (slots_of c.loop-next.places) (Tree h e.children e.rest)) = subst (λ (g : Forest ℕ). All (IsBelow parent) (at_roots (slots_of c.loop-next.places) g)) now inv.near in
-    let below : IsBelow parent child = All-head (IsBelow parent) child (at_roots (slots_of c.loop-next.places) e.rest) near in
+    let parent = slot_at (told c.args.entries.now).slots c.args.h.0 in
+    let child = slot_at (told c.loop-next.entries).slots h in
+    let near : All (IsBelow parent) (at_roots (told c.loop-next.entries).slots (Tree h e.children e.rest)) = subst (λ (g : Forest ℕ). All (IsBelow parent) (at_roots (told c.loop-next.entries).slots g)) now inv.near in
+    let below : IsBelow parent child = All-head (IsBelow parent) child (at_roots (told c.loop-next.entries).slots e.rest) near in
     let lies = tree_within f (tree_at f c.args.h.0) c.in-Some.child c.loop-next.next c.in-Some.is c.loop-next.invariant.inside (distinct_once f c.requires.once) e in
-    let listed : AreListed (listing_of c.loop-next.places) (tree_at f c.in-Some.child.0) = λ k i. subst (λ (ks : Listing). IsListed ks k) (sym inv.listed) (c.requires.listed k (lies k i)) in
-    let boxes : AreListed (listing_of c.args.boxes.now) (tree_at f c.in-Some.child.0) = λ k i. c.requires.listed_boxes k (lies k i) in
+    let listed : AreListed (listing_of c.loop-next.entries) (tree_at f c.in-Some.child.0) = λ k i. subst (λ (ks : Listing). IsListed ks k) (sym inv.listed) (c.requires.listed k (lies k i)) in
     let capacity = inv.capacity in
     let room = c.requires.capacity in
-    (search rules, (c.requires.once, (listed, (c.requires.few, (has-part e.part h (here h e.children e.rest), (omega arith, (room_below parent child (height (tree_at f h)) (height (tree_at f c.args.h.0)) c.requires.room below low, boxes)))))))
+    (search rules, (c.requires.once, (listed, (c.requires.few, (has-part e.part h (here h e.children e.rest), (omega arith, room_below parent child (height (tree_at f h)) (height (tree_at f c.args.h.0)) c.requires.room below low))))))
 
 goes : (t : ℕ) (c : After-next-next t) → GoesOn c.args.tree.now.forest c.in-Some.child c.next-next.result
 goes t c =
@@ -86,20 +87,22 @@ loop-next-preserved t c =
     let d = (goal.at.loop-next-preserved t c).After-next-next in
     let inv = c.loop-next.invariant in
     let f = c.args.tree.now.forest in
-    let box = box_at c.args.boxes.now in
-    let w = (sizes_of c.args.widths.now) in
-    let n = (sizes_of c.args.naturals.now) in
+    let box = box_at (told c.args.entries.now).boxes in
+    let w = (told c.args.entries.now).widths in
+    let n = (told c.args.entries.now).natural_heights in
     let distinct = distinct_once f c.requires.once in
     let g = goes t d in
     let h = c.in-Some.child.0 in
-    let a = slots_of c.loop-next.places in
-    let b = slots_of c.find_places.new.places in
-    let parent = slot_at (slots_of c.args.places.now) c.args.h.0 in
+    let a = (told c.loop-next.entries).slots in
+    let b = (told c.find_places.new.entries).slots in
+    let parent = slot_at (told c.args.entries.now).slots c.args.h.0 in
     let fewer : size (Tree h g.children g.rest) < size (tree_at f c.args.h.0) = rw (now_is t d) at inv.fewer in
     let lower : height (Tree h g.children g.rest) + 1 ≤ height (tree_at f c.args.h.0) = rw (now_is t d) at inv.lower in
     let near : All (IsBelow parent) (at_roots a (Tree h g.children g.rest)) = subst (λ (g : Forest ℕ). All (IsBelow parent) (at_roots a g)) (now_is t d) inv.near in
     let first : Stands box w n a b (Tree h g.children Empty) = record {
-      found = subst (HoldsSlots box w n (get_or a h nowhere ∷ []) b) g.tree c.find_places.ensures.found;
+      found =
+          subst (λ (l : Layout). HoldsSlots (box_at l.boxes) l.widths l.natural_heights (get_or a h nowhere ∷ []) b (Tree h g.children Empty)) inv.rest
+          (subst (HoldsSlots (box_at (told c.loop-next.entries).boxes) (told c.loop-next.entries).widths (told c.loop-next.entries).natural_heights (get_or a h nowhere ∷ []) b) g.tree c.find_places.ensures.found);
       others = subst (KeepsOthers nowhere a b) g.tree c.find_places.ensures.others;
     } in
     let all = distinct-part g.part distinct in
@@ -109,26 +112,27 @@ loop-next-preserved t c =
       fewer = rw g.later (omega arith);
       lower = rw g.later (omega arith);
       listed = c.find_places.ensures.listed ∙ inv.listed;
+      rest = c.find_places.ensures.rest ∙ ap (λ (l : Layout). record l { slots = b }) inv.rest;
       near = rw (g.later, later_kept box w n a b h g.children g.rest all first.others) (All-tail (IsBelow parent) (get_or a h nowhere) (at_roots a g.rest) near);
       capacity = c.find_places.ensures.capacity ∙ inv.capacity;
       later = λ (u : List Slot) rest.
           inv.later u (subst (Stands box w n a u) (sym (now_is t d)) (stands_first box w n a b u h g.children g.rest all first (subst (Stands box w n b u) g.later rest)));
     }
 
-all_found : (t : ℕ) (c : In_default t) → Stands (box_at c.args.boxes.now) (sizes_of c.args.widths.now) (sizes_of c.args.naturals.now) (slots_of c.args.places.now) (slots_of c.loop-next.places) (tree_at c.args.tree.now.forest c.args.h.0)
+all_found : (t : ℕ) (c : In_default t) → Stands (box_at (told c.args.entries.now).boxes) (told c.args.entries.now).widths (told c.args.entries.now).natural_heights (told c.args.entries.now).slots (told c.loop-next.entries).slots (tree_at c.args.tree.now.forest c.args.h.0)
 all_found t c =
     let f = c.args.tree.now.forest in
     let h = c.args.h.0 in
-    let box = box_at c.args.boxes.now in
-    let w = (sizes_of c.args.widths.now) in
-    let n = (sizes_of c.args.naturals.now) in
+    let box = box_at (told c.args.entries.now).boxes in
+    let w = (told c.args.entries.now).widths in
+    let n = (told c.args.entries.now).natural_heights in
     let distinct = distinct_once f c.requires.once in
     let at = there f h c.requires.there in
     let known = found at.part distinct in
     let all = distinct-part at.part distinct in
-    let a = slots_of c.args.places.now in
-    let b = slots_of c.set_kid_positions.new.places in
-    let u = slots_of c.loop-next.places in
+    let a = (told c.args.entries.now).slots in
+    let b = (told c.set_kid_positions.new.entries).slots in
+    let u = (told c.loop-next.entries).slots in
     let none : trees_from c.loop-next.next f ≡ Empty = ap (λ (o : Option Handle). trees_from o f) c.in_default.is in
     let lower : Stands box w n b u at.children = subst (Stands box w n b u) known.children (c.loop-next.invariant.later u (subst (Stands box w n u u) (sym none) (stands_none box w n u))) in
     let kids : at_roots b at.children ≡ kid_slots (tall_at box w n h) (get_or a h nowhere) (roots (talls box w n at.children)) =
@@ -139,18 +143,18 @@ pub returns-clause-found : goal.returns-clause-found
 returns-clause-found t c =
     let f = c.args.tree.now.forest in
     let known = found (there f c.args.h.0 c.requires.there).part (distinct_once f c.requires.once) in
-    subst (λ ss. HoldsSlots (box_at c.args.boxes.now) (sizes_of c.args.widths.now) (sizes_of c.args.naturals.now) ss (slots_of c.loop-next.places) (tree_at f c.args.h.0)) (ap (at_roots (slots_of c.args.places.now)) known.tree) (all_found t (goal.at.returns-clause-found t c).In_default).found
+    subst (λ ss. HoldsSlots (box_at (told c.args.entries.now).boxes) (told c.args.entries.now).widths (told c.args.entries.now).natural_heights ss (told c.loop-next.entries).slots (tree_at f c.args.h.0)) (ap (at_roots (told c.args.entries.now).slots) known.tree) (all_found t (goal.at.returns-clause-found t c).In_default).found
 
 pub returns-clause-others : goal.returns-clause-others
 returns-clause-others t c = (all_found t (goal.at.returns-clause-others t c).In_default).others
 
-leaf : (t : ℕ) (c : Then-is_none t) → Stands (box_at c.args.boxes.now) (sizes_of c.args.widths.now) (sizes_of c.args.naturals.now) (slots_of c.args.places.now) (slots_of c.args.places.now) (tree_at c.args.tree.now.forest c.args.h.0)
+leaf : (t : ℕ) (c : Then-is_none t) → Stands (box_at (told c.args.entries.now).boxes) (told c.args.entries.now).widths (told c.args.entries.now).natural_heights (told c.args.entries.now).slots (told c.args.entries.now).slots (tree_at c.args.tree.now.forest c.args.h.0)
 leaf t c =
     let f = c.args.tree.now.forest in
-    let box = box_at c.args.boxes.now in
-    let w = (sizes_of c.args.widths.now) in
-    let n = (sizes_of c.args.naturals.now) in
-    let a = slots_of c.args.places.now in
+    let box = box_at (told c.args.entries.now).boxes in
+    let w = (told c.args.entries.now).widths in
+    let n = (told c.args.entries.now).natural_heights in
+    let a = (told c.args.entries.now).slots in
     let is = leaf_is f c.args.h.0 c.first_child.result c.is_none.result (distinct_once f c.requires.once) c.requires.there c.first_child.ensures c.is_none.ensures c.if-is_none.true in
     subst (Stands box w n a a) (sym is) (stands_leaf box w n a c.args.h.0)
 
@@ -158,7 +162,7 @@ pub returns-then-is_none-clause-found : goal.returns-then-is_none-clause-found
 returns-then-is_none-clause-found t c =
     let f = c.args.tree.now.forest in
     let known = found (there f c.args.h.0 c.requires.there).part (distinct_once f c.requires.once) in
-    subst (λ ss. HoldsSlots (box_at c.args.boxes.now) (sizes_of c.args.widths.now) (sizes_of c.args.naturals.now) ss (slots_of c.args.places.now) (tree_at f c.args.h.0)) (ap (at_roots (slots_of c.args.places.now)) known.tree) (leaf t (goal.at.returns-then-is_none-clause-found t c).Then-is_none).found
+    subst (λ ss. HoldsSlots (box_at (told c.args.entries.now).boxes) (told c.args.entries.now).widths (told c.args.entries.now).natural_heights ss (told c.args.entries.now).slots (tree_at f c.args.h.0)) (ap (at_roots (told c.args.entries.now).slots) known.tree) (leaf t (goal.at.returns-then-is_none-clause-found t c).Then-is_none).found
 
 pub returns-then-is_none-clause-others : goal.returns-then-is_none-clause-others
 returns-then-is_none-clause-others t c = (leaf t (goal.at.returns-then-is_none-clause-others t c).Then-is_none).others

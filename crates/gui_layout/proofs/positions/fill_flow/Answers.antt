@@ -3,7 +3,7 @@ use Rattle.gui_base.specs.Forest.{Forest, Tree, roots, size, tree_at}
 use Rattle.gui_base.specs.declared.Handle.{Handle}
 use Rattle.layout_defs.specs.Solving.{Tall, tall_box, taking_part}
 use Rattle.gui_flex.specs.Items.{items_of}
-use Rattle.gui_layout.specs.Tables.{sizes_of}
+use Rattle.gui_layout.specs.Tables.{told}
 use Rattle.gui_layout.specs.Views.{box_at}
 use Rattle.gui_layout.specs.Slots.{talls, flow_item}
 use Rattle.gui_layout.proofs.Parts.{distinct_once, IsHead, next_head, IsNext, GoesOn, trees_from, walk_begins, walk_goes_on, part_children, size-part}
@@ -45,16 +45,16 @@ pub loop-next-preserved : goal.loop-next-preserved
 loop-next-preserved c =
     let d = (goal.at.loop-next-preserved c).After-next-next in
     let inv = c.loop-next.invariant in
-    let box = box_at c.args.boxes.now in
-    let w = (sizes_of c.args.widths.now) in
-    let n = (sizes_of c.args.naturals.now) in
+    let box = box_at (told c.args.entries.now).boxes in
+    let w = (told c.args.entries.now).widths in
+    let n = (told c.args.entries.now).natural_heights in
     let g = goes d in
     let h = c.in-Some.child.0 in
     let few : vec_len c.loop-next.items + size (Tree h g.children g.rest) ≤ size c.args.tree.now.forest = rw (now_is d) at inv.few in
     let more = c.push_kid.ensures.len in
     let item = flow_item c.args.course c.args.room in
     let kids = roots (talls box w n g.rest) in
-    let kid = tall_is c.args.boxes.now w n h _ _ c.known_box.result.now c.known_box.ensures c.size_at.ensures.value c.size_at-in-Some.ensures.value in
+    let kid = tall_is (told c.args.entries.now).boxes w n h _ _ c.entry_of-kid.result.now.wanted c.entry_of-kid.ensures.told.wanted c.entry_of-kid.ensures.told.width c.entry_of-kid.ensures.told.natural_height in
     record {
       next_is = g.next_is;
       inside = goes_within c.args.tree.now.forest (tree_at c.args.tree.now.forest c.args.h.0) c.in-Some.child c.loop-next.next c.in-Some.is inv.inside c.next-next.result g;
@@ -69,8 +69,8 @@ loop-next-preserved c =
 head : (c : In-Some) → IsHead c.args.tree.now.forest c.in-Some.child
 head c = next_head c.args.tree.now.forest c.in-Some.child (subst (IsNext c.args.tree.now.forest) c.in-Some.is c.loop-next.invariant.next_is)
 
-pub known_box-requires : goal.known_box-requires
-known_box-requires c =
-    let e = head (goal.at.known_box-requires c).In-Some in
+pub entry_of-kid-requires : goal.entry_of-kid-requires
+entry_of-kid-requires c =
+    let e = head (goal.at.entry_of-kid-requires c).In-Some in
     let h = c.in-Some.child.0 in
-    c.requires.listed_boxes h (child_within c.args.tree.now.forest (tree_at c.args.tree.now.forest c.args.h.0) c.in-Some.child c.loop-next.next c.in-Some.is c.loop-next.invariant.inside e)
+    c.requires.listed h (child_within c.args.tree.now.forest (tree_at c.args.tree.now.forest c.args.h.0) c.in-Some.child c.loop-next.next c.in-Some.is c.loop-next.invariant.inside e)

@@ -5,7 +5,7 @@ use Rattle.layout_defs.specs.declared.Course.TheVariants.{Free, Across, Down}
 use Rattle.layout_defs.specs.Boxes.{is_reversed}
 use Rattle.layout_defs.specs.Solving.{tall_box, taking_part, in_order, ordered_slots}
 use Rattle.gui_flex.specs.Items.{items_of}
-use Rattle.gui_layout.specs.Tables.{sizes_of}
+use Rattle.gui_layout.specs.Tables.{told}
 use Rattle.gui_layout.specs.Views.{box_of, box_at}
 use Rattle.gui_layout.specs.Slots.{talls, room_in, item_slot, arranged}
 use Rattle.gui_layout.proofs.Flows.{flow_is}
@@ -15,7 +15,7 @@ pub returns-in-Across-clause-slots : goal.returns-in-Across-clause-slots
 returns-in-Across-clause-slots c =
     let box = box_of c.args.h.0 c.args.own.now in
     let room = room_in c.args.inside in
-    let kids = taking_part tall_box (roots (talls (box_at c.args.boxes.now) (sizes_of c.args.widths.now) (sizes_of c.args.naturals.now) (children_of c.args.tree.now.forest c.args.h.0))) in
+    let kids = taking_part tall_box (roots (talls (box_at (told c.args.entries.now).boxes) (told c.args.entries.now).widths (told c.args.entries.now).natural_heights (children_of c.args.tree.now.forest c.args.h.0))) in
     let course = c.course_of-course.result in
     let back = c.is_reversed-back.result in
     let turned = c.turn_round.new.items.items in
@@ -32,7 +32,7 @@ pub returns-in-Down-clause-slots : goal.returns-in-Down-clause-slots
 returns-in-Down-clause-slots c =
     let box = box_of c.args.h.0 c.args.own.now in
     let room = room_in c.args.inside in
-    let kids = taking_part tall_box (roots (talls (box_at c.args.boxes.now) (sizes_of c.args.widths.now) (sizes_of c.args.naturals.now) (children_of c.args.tree.now.forest c.args.h.0))) in
+    let kids = taking_part tall_box (roots (talls (box_at (told c.args.entries.now).boxes) (told c.args.entries.now).widths (told c.args.entries.now).natural_heights (children_of c.args.tree.now.forest c.args.h.0))) in
     let course = c.course_of-course.result in
     let back = c.is_reversed-back.result in
     let turned = c.turn_round-in-Down.new.items.items in

@@ -11,4 +11,4 @@ returns-clause-items c h =
     let f = row_slot (room_in c.args.inside) in
     sym (paired-map f item_of spot_of c.place_all.new.items.items)
     ∙ (ap (λ (items : List Item). paired f items (spots_of c.place_all.new.items.items)) c.place_all.ensures.items
-    ∙ ap (λ (all : List Spot). paired f (items_of c.args.items.now.items) all) (c.place_all.ensures.spots ∙ ap (λ (wrap : Bool). spots (placings_of c.args.own.now.places) wrap c.args.inside.width c.args.inside.height c.args.own.now.gap_across c.args.own.now.gap_down (items_of c.args.items.now.items)) c.wraps.ensures))
+    ∙ ap (λ (all : List Spot). paired f (items_of c.args.items.now.items) all) (c.place_all.ensures.spots ∙ ap (λ (wrap : Bool). spots (placings_of c.args.own.now.places) wrap c.args.inside.width c.args.inside.height c.args.own.now.across.gap c.args.own.now.down.gap (items_of c.args.items.now.items)) c.wraps.ensures))

@@ -32,7 +32,7 @@ loop-h-preserved c =
       own = λ k some left part off. elim (cases_Bool (eqb h.0 k)) [
         | inl is ↦
             let same = eqb-true h.0 k is in
-            subst (λ j. Rests c.args.tree.now.forest c.args.boxes.now j) same
+            subst (λ j. Rests c.args.tree.now.forest c.args.entries.now j) same
             (done.own (subst (λ j. is_partly t j ≡ true) (sym same) (inv.still k part (was_off k off))) (subst (λ j. is_pending u j ≡ false) (sym same) off))
         | inr other ↦ inv.own k some (next-times hs i k c.loop-h-test.true other ∙ left) part (was_off k off)
       ];

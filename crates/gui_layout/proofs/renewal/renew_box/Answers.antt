@@ -1,24 +1,19 @@
-use Rattle.std.proofs.Common.{sym, subst}
-use Rattle.gui_pool.specs.Table.{Table}
+use Rattle.std.proofs.Common.{ap}
 use Rattle.gui_store.specs.Views.{scene_of}
-use Rattle.gui_layout.specs.declared.layout_box.LayoutBox.{LayoutBox}
-use Rattle.gui_layout.proofs.Listed.{listed_some}
-use Rattle.gui_layout.proofs.Renewing.{Renews, renews_replaced}
+use Rattle.gui_layout.specs.Settled.{Layout}
+use Rattle.gui_layout.specs.Tables.{told, wanted_or}
+use Rattle.gui_layout.proofs.Listed.{told_short}
+use Rattle.gui_layout.proofs.Renewing.{renewed_own, renewed_kept}
 use Rattle.gui_layout.proofs.renewal.renew_box.Goals as goal
-use Rattle.gui_layout.proofs.renewal.renew_box.Goals.{After-replace}
-
-done : (c : After-replace) → Renews (scene_of c.args.store.now) c.args.boxes.now c.replace.new.self c.args.h.0
-done c =
-    let scene = scene_of c.args.store.now in
-    let t = c.args.boxes.now in
-    let h = c.args.h.0 in
-    subst (λ (u : Table LayoutBox). Renews scene t u h) (sym c.replace.ensures.replaces) (renews_replaced scene t h _ (listed_some t h c.requires) c.box_in.ensures)
 
 pub returns-clause-own : goal.returns-clause-own
-returns-clause-own c = (done (goal.at.returns-clause-own c).After-replace).own
+returns-clause-own c =
+    let t = c.args.entries.now in
+    renewed_own (scene_of c.args.store.now) (told t).boxes (told c.set_wanted.new.entries).boxes c.args.h.0 c.box_in.result (told_short wanted_or t c.args.h.0 c.requires)
+    (ap (λ (l : Layout). l.boxes) c.set_wanted.ensures.set) c.box_in.ensures
 
 pub returns-clause-kept : goal.returns-clause-kept
-returns-clause-kept c = (done (goal.at.returns-clause-kept c).After-replace).kept
-
-pub returns-clause-listed : goal.returns-clause-listed
-returns-clause-listed c = (done (goal.at.returns-clause-listed c).After-replace).listed
+returns-clause-kept c =
+    let t = c.args.entries.now in
+    renewed_kept (scene_of c.args.store.now) (told t).boxes (told c.set_wanted.new.entries).boxes c.args.h.0 c.box_in.result (told_short wanted_or t c.args.h.0 c.requires)
+    (ap (λ (l : Layout). l.boxes) c.set_wanted.ensures.set) c.box_in.ensures

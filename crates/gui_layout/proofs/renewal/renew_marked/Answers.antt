@@ -1,11 +1,12 @@
-use Rattle.std.proofs.Common.{◌≡◌, ◌∙◌, refl, sym, subst, true, eqb, get_or, inl, inr, arith}
+use Rattle.std.proofs.Common.{◌≡◌, ◌∙◌, refl, sym, ap, subst, true, eqb, get_or, inl, inr, arith}
 use Rattle.std.proofs.lemmas.Bool.{cases_Bool, eqb-true}
 use Rattle.gui_base.specs.Forest.{has}
 use Rattle.gui_base.specs.declared.Handle.{Handle}
 use Rattle.gui_store.specs.Views.{scene_of}
 use Rattle.gui_layout.specs.Pending.{is_pending}
 use Rattle.gui_layout.specs.Renewed.{IsRenewed}
-use Rattle.gui_layout.specs.Tables.{Listing, IsListed}
+use Rattle.gui_layout.specs.Settled.{Layout}
+use Rattle.gui_layout.specs.Tables.{Listing, IsListed, told}
 use Rattle.gui_layout.proofs.Entered.{first-times, next-times, none-left}
 use Rattle.gui_layout.proofs.renewal.renew_marked.Goals as goal
 
@@ -16,6 +17,7 @@ pub loop-h-init : goal.loop-h-init
 loop-h-init c = record {
   own = λ k some left on there. absurd (omega arith);
   kept = λ k is. is;
+  rest = refl;
   listed = refl;
 }
 
@@ -34,7 +36,7 @@ loop-h-preserved c =
     let inv = c.loop-h.invariant in
     let done = c.renew_pending.ensures in
     let scene = scene_of c.args.store.now in
-    let boxes = c.renew_pending.new.boxes in
+    let boxes = (told c.renew_pending.new.entries).boxes in
     record {
       own = λ k some left on there. elim (cases_Bool (eqb h.0 k)) [
         | inl is ↦
@@ -43,6 +45,7 @@ loop-h-preserved c =
         | inr other ↦ done.kept k (inv.own k some (next-times hs i k c.loop-h-test.true other ∙ left) on there)
       ];
       kept = λ k is. done.kept k (inv.kept k is);
+      rest = done.rest ∙ ap (λ (l : Layout). record l { boxes = (told c.renew_pending.new.entries).boxes }) inv.rest;
       listed = done.listed ∙ inv.listed;
     }
 

@@ -3,7 +3,7 @@ use Rattle.gui_base.specs.Forest.{Forest, Tree, roots, size, tree_at}
 use Rattle.gui_base.specs.declared.Handle.{Handle}
 use Rattle.layout_defs.specs.Solving.{Wide, wide_box, taking_part, width_item}
 use Rattle.gui_flex.specs.Items.{items_of}
-use Rattle.gui_layout.specs.Tables.{sizes_of}
+use Rattle.gui_layout.specs.Tables.{told}
 use Rattle.gui_layout.specs.Views.{box_at}
 use Rattle.gui_layout.specs.Found.{HoldsNaturalWidths, widths_of}
 use Rattle.gui_layout.proofs.Parts.{distinct_once, IsHead, next_head, IsNext, GoesOn, trees_from, walk_begins, walk_goes_on, part_children, size-part}
@@ -28,7 +28,7 @@ loop-next-smaller c =
 pub loop-next-init : goal.loop-next-init
 loop-next-init c =
     let f = c.args.tree.now.forest in
-    let box = box_at c.args.boxes.now in
+    let box = box_at (told c.args.entries.now).boxes in
     let begins = walk_begins f c.args.h.0 c.first_child-next.result (distinct_once f c.requires.once) c.first_child-next.ensures in
     let few = size-part (part_children f c.args.h.0) in
     let small = c.requires.few in
@@ -38,7 +38,7 @@ loop-next-init c =
       inside = begins_within f c.args.h.0 c.first_child-next.result begins.all;
       few = rw begins.all (omega arith);
       capacity = c.clear.ensures.capacity;
-      holds = subst (HoldsNaturalWidths box (sizes_of c.args.naturals.now)) (sym begins.all) c.requires.found;
+      holds = subst (HoldsNaturalWidths box (told c.args.entries.now).natural_widths) (sym begins.all) c.requires.found;
       left = rw (begins.all, c.clear.ensures.items) refl;
     }
 
@@ -46,21 +46,21 @@ pub loop-next-preserved : goal.loop-next-preserved
 loop-next-preserved c =
     let d = (goal.at.loop-next-preserved c).After-next-next in
     let inv = c.loop-next.invariant in
-    let box = box_at c.args.boxes.now in
+    let box = box_at (told c.args.entries.now).boxes in
     let g = goes d in
     let h = c.in-Some.child.0 in
     let few : vec_len c.loop-next.items + size (Tree h g.children g.rest) ≤ size c.args.tree.now.forest = rw (now_is d) at inv.few in
     let more = c.push_kid.ensures.len in
-    let holds : HoldsNaturalWidths box (sizes_of c.args.naturals.now) (Tree h g.children g.rest) = subst (HoldsNaturalWidths box (sizes_of c.args.naturals.now)) (now_is d) inv.holds in
+    let holds : HoldsNaturalWidths box (told c.args.entries.now).natural_widths (Tree h g.children g.rest) = subst (HoldsNaturalWidths box (told c.args.entries.now).natural_widths) (now_is d) inv.holds in
     let item = λ (w : Wide). width_item c.args.room w in
     let kids = roots (widths_of box g.rest) in
-    let kid = kid_is c.args.boxes.now h _ c.known_box.result.now g.children c.known_box.ensures (c.size_at.ensures.value ∙ holds.0) in
+    let kid = kid_is (told c.args.entries.now).boxes h _ c.entry_of-kid.result.now.wanted g.children c.entry_of-kid.ensures.told.wanted (c.entry_of-kid.ensures.told.natural_width ∙ holds.0) in
     record {
       next_is = g.next_is;
       inside = goes_within c.args.tree.now.forest (tree_at c.args.tree.now.forest c.args.h.0) c.in-Some.child c.loop-next.next c.in-Some.is inv.inside c.next-next.result g;
       few = rw g.later (omega arith);
       capacity = c.push_kid.ensures.capacity ∙ inv.capacity;
-      holds = subst (HoldsNaturalWidths box (sizes_of c.args.naturals.now)) (sym g.later) holds.2;
+      holds = subst (HoldsNaturalWidths box (told c.args.entries.now).natural_widths) (sym g.later) holds.2;
       left =
           rw (g.later, c.push_kid.ensures.items h, append_assoc)
           (ap (λ l. items_of c.loop-next.items.items ++ l) (part_taken c.args.room _ kids ∙ ap (λ (k : Wide). map (width_item c.args.room) (taking_part wide_box (k ∷ kids))) kid)
@@ -70,8 +70,8 @@ loop-next-preserved c =
 head : (c : In-Some) → IsHead c.args.tree.now.forest c.in-Some.child
 head c = next_head c.args.tree.now.forest c.in-Some.child (subst (IsNext c.args.tree.now.forest) c.in-Some.is c.loop-next.invariant.next_is)
 
-pub known_box-requires : goal.known_box-requires
-known_box-requires c =
-    let e = head (goal.at.known_box-requires c).In-Some in
+pub entry_of-kid-requires : goal.entry_of-kid-requires
+entry_of-kid-requires c =
+    let e = head (goal.at.entry_of-kid-requires c).In-Some in
     let h = c.in-Some.child.0 in
-    c.requires.listed_boxes h (child_within c.args.tree.now.forest (tree_at c.args.tree.now.forest c.args.h.0) c.in-Some.child c.loop-next.next c.in-Some.is c.loop-next.invariant.inside e)
+    c.requires.listed h (child_within c.args.tree.now.forest (tree_at c.args.tree.now.forest c.args.h.0) c.in-Some.child c.loop-next.next c.in-Some.is c.loop-next.invariant.inside e)

@@ -2,7 +2,7 @@ use Rattle.std.proofs.Common.{◌≡◌, ◌≤◌, ◌+◌, ◌++◌, map, vec_
 use Rattle.gui_base.specs.Forest.{roots, size, tree_at, children_of}
 use Rattle.layout_defs.specs.Solving.{wide_box, taking_part, width_item}
 use Rattle.gui_flex.specs.Items.{items_of}
-use Rattle.gui_layout.specs.Tables.{sizes_of}
+use Rattle.gui_layout.specs.Tables.{told}
 use Rattle.gui_layout.specs.Views.{box_at}
 use Rattle.gui_layout.specs.Found.{HoldsNaturalWidths, widths_of}
 use Rattle.gui_layout.proofs.Parts.{IsNext, trees_from}
@@ -13,13 +13,13 @@ abbrev pub invariant-loop-next : goal.invariant-loop-next
 invariant-loop-next l =
     let f = l.tree.forest in
     let later = trees_from l.next f in
-    let box = box_at l.boxes in
+    let box = box_at (told l.entries).boxes in
     record {
       next_is : IsNext f l.next;
       inside : LieIn (trees_from l.next f) (tree_at f l.fn.h.0);
       few : vec_len l.items + size later ≤ size f;
       capacity : vec_capacity l.items ≡ vec_capacity l.fn.items;
-      holds : HoldsNaturalWidths box (sizes_of l.naturals) later;
+      holds : HoldsNaturalWidths box (told l.entries).natural_widths later;
       left : items_of l.items.items ++ map (width_item l.room) (taking_part wide_box (roots (widths_of box later))) ≡ map (width_item l.room) (taking_part wide_box (roots (widths_of box (children_of f l.fn.h.0))));
     }
 

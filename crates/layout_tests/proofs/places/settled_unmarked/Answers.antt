@@ -3,7 +3,7 @@ use Rattle.gui_layout.specs.Marks.{is_changed, is_marked, is_parent}
 use Rattle.gui_layout.proofs.Before.{right_unmarked}
 use Rattle.layout_tests.proofs.places.settled_unmarked.Goals as goal
 
-pub settle_marks-requires-clause-but : goal.settle_marks-requires-clause-but
-settle_marks-requires-clause-but c =
+pub settle-requires-clause-but : goal.settle-requires-clause-but
+settle-requires-clause-but c =
     let marks = c.in-Ok.marks in
     right_unmarked c.in_ok-places.places (scene_of c.remove.new.store) (is_marked marks) (is_changed marks) (is_parent marks) c.in-Ok.ensures.none

@@ -18,6 +18,7 @@ invariant_of-self c =
       marks = subst (λ (t : Table Mark). AreMarks self.objects t self.listed.items) (sym c.replace.ensures.replaces)
           (replaced-marks self.objects self.pending self.listed.items h All self.marks refl (within_of self.pending h.0 some) some);
       room = self.room;
+      solved_room = self.solved_room;
     }
 
 pub invariant_of-self-2 : goal.invariant_of-self-2
@@ -34,4 +35,5 @@ invariant_of-self-2 c =
       marks = subst (λ (hs : List Handle). AreMarks self.objects c.put.new.table hs) (sym c.push_reserved.ensures.items)
           (subst (λ (t : Table Mark). AreMarks self.objects t (self.listed.items ++ h ∷ [])) (sym c.put.ensures) (joined-marks self.objects self.pending self.listed.items h All self.marks refl within off few));
       room = rw c.push_reserved.ensures.capacity room;
+      solved_room = self.solved_room;
     }

@@ -15,7 +15,7 @@ frame_of-requires t c =
     let f = c.args.tree.now.forest in
     let up = is_above f c.args.h.0 c.in-Some.parent c.requires.once c.requires.there c.in-Some.ensures in
     let higher : length (path_of f c.in-Some.parent.0) < length (path_of f c.args.h.0) = up.higher in
-    let listed : (k : ℕ) → Encloses f k c.in-Some.parent.0 → has f k ≡ true → IsListed (listing_of c.args.self.now.boxes) k = λ k encloses there. c.requires.listed k (λ j i. encloses j (up.encloses j i)) there in
+    let listed : (k : ℕ) → Encloses f k c.in-Some.parent.0 → has f k ≡ true → IsListed (listing_of c.args.self.now.entries) k = λ k encloses there. c.requires.listed k (λ j i. encloses j (up.encloses j i)) there in
     (search rules, (c.requires.once, (up.there, listed)))
 
 pub returns-in-None-clause-encloses : goal.returns-in-None-clause-encloses

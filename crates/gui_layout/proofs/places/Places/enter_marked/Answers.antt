@@ -7,9 +7,7 @@ use Rattle.gui_pool.specs.Table.{value_at}
 use Rattle.gui_store.specs.Views.{scene_of}
 use Rattle.scene_defs.specs.Scene.{handles_of}
 use Rattle.gui_layout.specs.Listing.{times}
-use Rattle.gui_layout.specs.Solved.{entries_of}
 use Rattle.gui_layout.proofs.Entered.{first-times, next-times, none-left}
-use Rattle.gui_layout.proofs.Staying.{same-all, same-then}
 use Rattle.gui_layout.proofs.places.Places.enter_marked.Goals as goal
 
 abbrev none : Handle
@@ -18,8 +16,8 @@ none = record { 0 = 0 }
 pub loop-h-init : goal.loop-h-init
 loop-h-init c = record {
   own = λ k some left there. absurd (omega arith);
-  kept = λ k there was. same-all k (entries_of c.args.self.now);
-  others = λ k there off. same-all k (entries_of c.args.self.now);
+  kept = λ k there was. refl;
+  others = λ k there off. refl;
   none = λ k out was. was;
   limits = refl;
 }
@@ -40,19 +38,19 @@ loop-h-preserved c =
       own = λ k some left there. elim (cases_Bool (eqb h.0 k)) [
         | inl is ↦
             let same = eqb-true h.0 k is in
-            subst (λ j. is_some (value_at now.boxes j) ≡ true) same (done.own (subst (λ j. has f j ≡ true) (sym same) there))
+            subst (λ j. is_some (value_at now.entries j) ≡ true) same (done.own (subst (λ j. has f j ≡ true) (sym same) there))
         | inr other ↦
             let was = inv.own k some (next-times hs i k c.loop-h-test.true other ∙ left) there in
-            ap is_some (done.kept k there was).boxes ∙ was
+            ap is_some (done.kept k there was) ∙ was
       ];
       kept = λ k there was.
           let first = inv.kept k there was in
-          same-then k (entries_of c.args.self.now) (entries_of c.loop-h.self) (entries_of now) first (done.kept k there (ap is_some first.boxes ∙ was));
+          done.kept k there (ap is_some first ∙ was) ∙ first;
       others = λ k there off.
           let other : eqb k h.0 ≡ false = false_from_ne_true (eqb k h.0) (λ e.
           let some = first-times hs i c.loop-h-test.true in
           let no : times hs h.0 ≡ 0 = subst (λ j. times hs j ≡ 0) (eqb-true k h.0 e) off in absurd (omega arith)) in
-          same-then k (entries_of c.args.self.now) (entries_of c.loop-h.self) (entries_of now) (inv.others k there off) (done.others k there other);
+          done.others k there other ∙ inv.others k there off;
       none = λ k out was. done.none k out (inv.none k out was);
       limits = done.limits ∙ inv.limits;
     }

@@ -16,18 +16,12 @@ invariant_of-self c =
     let self = c.forget.new.self in
     let n = self.limits.objects in
     let none = c.forget.ensures.empty in
-    let same = c.as_slice-found.ensures.value ∙ ap (λ v. v.items) (sym c.swap.ensures.x_after) in
+    let same = c.as_slice.ensures.value ∙ ap (λ v. v.items) (sym c.swap.ensures.x_after) in
     let rooms = c.swap.ensures in
     let list_room = self.list_room in
     let found_room = self.found_room in
     record {
-      kept = record {
-        boxes = filled n self.boxes c.fill.new.table self.listed.items _ _ self.kept.boxes none c.fill.ensures same;
-        natural_widths = filled n self.natural_widths c.fill-2.new.table self.listed.items _ _ self.kept.natural_widths none c.fill-2.ensures same;
-        widths = filled n self.widths c.fill-3.new.table self.listed.items _ _ self.kept.widths none c.fill-3.ensures same;
-        natural_heights = filled n self.natural_heights c.fill-4.new.table self.listed.items _ _ self.kept.natural_heights none c.fill-4.ensures same;
-        positions = filled n self.positions c.fill-5.new.table self.listed.items _ _ self.kept.positions none c.fill-5.ensures same;
-      };
+      kept = filled n self.entries c.fill.new.table self.listed.items _ _ self.kept none c.fill.ensures same;
       list_room = rw rooms.x_after found_room;
       found_room = rw rooms.y_after list_room;
       items_room = self.items_room;

@@ -1,27 +1,22 @@
 use Rattle.std.proofs.Common.{◌≡◌, ◌∙◌, ◌≤◌, sym, ap, subst, ℕ, true, Some, option_map, arith}
 use Rattle.gui_base.specs.Forest.{Forest, has, map_forest, parent_of, size, tree_at}
 use Rattle.gui_base.specs.Limits.{Bounds}
-use Rattle.gui_pool.specs.Table.{Table}
 use Rattle.gui_store.specs.Views.{scene_of}
 use Rattle.gui_tree.specs.Handles.{as_handle}
 use Rattle.scene_defs.specs.Scene.{handles_of}
 use Rattle.gui_layout.specs.Frames.{Encloses, IsFrameOf}
-use Rattle.gui_layout.specs.Layouts.{KeepsRest, told}
-use Rattle.gui_layout.specs.Listing.{HasThese}
+use Rattle.gui_layout.specs.Layouts.{KeepsRest}
 use Rattle.gui_layout.specs.Renewed.{AreRenewed, IsRenewed}
 use Rattle.gui_layout.specs.Scenes.{scene_box}
 use Rattle.gui_layout.specs.Settled.{known_at, AllFit}
 use Rattle.gui_layout.specs.Solved.{limits_of, layout_of}
-use Rattle.gui_layout.specs.Tables.{AreListed, listing_of}
+use Rattle.gui_layout.specs.Tables.{told}
 use Rattle.gui_layout.specs.Views.{box_at}
 use Rattle.gui_layout.proofs.Climbing.{in_own_tree, is_above}
 use Rattle.gui_layout.proofs.Entering.{few, flat}
-use Rattle.gui_layout.proofs.Listed.{listed_some, some_listed}
-use Rattle.gui_layout.proofs.Renewals.{some-alike}
 use Rattle.gui_layout.proofs.Stepping.{lets-stand, root-fills}
 use Rattle.gui_layout.proofs.These.{these_kept}
 use Rattle.gui_layout.proofs.places.Places.settle_at.Goals as goal
-use Rattle.gui_layout.proofs.places.Places.settle_at.Goals.{After-frame_of-frame}
 
 pub frame_of-frame-requires-clause-listed : goal.frame_of-frame-requires-clause-listed
 frame_of-frame-requires-clause-listed c k encloses there =
@@ -30,37 +25,19 @@ frame_of-frame-requires-clause-listed c k encloses there =
     let is : has (handles_of scene.trees) k ≡ true = subst (λ (f : Forest ℕ). has f k ≡ true) forest there in
     c.requires.entries k (subst (λ (f : Forest ℕ). Encloses f k c.args.h.0) forest encloses) k (in_own_tree (handles_of scene.trees) k c.tree-tree.ensures.valid.trees.once is)
 
--- each object of the tree that is solved has entries
-listed : (c : After-frame_of-frame) → {T : Type 0} (t : Table T) → HasThese c.args.self.now.limits.objects t c.args.self.now.listed.items → AreListed (listing_of t) (tree_at c.tree-tree.result.now.forest c.frame_of-frame.result.0.0)
-listed c t these k i =
-    let self = c.args.self.now in
-    let u = c.frame_of-frame.result.0.0 in
-    let forest = c.tree-tree.ensures.forest in
-    let encloses : Encloses (handles_of (scene_of c.args.store.now).trees) u c.args.h.0 = subst (λ (g : Forest ℕ). Encloses g u c.args.h.0) forest c.frame_of-frame.ensures.encloses in
-    let known = c.requires.entries u encloses k (subst (λ (g : Forest ℕ). has (tree_at g u) k ≡ true) forest i) in
-    some_listed t k (some-alike self.limits.objects t self.boxes self.listed.items k these self.kept.boxes ∙ listed_some self.boxes k known)
-
 pub solve_tree-requires-clause-boxes : goal.solve_tree-requires-clause-boxes
 solve_tree-requires-clause-boxes c =
     let scene = scene_of c.args.store.now in
     let u = c.frame_of-frame.result.0.0 in
     let encloses : Encloses (handles_of scene.trees) u c.args.h.0 = subst (λ (g : Forest ℕ). Encloses g u c.args.h.0) c.tree-tree.ensures.forest c.frame_of-frame.ensures.encloses in
-    subst (λ (g : Forest ℕ). AreRenewed scene c.args.self.now.boxes (tree_at g u)) (sym c.tree-tree.ensures.forest) (c.requires.boxes u encloses)
-
-pub solve_tree-requires-clause-listed_boxes : goal.solve_tree-requires-clause-listed_boxes
-solve_tree-requires-clause-listed_boxes c = let self = c.args.self.now in listed (goal.at.solve_tree-requires-clause-listed_boxes c).After-frame_of-frame self.boxes self.kept.boxes
+    subst (λ (g : Forest ℕ). AreRenewed scene (layout_of c.args.self.now).boxes (tree_at g u)) (sym c.tree-tree.ensures.forest) (c.requires.boxes u encloses)
 
 pub solve_tree-requires-clause-listed : goal.solve_tree-requires-clause-listed
-solve_tree-requires-clause-listed c = let self = c.args.self.now in listed (goal.at.solve_tree-requires-clause-listed c).After-frame_of-frame self.natural_widths self.kept.natural_widths
-
-pub solve_tree-requires-clause-listed_widths : goal.solve_tree-requires-clause-listed_widths
-solve_tree-requires-clause-listed_widths c = let self = c.args.self.now in listed (goal.at.solve_tree-requires-clause-listed_widths c).After-frame_of-frame self.widths self.kept.widths
-
-pub solve_tree-requires-clause-listed_heights : goal.solve_tree-requires-clause-listed_heights
-solve_tree-requires-clause-listed_heights c = let self = c.args.self.now in listed (goal.at.solve_tree-requires-clause-listed_heights c).After-frame_of-frame self.natural_heights self.kept.natural_heights
-
-pub solve_tree-requires-clause-listed_places : goal.solve_tree-requires-clause-listed_places
-solve_tree-requires-clause-listed_places c = let self = c.args.self.now in listed (goal.at.solve_tree-requires-clause-listed_places c).After-frame_of-frame self.positions self.kept.positions
+solve_tree-requires-clause-listed c k i =
+    let u = c.frame_of-frame.result.0.0 in
+    let forest = c.tree-tree.ensures.forest in
+    let encloses : Encloses (handles_of (scene_of c.args.store.now).trees) u c.args.h.0 = subst (λ (g : Forest ℕ). Encloses g u c.args.h.0) forest c.frame_of-frame.ensures.encloses in
+    c.requires.entries u encloses k (subst (λ (g : Forest ℕ). has (tree_at g u) k ≡ true) forest i)
 
 pub solve_tree-requires-clause-few : goal.solve_tree-requires-clause-few
 solve_tree-requires-clause-few c =
@@ -84,19 +61,10 @@ solve_tree-requires-clause-capacity c =
 pub invariant_of-self : goal.invariant_of-self
 invariant_of-self c =
     let self = c.args.self.now in
-    let hs = self.listed.items in
-    let n = self.limits.objects in
-    let now = c.solve_tree.new in
     let done = c.solve_tree.ensures in
     let room = self.items_room in
     record {
-      kept = record {
-        boxes = these_kept n self.boxes now.boxes hs done.listed_boxes self.kept.boxes;
-        natural_widths = these_kept n self.natural_widths now.natural_widths hs done.listed self.kept.natural_widths;
-        widths = these_kept n self.widths now.widths hs done.listed_widths self.kept.widths;
-        natural_heights = these_kept n self.natural_heights now.natural_heights hs done.listed_heights self.kept.natural_heights;
-        positions = these_kept n self.positions now.places hs done.listed_places self.kept.positions;
-      };
+      kept = these_kept self.limits.objects self.entries c.solve_tree.new.entries self.listed.items done.listed self.kept;
       list_room = self.list_room;
       found_room = self.found_room;
       items_room = rw done.capacity room;
@@ -114,15 +82,15 @@ returns c =
     let frame = c.frame_of-frame.result.1 in
     let framed = c.frame_of-frame.ensures in
     let l = layout_of self in
-    let m = told now.natural_widths now.widths now.natural_heights now.places in
+    let m = told now.entries in
     let forest : c.tree-tree.result.now.forest ≡ f = c.tree-tree.ensures.forest in
     let once = c.tree-tree.ensures.valid.trees.once in
     let there : has f u ≡ true = subst (λ (g : Forest ℕ). has g u ≡ true) forest framed.there in
     let encloses : Encloses f u c.args.h.0 = subst (λ (g : Forest ℕ). Encloses g u c.args.h.0) forest framed.encloses in
-    let is_frame : IsFrameOf scene.limits (known_at (box_at self.boxes) l) (parent_of f u) frame =
-    subst (λ (b : Bounds). IsFrameOf b (known_at (box_at self.boxes) l) (parent_of f u) frame) c.requires.limits
-    (subst (λ (g : Forest ℕ). IsFrameOf (limits_of self) (known_at (box_at self.boxes) l) (parent_of g u) frame) forest framed.frame) in
-    let renewed : (q : ℕ) → parent_of f u ≡ Some q → IsRenewed scene self.boxes q =
+    let is_frame : IsFrameOf scene.limits (known_at (box_at l.boxes) l) (parent_of f u) frame =
+    subst (λ (b : Bounds). IsFrameOf b (known_at (box_at l.boxes) l) (parent_of f u) frame) c.requires.limits
+    (subst (λ (g : Forest ℕ). IsFrameOf (limits_of self) (known_at (box_at l.boxes) l) (parent_of g u) frame) forest framed.frame) in
+    let renewed : (q : ℕ) → parent_of f u ≡ Some q → IsRenewed scene l.boxes q =
     λ q up.
     let above = is_above f u (as_handle q) once there (sym (ap (option_map as_handle) up)) in
     c.requires.boxes q (λ k i. above.encloses k (encloses k i)) q (in_own_tree f q once above.there) in
@@ -131,10 +99,9 @@ returns c =
       encloses = encloses;
       fit = subst (λ (g : Forest ℕ). AllFit (map_forest (known_at box m) (tree_at g u))) forest done.fit;
       keeps = subst (λ (g : Forest ℕ). KeepsRest l m (tree_at g u)) forest done.others;
-      lets = lets-stand scene self.boxes l m u scene.limits frame (parent_of f u) done.stands is_frame renewed;
-      fills = root-fills scene self.boxes l m u scene.limits frame (parent_of f u) done.stands is_frame;
+      lets = lets-stand scene l.boxes l m u scene.limits frame (parent_of f u) done.stands is_frame renewed;
+      fills = root-fills scene l.boxes l m u scene.limits frame (parent_of f u) done.stands is_frame;
       boxes = done.boxes;
-      listed_boxes = done.listed_boxes;
-      listed = done.listed_places;
+      listed = done.listed;
       limits = c.requires.limits ∙ sym c.requires.limits;
     }

@@ -1,4 +1,4 @@
-use Rattle.std.proofs.Common.{◌≡◌, ◌<◌, ◌∙◌, refl, sym, ap, subst, ℕ, zero, suc, true, false, ◌⊎◌, Option, inl, inr, arith}
+use Rattle.std.proofs.Common.{◌≡◌, ◌<◌, ◌∙◌, refl, sym, ap, subst, ℕ, zero, suc, true, false, ◌⊎◌, inl, inr, arith}
 use Rattle.std.specs.Prelude.{is_some}
 use Rattle.std.proofs.lemmas.Bool.{cases_Bool, both_ways, false_from_ne_true}
 use Rattle.gui_base.specs.Forest.{Forest, has}
@@ -6,23 +6,24 @@ use Rattle.gui_pool.specs.Table.{value_at}
 use Rattle.gui_store.specs.Views.{scene_of}
 use Rattle.layout_defs.specs.OwnHeights.{but_height}
 use Rattle.scene_defs.specs.Scene.{handles_of}
-use Rattle.gui_layout.specs.declared.layout_box.LayoutBox.{LayoutBox}
 use Rattle.gui_layout.specs.Listing.{times}
 use Rattle.gui_layout.specs.Pending.{is_pending}
 use Rattle.gui_layout.specs.Renewed.{IsRenewed}
-use Rattle.gui_layout.specs.Same.{SameEntries}
+use Rattle.gui_layout.specs.Listing.{SameValue}
 use Rattle.gui_layout.specs.Scenes.{scene_box}
 use Rattle.gui_layout.specs.Settled.{Layout, known_at}
+use Rattle.gui_layout.specs.Naturals.{naturals_in}
 use Rattle.gui_layout.specs.Settles.{known_in}
-use Rattle.gui_layout.specs.Solved.{entries_of}
-use Rattle.gui_layout.specs.Views.{box_or}
-use Rattle.gui_layout.proofs.Apart.{naturals-alike, naturals-none, place-alike, place-none}
+use Rattle.gui_layout.specs.Solved.{layout_of}
+use Rattle.gui_layout.specs.Tables.{area_in}
+use Rattle.gui_layout.specs.Tops.{in_trees_at}
+use Rattle.gui_layout.proofs.Apart.{naturals-alike, none-of, place-alike}
 use Rattle.gui_layout.proofs.Closing.{all-settled, marked-places, marked-sizes, right}
 use Rattle.gui_layout.proofs.Listed.{some_listed}
 use Rattle.gui_layout.proofs.Marking.{marked-has}
-use Rattle.gui_layout.proofs.Renewals.{some-alike, some-kept}
+use Rattle.gui_layout.proofs.Renewals.{some-kept}
 use Rattle.gui_layout.specs.SettledBut.{in_marked}
-use Rattle.gui_layout.proofs.Staying.{known-alike, same-then}
+use Rattle.gui_layout.proofs.Staying.{box-alike, known-alike}
 use Rattle.gui_layout.proofs.Stepping.{mark-own}
 use Rattle.gui_layout.proofs.places.Places.settle_changed.Goals as goal
 use Rattle.gui_layout.proofs.places.Places.settle_changed.Goals.{After-enter_marked, After-renew_marked, After-settle_marked}
@@ -32,22 +33,20 @@ none-or-some zero = inl refl
 none-or-some (suc n) = inr (omega arith)
 
 -- an object without a mark keeps its entries while others come and go
-same : (c : After-enter_marked) (k : ℕ) → has (handles_of (scene_of c.args.store.now).trees) k ≡ true → is_pending c.args.pending.now k ≡ false → SameEntries k (entries_of c.args.self.now) (entries_of c.enter_marked.new.self)
+same : (c : After-enter_marked) (k : ℕ) → has (handles_of (scene_of c.args.store.now).trees) k ≡ true → is_pending c.args.pending.now k ≡ false → SameValue k c.args.self.now.entries c.enter_marked.new.self.entries
 same c k there un =
     let here = subst (λ (f : Forest ℕ). has f k ≡ true) (sym c.tree-tree.ensures.forest) there in
     let first = c.leave_gone.ensures.kept k here in
-    same-then k (entries_of c.args.self.now) (entries_of c.leave_gone.new.self) (entries_of c.enter_marked.new.self) first (elim (none-or-some (times c.args.marked.now k)) [
+    elim (none-or-some (times c.args.marked.now k)) [
       | inl off ↦ c.enter_marked.ensures.others k there off
-      | inr listed ↦ c.enter_marked.ensures.kept k there (ap is_some first.boxes ∙ c.requires.entries k listed un)
-    ])
+      | inr listed ↦ c.enter_marked.ensures.kept k there (ap is_some first ∙ c.requires.entries k listed un)
+    ] ∙ first
 
 -- an object has entries where it is marked or had a place
-entered : (c : After-enter_marked) (k : ℕ) → has (handles_of (scene_of c.args.store.now).trees) k ≡ true → (is_pending c.args.pending.now k ≡ false → is_some (value_at c.args.self.now.positions k) ≡ true) → is_some (value_at c.enter_marked.new.self.boxes k) ≡ true
+entered : (c : After-enter_marked) (k : ℕ) → has (handles_of (scene_of c.args.store.now).trees) k ≡ true → (is_pending c.args.pending.now k ≡ false → is_some (value_at c.args.self.now.entries k) ≡ true) → is_some (value_at c.enter_marked.new.self.entries k) ≡ true
 entered c k there had = elim (cases_Bool (is_pending c.args.pending.now k)) [
   | inl is ↦ c.enter_marked.ensures.own k (c.requires.listed k is) there
-  | inr un ↦
-      let self = c.args.self.now in
-      ap is_some (same c k there un).boxes ∙ (some-alike self.limits.objects self.boxes self.positions self.listed.items k self.kept.boxes self.kept.positions ∙ had un)
+  | inr un ↦ ap is_some (same c k there un) ∙ had un
 ]
 
 pub renew_marked-requires : goal.renew_marked-requires
@@ -58,23 +57,23 @@ alike : (c : After-renew_marked) (k : ℕ) → has (handles_of (scene_of c.args.
 alike c k there un =
     let d = (goal.at.After-renew_marked c).After-enter_marked in
     let box = scene_box (scene_of c.args.store.now) in
-    ap (λ (l : Layout). known_at box l k) c.renew_marked.ensures.layout
-    ∙ known-alike box k (entries_of c.args.self.now) (entries_of c.enter_marked.new.self) (same d k there un)
+    ap (λ (l : Layout). known_at box l k) c.renew_marked.ensures.rest
+    ∙ known-alike box k c.args.self.now.entries c.enter_marked.new.self.entries (same d k there un)
 
-boxed : (c : After-renew_marked) (k : ℕ) → has (handles_of (scene_of c.args.store.now).trees) k ≡ true → is_pending c.args.pending.now k ≡ false → IsRenewed (scene_of c.args.store.now) c.args.self.now.boxes k → IsRenewed (scene_of c.args.store.now) c.renew_marked.new.self.boxes k
+boxed : (c : After-renew_marked) (k : ℕ) → has (handles_of (scene_of c.args.store.now).trees) k ≡ true → is_pending c.args.pending.now k ≡ false → IsRenewed (scene_of c.args.store.now) (layout_of c.args.self.now).boxes k → IsRenewed (scene_of c.args.store.now) (layout_of c.renew_marked.new.self).boxes k
 boxed c k there un was =
     let d = (goal.at.After-renew_marked c).After-enter_marked in
-    c.renew_marked.ensures.kept k (ap (λ (o : Option LayoutBox). but_height (box_or k o)) (same d k there un).boxes ∙ was)
+    c.renew_marked.ensures.kept k (ap but_height (box-alike k c.args.self.now.entries c.enter_marked.new.self.entries (same d k there un)) ∙ was)
 
-renewed : (c : After-renew_marked) (k : ℕ) → has (handles_of (scene_of c.args.store.now).trees) k ≡ true → is_pending c.args.pending.now k ≡ true → IsRenewed (scene_of c.args.store.now) c.renew_marked.new.self.boxes k
+renewed : (c : After-renew_marked) (k : ℕ) → has (handles_of (scene_of c.args.store.now).trees) k ≡ true → is_pending c.args.pending.now k ≡ true → IsRenewed (scene_of c.args.store.now) (layout_of c.renew_marked.new.self).boxes k
 renewed c k there is = c.renew_marked.ensures.own k (c.requires.listed k is) is there
 
 pub settle_marked-requires-clause-entries : goal.settle_marked-requires-clause-entries
 settle_marked-requires-clause-entries c k is =
     let d = (goal.at.settle_marked-requires-clause-entries c).After-enter_marked in
     let there = marked-has (is_pending c.args.pending.now) k (handles_of (scene_of c.args.store.now).trees) is in
-    some_listed c.renew_marked.new.self.boxes k
-    (some-kept c.enter_marked.new.self.boxes c.renew_marked.new.self.boxes k c.renew_marked.ensures.listed_boxes
+    some_listed c.renew_marked.new.self.entries k
+    (some-kept c.enter_marked.new.self.entries c.renew_marked.new.self.entries k c.renew_marked.ensures.listed
     ∙ entered d k there (λ un. c.requires.but.placed k there is un))
 
 pub settle_marked-requires-clause-boxes : goal.settle_marked-requires-clause-boxes
@@ -87,13 +86,33 @@ settle_marked-requires-clause-boxes c k is =
     ]
 
 -- an object has a place where it has a box
-placed : (c : After-settle_marked) (k : ℕ) → is_some (value_at c.settle_marked.new.self.positions k) ≡ is_some (value_at c.enter_marked.new.self.positions k)
+placed : (c : After-settle_marked) (k : ℕ) → is_some (value_at c.settle_marked.new.self.entries k) ≡ is_some (value_at c.enter_marked.new.self.entries k)
 placed c k =
-    some-kept c.renew_marked.new.self.positions c.settle_marked.new.self.positions k c.settle_marked.ensures.settles.listed
-    ∙ ap (λ t. is_some (value_at t k)) c.renew_marked.ensures.positions
+    some-kept c.renew_marked.new.self.entries c.settle_marked.new.self.entries k c.settle_marked.ensures.settles.listed
+    ∙ some-kept c.enter_marked.new.self.entries c.renew_marked.new.self.entries k c.renew_marked.ensures.listed
 
-boxes-alike : (c : After-enter_marked) (k : ℕ) → is_some (value_at c.enter_marked.new.self.boxes k) ≡ is_some (value_at c.enter_marked.new.self.positions k)
-boxes-alike c k = let p = c.enter_marked.new.self in some-alike p.limits.objects p.boxes p.positions p.listed.items k p.kept.boxes p.kept.positions
+-- outside of the trees that are solved none has changed, and what has not changed stands where it stood
+pub returns-clause-moves : goal.returns-clause-moves
+returns-clause-moves c =
+    let e = (goal.at.returns-clause-moves c).After-renew_marked in
+    let g = (goal.at.returns-clause-moves c).After-enter_marked in
+    let scene = scene_of c.args.store.now in
+    let f = handles_of scene.trees in
+    let m = is_pending c.args.pending.now in
+    let us = c.settle_marked.new.solved.items in
+    let old = c.args.self.now in
+    let mid = c.renew_marked.new.self in
+    let new = c.settle_marked.new.self in
+    let solves = c.settle_marked.ensures.solves in
+    let whole : (k : ℕ) → has f k ≡ true → m k ≡ true → in_trees_at f us k ≡ true = λ k there is. solves.whole k there is (c.settle_marked.ensures.all k there) in
+    record {
+      tops = solves.tops;
+      whole = whole;
+      stays = λ k there out.
+          let off : m k ≡ false = false_from_ne_true (m k) (λ on. both_ways (in_trees_at f us k) out (whole k there on)) in
+          place-alike k mid new scene (solves.stays k there out) (sym (some-kept mid.entries new.entries k c.settle_marked.ensures.settles.listed))
+          ∙ place-alike k old mid scene (alike e k there off) (sym (some-kept c.enter_marked.new.self.entries mid.entries k c.renew_marked.ensures.listed ∙ ap is_some (same g k there off)));
+    }
 
 pub returns-clause-settles : goal.returns-clause-settles
 returns-clause-settles c =
@@ -109,26 +128,26 @@ returns-clause-settles c =
     let new = c.settle_marked.new.self in
     let valid = c.tree-tree.ensures.valid in
     let settles = c.settle_marked.ensures.settles in
-    let stands : (k : ℕ) → has f k ≡ true → (m k ≡ false → is_some (value_at old.positions k) ≡ true) → is_some (value_at new.positions k) ≡ true = λ k is had. placed d k ∙ (sym (boxes-alike g k) ∙ entered g k is had) in
-    let gone : (k : ℕ) → has f k ≡ false → is_some (value_at c.leave_gone.new.self.positions k) ≡ false → is_some (value_at new.positions k) ≡ false =
+    let stands : (k : ℕ) → has f k ≡ true → (m k ≡ false → is_some (value_at old.entries k) ≡ true) → is_some (value_at new.entries k) ≡ true = λ k is had. placed d k ∙ entered g k is had in
+    let gone : (k : ℕ) → has f k ≡ false → is_some (value_at c.leave_gone.new.self.entries k) ≡ false → is_some (value_at new.entries k) ≡ false =
     λ k out none. placed d k ∙ c.enter_marked.ensures.none k out none in
     let now = right scene old mid new m n (alike e) (boxed e) (renewed e) stands settles c.settle_marked.ensures.all (in_marked m scene) c.requires.but in
     let un : (k : ℕ) → has f k ≡ true → in_marked m scene k ≡ false → m k ≡ false = λ k is out. false_from_ne_true (m k) (λ on. both_ways (in_marked m scene k) out (mark-own m k f on is)) in
-    let standing : (k : ℕ) → is_some (value_at mid.positions k) ≡ is_some (value_at new.positions k) = λ k. sym (some-kept mid.positions new.positions k settles.listed) in
-    let stood : (k : ℕ) → has f k ≡ true → m k ≡ false → is_some (value_at old.positions k) ≡ is_some (value_at mid.positions k) =
-    λ k is off. sym (ap (λ t. is_some (value_at t k)) c.renew_marked.ensures.positions ∙ ap is_some (same g k is off).positions) in
+    let standing : (k : ℕ) → is_some (value_at mid.entries k) ≡ is_some (value_at new.entries k) = λ k. sym (some-kept mid.entries new.entries k settles.listed) in
+    let stood : (k : ℕ) → has f k ≡ true → m k ≡ false → is_some (value_at old.entries k) ≡ is_some (value_at mid.entries k) =
+    λ k is off. sym (some-kept c.enter_marked.new.self.entries mid.entries k c.renew_marked.ensures.listed ∙ ap is_some (same g k is off)) in
     record {
       solved = marked-places scene new m now valid;
       gone = λ k is out.
-          place-none k (entries_of new) (gone k out (c.leave_gone.ensures.gone k (c.requires.listed k is) (subst (λ (t : Forest ℕ). has t k ≡ false) (sym c.tree-tree.ensures.forest) out)));
+          none-of area_in (value_at new.entries k) (gone k out (c.leave_gone.ensures.gone k (c.requires.listed k is) (subst (λ (t : Forest ℕ). has t k ≡ false) (sym c.tree-tree.ensures.forest) out)));
       others = λ k is out. place-alike k mid new scene (settles.others k is out) (standing k) ∙ place-alike k old mid scene (alike e k is (un k is out)) (stood k is (un k is out));
       naturals = marked-sizes scene new m now valid;
       gone_naturals = λ k is out.
-          naturals-none k (entries_of new) (gone k out (c.leave_gone.ensures.gone k (c.requires.listed k is) (subst (λ (t : Forest ℕ). has t k ≡ false) (sym c.tree-tree.ensures.forest) out)));
+          none-of naturals_in (value_at new.entries k) (gone k out (c.leave_gone.ensures.gone k (c.requires.listed k is) (subst (λ (t : Forest ℕ). has t k ≡ false) (sym c.tree-tree.ensures.forest) out)));
       other_naturals = λ k is out. naturals-alike k mid new scene (settles.others k is out) (standing k) ∙ naturals-alike k old mid scene (alike e k is (un k is out)) (stood k is (un k is out));
       right = λ s was. right scene old mid new m n (alike e) (boxed e) (renewed e) stands settles c.settle_marked.ensures.all s was;
       settled = λ was.
-          let some : (k : ℕ) → is_some (value_at new.positions k) ≡ has f k =
+          let some : (k : ℕ) → is_some (value_at new.entries k) ≡ has f k =
           λ k. elim (cases_Bool (has f k)) [
             | inl is ↦ stands k is (λ un. was.there k un ∙ is) ∙ sym is
             | inr out ↦ elim (cases_Bool (m k)) [
@@ -136,7 +155,5 @@ returns-clause-settles c =
               | inr un ↦ gone k out (c.leave_gone.ensures.none k (was.there k un ∙ out)) ∙ sym out
             ]
           ] in
-          let some_box : (k : ℕ) → is_some (value_at new.boxes k) ≡ has f k =
-          λ k. some-alike new.limits.objects new.boxes new.positions new.listed.items k new.kept.boxes new.kept.positions ∙ some k in
-          all-settled scene old mid new m n (alike e) (boxed e) (renewed e) stands settles c.settle_marked.ensures.all valid was.right some some_box;
+          all-settled scene old mid new m n (alike e) (boxed e) (renewed e) stands settles c.settle_marked.ensures.all valid was.right some;
     }

@@ -19,13 +19,13 @@ were : (c : After-raise_marks) (k : ℕ) → is_pending c.raise_marks.new.pendin
 were c k is = sym (c.raise_marks.ensures.any k) ∙ all-any (value_at c.raise_marks.new.pending k) is
 
 -- of what was marked the rest goes by none of its children
-rest : (c : After-raise_marks) (k : ℕ) → is_marked_in c.args.pending.now k ≡ true → is_pending c.raise_marks.new.pending k ≡ false → Rests (handles_of (scene_of c.args.store.now).trees) c.args.self.now.boxes k
+rest : (c : After-raise_marks) (k : ℕ) → is_marked_in c.args.pending.now k ≡ true → is_pending c.raise_marks.new.pending k ≡ false → Rests (handles_of (scene_of c.args.store.now).trees) c.args.self.now.entries k
 rest c k is none =
     let off : is_pending c.args.pending.now k ≡ false = false_from_ne_true (is_pending c.args.pending.now k) (λ on. both_ways (is_pending c.raise_marks.new.pending k) none (c.raise_marks.ensures.more k on)) in
-    subst (λ (f : Forest ℕ). Rests f c.args.self.now.boxes k) c.tree.ensures.forest
+    subst (λ (f : Forest ℕ). Rests f c.args.self.now.entries k) c.tree.ensures.forest
     (c.raise_marks.ensures.own k (c.requires.listed k is) (any-part (value_at c.args.pending.now k) is off) none)
 
-half : (c : After-raise_marks) (k : ℕ) → is_partly c.args.pending.now k ≡ true → is_pending c.raise_marks.new.pending k ≡ false → Rests (handles_of (scene_of c.args.store.now).trees) c.args.self.now.boxes k
+half : (c : After-raise_marks) (k : ℕ) → is_partly c.args.pending.now k ≡ true → is_pending c.raise_marks.new.pending k ≡ false → Rests (handles_of (scene_of c.args.store.now).trees) c.args.self.now.entries k
 half c k is none = rest c k (part-any (value_at c.args.pending.now k) is) none
 
 pub settle_changed-requires-clause-listed : goal.settle_changed-requires-clause-listed
@@ -46,6 +46,15 @@ settle_changed-requires-clause-but c =
     let n = is_pending c.raise_marks.new.pending in
     narrowed c.args.self.now scene (in_marked w scene) (in_marked n scene) n (λ k i. marked-fewer w n k (handles_of scene.trees) (were d) i)
     (right-raised c.args.self.now scene (is_pending c.args.pending.now) (is_partly c.args.pending.now) n c.raise_marks.ensures.more (half d) (in_marked w scene) c.requires.but)
+
+pub returns-clause-moves : goal.returns-clause-moves
+returns-clause-moves c =
+    let moves = c.settle_changed.ensures.moves in
+    record {
+      tops = moves.tops;
+      whole = λ k there is. moves.whole k there (c.raise_marks.ensures.more k is);
+      stays = moves.stays;
+    }
 
 pub returns-clause-settles : goal.returns-clause-settles
 returns-clause-settles c =

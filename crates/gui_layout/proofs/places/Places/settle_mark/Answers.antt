@@ -5,6 +5,7 @@ use Rattle.scene_defs.specs.Scene.{handles_of}
 use Rattle.gui_layout.specs.Pending.{is_pending}
 use Rattle.gui_layout.proofs.Climbing.{in_own_tree}
 use Rattle.gui_layout.proofs.Stepping.{mark-inside, settles-none, settles-one}
+use Rattle.gui_layout.proofs.Tops.{solves-none, solves-one}
 use Rattle.gui_layout.proofs.places.Places.settle_mark.Goals as goal
 
 pub settle_at-top-requires-clause-boxes : goal.settle_at-top-requires-clause-boxes
@@ -28,6 +29,18 @@ returns-then-not-is_pending-clause-settles c = settles-none (scene_of c.args.sto
 
 pub returns-then-not-has-clause-settles : goal.returns-then-not-has-clause-settles
 returns-then-not-has-clause-settles c = settles-none (scene_of c.args.store.now) c.args.self.now (is_pending c.args.pending.now)
+
+pub returns-then-not-is_pending-clause-solves : goal.returns-then-not-is_pending-clause-solves
+returns-then-not-is_pending-clause-solves c = solves-none (scene_of c.args.store.now) c.args.self.now (is_pending c.args.pending.now)
+
+pub returns-then-not-has-clause-solves : goal.returns-then-not-has-clause-solves
+returns-then-not-has-clause-solves c = solves-none (scene_of c.args.store.now) c.args.self.now (is_pending c.args.pending.now)
+
+pub returns-clause-solves : goal.returns-clause-solves
+returns-clause-solves c =
+    let u = c.settle_at-top.result in
+    solves-one (scene_of c.args.store.now) c.args.self.now c.settle_at-top.new.self (is_pending c.args.pending.now) (is_pending c.finish_tree.new.pending) c.args.h.0 u c.settle_at-top.ensures
+    (λ k out. c.finish_tree.ensures.rest k (subst (λ (g : Forest ℕ). has (tree_at g u.0) k ≡ false) (sym c.tree-tree.ensures.forest) out))
 
 pub returns-clause-settles : goal.returns-clause-settles
 returns-clause-settles c =

@@ -9,6 +9,9 @@ use Rattle.gui_layout.specs.Listing.{times}
 use Rattle.gui_layout.specs.Pending.{is_pending}
 use Rattle.gui_layout.specs.Tables.{Listing, IsListed}
 use Rattle.gui_layout.proofs.Stepping.{marked-fewer, settles-none, settles-then}
+use Rattle.gui_layout.proofs.Tops.{one-listed, solves-none, solves-then}
+use Rattle.gui_layout.specs.Tops.{SolvesAt}
+use Rattle.std.specs.Option.{option_to_list}
 use Rattle.gui_layout.proofs.places.Places.settle_marked.Goals as goal
 
 abbrev none : Handle
@@ -25,19 +28,22 @@ later hs h k next is other some =
 pub loop-h-init : goal.loop-h-init
 loop-h-init c = record {
   settles = settles-none (scene_of c.args.store.now) c.args.self.now (is_pending c.args.pending.now);
+  solves = subst (λ us. SolvesAt c.args.self.now c.args.self.now (scene_of c.args.store.now) (is_pending c.args.pending.now) (is_pending c.args.pending.now) us) (sym c.requires.empty) (solves-none (scene_of c.args.store.now) c.args.self.now (is_pending c.args.pending.now));
+  few = rw c.requires.empty (omega arith);
   left = λ k is there. c.requires.marked k is;
   marks = refl;
+  capacity = refl;
 }
 
 -- the objects of the marked trees have entries still, and their boxes are those of the scene
-pub settle_mark-requires-clause-entries : goal.settle_mark-requires-clause-entries
-settle_mark-requires-clause-entries c k is =
+pub settle_mark-top-requires-clause-entries : goal.settle_mark-top-requires-clause-entries
+settle_mark-top-requires-clause-entries c k is =
     let f = handles_of (scene_of c.args.store.now).trees in
     let inv = c.loop-h.invariant in
-    subst (λ (ks : Listing). IsListed ks k) (sym inv.settles.listed_boxes) (c.requires.entries k (marked-fewer (is_pending c.args.pending.now) (is_pending c.loop-h.pending) k f inv.settles.fewer is))
+    subst (λ (ks : Listing). IsListed ks k) (sym inv.settles.listed) (c.requires.entries k (marked-fewer (is_pending c.args.pending.now) (is_pending c.loop-h.pending) k f inv.settles.fewer is))
 
-pub settle_mark-requires-clause-boxes : goal.settle_mark-requires-clause-boxes
-settle_mark-requires-clause-boxes c k is =
+pub settle_mark-top-requires-clause-boxes : goal.settle_mark-top-requires-clause-boxes
+settle_mark-top-requires-clause-boxes c k is =
     let f = handles_of (scene_of c.args.store.now).trees in
     let inv = c.loop-h.invariant in
     inv.settles.boxes k (c.requires.boxes k (marked-fewer (is_pending c.args.pending.now) (is_pending c.loop-h.pending) k f inv.settles.fewer is))
@@ -50,17 +56,33 @@ loop-h-preserved c =
     let i = c.loop-h.h-index in
     let h = get_or hs i none in
     let inv = c.loop-h.invariant in
-    let done = c.settle_mark.ensures in
-    let pending = c.settle_mark.new.pending in
+    let done = c.settle_mark-top.ensures in
+    let pending = c.settle_mark-top.new.pending in
     record {
-      settles = settles-then scene c.args.self.now c.loop-h.self c.settle_mark.new.self (is_pending c.args.pending.now) (is_pending c.loop-h.pending) (is_pending pending) inv.settles done.settles;
+      settles = settles-then scene c.args.self.now c.loop-h.self c.settle_mark-top.new.self (is_pending c.args.pending.now) (is_pending c.loop-h.pending) (is_pending pending) inv.settles done.settles;
+      solves = subst (λ us. SolvesAt c.args.self.now c.settle_mark-top.new.self scene (is_pending c.args.pending.now) (is_pending pending) us) (sym c.add_any.ensures.items)
+          (solves-then scene c.args.self.now c.loop-h.self c.settle_mark-top.new.self (is_pending c.args.pending.now) (is_pending c.loop-h.pending) (is_pending pending) c.loop-h.solved.items (option_to_list c.settle_mark-top.result) inv.solves done.solves);
+      few =
+          let more = one-listed c.loop-h.solved.items c.settle_mark-top.result in
+          let before = inv.few in
+          rw c.add_any.ensures.items (omega arith);
       left = λ k is there.
           let other : eqb h.0 k ≡ false = false_from_ne_true (eqb h.0 k) (λ e.
           let same = eqb-true h.0 k e in
           both_ways (is_pending pending k) (subst (λ j. is_pending pending j ≡ false) same (done.own (subst (λ j. has f j ≡ true) (sym same) there))) is) in
           later (drop i hs) h k (drop (i + 1) hs) (now hs i c.loop-h-test.true) other (inv.left k (done.settles.fewer k is) there);
       marks = done.marks ∙ inv.marks;
+      capacity = c.add_any.ensures.capacity ∙ inv.capacity;
     }
+
+-- each object before this one has added one at most
+pub add_any-requires : goal.add_any-requires
+add_any-requires c =
+    let few = c.loop-h.invariant.few in
+    let within = c.loop-h-test.true in
+    let capacity = c.loop-h.invariant.capacity in
+    let room = c.requires.room in
+    omega arith
 
 pub returns-clause-all : goal.returns-clause-all
 returns-clause-all c k there =

@@ -1,0 +1,38 @@
+use Rattle.std.proofs.Common.{◌≡◌, ◌∙◌, refl, sym, subst, true, eqb}
+use Rattle.std.proofs.lemmas.Bool.{both_ways, eqb-true, false_from_ne_true}
+use Rattle.gui_store.specs.Views.{scene_of}
+use Rattle.gui_layout.specs.Marks.{is_changed, is_marked, is_parent}
+use Rattle.gui_layout.specs.SettledBut.{AreSettledButMarks, anyone, in_marked}
+use Rattle.gui_layout.proofs.Before.{right_fewer}
+use Rattle.gui_change.proofs.Edited.{other-kids}
+use Rattle.gui_change.proofs.Unmoved.{beside-told}
+use Rattle.gui_change.proofs.edits.settle_beside.Goals as goal
+use Rattle.gui_change.proofs.edits.settle_beside.Goals.{After-mark_beside}
+
+right : (c : After-mark_beside) → AreSettledButMarks c.args.places.now (scene_of c.args.store.now) (is_changed c.mark_beside.new.marks) (is_parent c.mark_beside.new.marks)
+right c =
+    let marks = c.mark_beside.new.marks in
+    let p = c.args.parent in
+    let it = c.requires.was in
+    beside-told c.args.places.now (scene_of c.args.store.now) p it.made it.concerned it.removed it.edited (is_changed marks) (is_parent marks)
+    (λ k un none. false_from_ne_true (eqb k p.0) (λ e. both_ways (is_parent marks k) none (other-kids marks k (subst (λ j. is_marked marks j ≡ true) (sym (eqb-true k p.0 e)) c.mark_beside.ensures.parent) un)))
+
+pub settle-requires-clause-but : goal.settle-requires-clause-but
+settle-requires-clause-but c =
+    let scene = scene_of c.args.store.now in
+    let marks = c.mark_beside.new.marks in
+    right_fewer c.args.places.now scene anyone (in_marked (is_marked marks) scene) (is_changed marks) (is_parent marks) (λ k looked. refl) (right (goal.at.settle-requires-clause-but c).After-mark_beside).right
+
+pub returns-clause-settles : goal.returns-clause-settles
+returns-clause-settles c = record {
+  settled = c.settle.ensures.settled (right (goal.at.returns-clause-settles c).After-mark_beside);
+  limits = c.settle.ensures.limits;
+  there = c.settle.ensures.tops;
+  stays = c.settle.ensures.stays;
+}
+
+pub returns-clause-none : goal.returns-clause-none
+returns-clause-none c = record {
+  none = c.settle.ensures.empty;
+  most = c.settle.ensures.most ∙ (c.mark_beside.ensures.most ∙ c.requires.none.most);
+}

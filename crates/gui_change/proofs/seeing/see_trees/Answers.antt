@@ -1,0 +1,41 @@
+use Rattle.std.proofs.Common.{◌∙◌, ◌+◌, ap, ◌||◌, Bool, None, List, drop, get_or, inl, inr}
+use Rattle.std.proofs.lemmas.Bool.{cases_Bool}
+use Rattle.std.proofs.lemmas.List.{drop_all}
+use Rattle.gui_base.specs.Forest.{has, tree_at}
+use Rattle.gui_base.specs.declared.Handle.{Handle}
+use Rattle.gui_store.specs.Views.{scene_of}
+use Rattle.scene_defs.specs.Scene.{handles_of}
+use Rattle.gui_layout.specs.Tops.{in_trees_at}
+use Rattle.gui_change.proofs.Orders.{nobody}
+use Rattle.gui_change.proofs.SeenAgain.{shown-still, then-again}
+use Rattle.gui_change.proofs.Staying.{times-item}
+use Rattle.gui_change.proofs.Renewing.{next_of}
+use Rattle.gui_change.proofs.seeing.see_trees.Goals as goal
+
+pub see_tree-requires-clause-shown : goal.see_tree-requires-clause-shown
+see_tree-requires-clause-shown c = shown-still (scene_of c.args.store.now) c.args.table.now c.loop-top.table c.loop-top.invariant.sees.listing c.requires.shown
+
+pub see_tree-requires-clause-there : goal.see_tree-requires-clause-there
+see_tree-requires-clause-there c = c.requires.tops (get_or c.args.tops.now c.loop-top.top-index nobody).0 (times-item c.args.tops.now c.loop-top.top-index c.loop-top-test.true)
+
+pub loop-top-preserved : goal.loop-top-preserved
+loop-top-preserved c =
+    let scene = scene_of c.args.store.now in
+    let f = handles_of scene.trees in
+    let tops = c.args.tops.now in
+    let i = c.loop-top.top-index in
+    let top = (get_or tops i nobody).0 in
+    record {
+      room = c.see_tree.ensures.room;
+      sees = then-again None scene c.args.table.now c.loop-top.table c.see_tree.new.table c.args.damage.now c.loop-top.damage c.see_tree.new.damage c.loop-top.invariant.sees c.see_tree.ensures.sees;
+      done = λ k all left. elim (cases_Bool (has (tree_at f top) k)) [
+        | inl inside ↦ c.see_tree.ensures.all k inside
+        | inr out ↦ c.see_tree.ensures.sees.seen k (c.loop-top.invariant.done k all
+            (ap (λ (hs : List Handle). in_trees_at f hs k) (next_of tops i c.loop-top-test.true)
+            ∙ (ap (λ (b : Bool). b || in_trees_at f (drop (i + 1) tops) k) out ∙ left)))
+      ];
+    }
+
+pub returns-clause-all : goal.returns-clause-all
+returns-clause-all c k all =
+    c.loop-top.invariant.done k all (ap (λ (hs : List Handle). in_trees_at (handles_of (scene_of c.args.store.now).trees) hs k) (drop_all c.loop-top.top-index c.args.tops.now c.loop-top-test.false))

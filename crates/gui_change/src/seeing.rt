@@ -1,0 +1,419 @@
+//! What is seen again of a scene by lists of the objects that may differ, in place of all that is shown.
+//!
+//! An object may come several times in these lists, and in any order. The second time it owes nothing, since
+//! what is known of it is then what is seen of it.
+ghost use Rattle.std.specs.Prelude.{◌≡◌, ◌≤◌, ◌<◌, ◌==◌, ℕ, true, false, None, Some, option_map, vec_capacity};
+ghost use Rattle.std.specs.List.{flat_map};
+ghost use Rattle.debt_defs.specs.Debt.{is_named};
+ghost use Rattle.gui_base.specs.Forest.{has, tree_at};
+ghost use Rattle.gui_layout.specs.Listing.{HasThese, times};
+ghost use Rattle.gui_layout.specs.Solved.{AreSolved};
+ghost use Rattle.gui_pool.specs.Table.{value_at};
+ghost use Rattle.gui_store.specs.Views.{scene_of};
+ghost use Rattle.gui_style.specs.Styles.{uses_style};
+ghost use Rattle.gui_tree.specs.Handles.{numbers};
+ghost use Rattle.scene_defs.specs.Scene.{handles_of, is_there};
+ghost use Rattle.scene_defs.specs.Shown.{order};
+ghost use Rattle.gui_change.specs.Again.{owed_again};
+ghost use Rattle.gui_change.specs.Concerned.{is_below, is_below_user, may_be};
+ghost use Rattle.gui_change.specs.Dues.{OwesAll};
+ghost use Rattle.gui_change.specs.Handles.{number_of};
+ghost use Rattle.gui_change.specs.Looks.{Shows};
+ghost use Rattle.gui_change.specs.Seen.{IsSeen};
+ghost use Rattle.gui_layout.specs.Tops.{in_trees_at};
+ghost use Rattle.gui_change.specs.Sees.{is_below_other, IsRoom, IsSeenIn, KnowsShown, SeesAgain};
+ghost use Rattle.gui_change.specs.Sights.{KeepOthers};
+ghost use Rattle.gui_change.specs.declared.seen.Seen.{Seen};
+
+use crate::again::see_all_again;
+use crate::concerned::Concerned;
+use crate::debts::is_named;
+use crate::look::Look;
+use crate::seen::Seen;
+use crate::shown::list_tree;
+use gui_base::Handle;
+use gui_damage::Damage;
+use gui_layout::Places;
+use gui_pool::Table;
+use gui_store::Store;
+
+/// Sees an object once more, if something is known of it, and lists what it owes.
+fn see_one(
+    table: &mut Table<Seen>,
+    damage: &mut Damage,
+    named: Option<Handle>,
+    store: &Store,
+    places: &Places,
+    concerned: Concerned,
+    h: Handle,
+)
+    requires solved { AreSolved places.now (scene_of store.now) }
+    requires known { KeepOthers table.old concerned (scene_of store.now) }
+    requires shown { KnowsShown table.old (scene_of store.now) }
+    requires named { (k : ℕ) → (h.0 == k) ≡ false → is_named (option_map number_of named) k ≡ false }
+    ensures sees { SeesAgain (option_map number_of named)
+        (scene_of store.now) table.old table.new damage.old damage.new }
+    ensures own { IsSeenIn table.new (scene_of store.now) h.0 }
+{
+    let _tree = store.tree();
+    if table.get(h.0 as u32).is_none() {
+        return;
+    }
+    let one = [h];
+    see_all_again(table, damage, named, &one, store, places, concerned);
+}
+
+/// Sees the object that a change names once more, if something is known of it. It owes even where nothing
+/// differs.
+fn see_named(
+    table: &mut Table<Seen>,
+    damage: &mut Damage,
+    named: Option<Handle>,
+    store: &Store,
+    places: &Places,
+    concerned: Concerned,
+)
+    requires solved { AreSolved places.now (scene_of store.now) }
+    requires known { KeepOthers table.old concerned (scene_of store.now) }
+    requires shown { KnowsShown table.old (scene_of store.now) }
+    ensures sees { SeesAgain (option_map number_of named)
+        (scene_of store.now) table.old table.new damage.old damage.new }
+    ensures own { (k : ℕ) → is_named (option_map number_of named) k ≡ true →
+        IsSeenIn table.new (scene_of store.now) k }
+{
+    let Some(h) = named else {
+        return;
+    };
+    see_one(table, damage, named, store, places, concerned, h);
+}
+
+/// Sees an object that is there and all below it once more. Where nothing is known of it, nothing is known of
+/// what lies below it: it is not shown. No other object is named.
+fn see_tree(
+    table: &mut Table<Seen>,
+    listed: &mut Vec<Handle>,
+    damage: &mut Damage,
+    named: Option<Handle>,
+    store: &Store,
+    places: &Places,
+    concerned: Concerned,
+    top: Handle,
+)
+    requires solved { AreSolved places.now (scene_of store.now) }
+    requires known { KeepOthers table.old concerned (scene_of store.now) }
+    requires shown { KnowsShown table.old (scene_of store.now) }
+    requires room { IsRoom (scene_of store.now).limits.objects listed.old }
+    requires there { is_there (scene_of store.now) top.0 ≡ true }
+    requires named { (k : ℕ) → (top.0 == k) ≡ false → is_named (option_map number_of named) k ≡ false }
+    ensures sees { SeesAgain (option_map number_of named)
+        (scene_of store.now) table.old table.new damage.old damage.new }
+    ensures all { (k : ℕ) → has (tree_at (handles_of (scene_of store.now).trees) top.0) k ≡ true →
+        IsSeenIn table.new (scene_of store.now) k }
+    ensures room { IsRoom (scene_of store.now).limits.objects listed.new }
+{
+    let tree = store.tree();
+    if table.get(top.0 as u32).is_none() {
+        return;
+    }
+    list_tree(tree, listed, top);
+    see_all_again(
+        table,
+        damage,
+        named,
+        listed.as_slice(),
+        store,
+        places,
+        concerned,
+    );
+    listed.clear();
+}
+
+/// Sees all objects of the trees at these objects once more, which are there.
+fn see_trees(
+    table: &mut Table<Seen>,
+    listed: &mut Vec<Handle>,
+    damage: &mut Damage,
+    store: &Store,
+    places: &Places,
+    concerned: Concerned,
+    tops: &[Handle],
+)
+    requires solved { AreSolved places.now (scene_of store.now) }
+    requires known { KeepOthers table.old concerned (scene_of store.now) }
+    requires shown { KnowsShown table.old (scene_of store.now) }
+    requires room { IsRoom (scene_of store.now).limits.objects listed.old }
+    requires tops { (u : ℕ) → 0 < times tops.now u → is_there (scene_of store.now) u ≡ true }
+    ensures sees { SeesAgain None (scene_of store.now) table.old table.new damage.old damage.new }
+    ensures all { (k : ℕ) → in_trees_at (handles_of (scene_of store.now).trees) tops.now k ≡ true →
+        IsSeenIn table.new (scene_of store.now) k }
+    ensures room { IsRoom (scene_of store.now).limits.objects listed.new }
+{
+    for top in tops {
+        see_tree(table, listed, damage, None, store, places, concerned, *top);
+    }
+}
+
+/// Sees an object and all below it once more, if it is there. No other object is named.
+fn see_below(
+    table: &mut Table<Seen>,
+    listed: &mut Vec<Handle>,
+    damage: &mut Damage,
+    named: Option<Handle>,
+    store: &Store,
+    places: &Places,
+    concerned: Concerned,
+    h: Handle,
+)
+    requires solved { AreSolved places.now (scene_of store.now) }
+    requires known { KeepOthers table.old concerned (scene_of store.now) }
+    requires shown { KnowsShown table.old (scene_of store.now) }
+    requires room { IsRoom (scene_of store.now).limits.objects listed.old }
+    requires named { (k : ℕ) → (h.0 == k) ≡ false → is_named (option_map number_of named) k ≡ false }
+    ensures sees { SeesAgain (option_map number_of named)
+        (scene_of store.now) table.old table.new damage.old damage.new }
+    ensures all { (k : ℕ) → is_below (scene_of store.now) h.0 k ≡ true →
+        IsSeenIn table.new (scene_of store.now) k }
+    ensures room { IsRoom (scene_of store.now).limits.objects listed.new }
+{
+    if !store.tree().has(h) {
+        return;
+    }
+    see_tree(table, listed, damage, named, store, places, concerned, h);
+}
+
+/// Sees each user of a style once more.
+fn see_users(
+    table: &mut Table<Seen>,
+    damage: &mut Damage,
+    store: &Store,
+    places: &Places,
+    concerned: Concerned,
+    style: u16,
+)
+    requires solved { AreSolved places.now (scene_of store.now) }
+    requires known { KeepOthers table.old concerned (scene_of store.now) }
+    requires shown { KnowsShown table.old (scene_of store.now) }
+    ensures sees { SeesAgain None (scene_of store.now) table.old table.new damage.old damage.new }
+    ensures all { (k : ℕ) → uses_style (scene_of store.now).book k style ≡ true →
+        IsSeenIn table.new (scene_of store.now) k }
+{
+    let mut users = store.users(style);
+    while let Some(h) = users.next() {
+        see_one(table, damage, None, store, places, concerned, *h);
+    }
+}
+
+/// Whether an object stands below a user of a style.
+fn is_below_other(store: &Store, style: u16, h: Handle) -> bool
+    ensures { result ≡ is_below_other (scene_of store.now) style h.0 }
+{
+    match store.tree().parent(h) {
+        Some(parent) => Concerned::BelowUsers(style).may_be(store, parent),
+        None => false,
+    }
+}
+
+/// Sees each user of a style and all below it once more.
+fn see_below_users(
+    table: &mut Table<Seen>,
+    listed: &mut Vec<Handle>,
+    damage: &mut Damage,
+    store: &Store,
+    places: &Places,
+    concerned: Concerned,
+    style: u16,
+)
+    requires solved { AreSolved places.now (scene_of store.now) }
+    requires known { KeepOthers table.old concerned (scene_of store.now) }
+    requires shown { KnowsShown table.old (scene_of store.now) }
+    requires room { IsRoom (scene_of store.now).limits.objects listed.old }
+    ensures sees { SeesAgain None (scene_of store.now) table.old table.new damage.old damage.new }
+    ensures all { (k : ℕ) → is_below_user (scene_of store.now) style k ≡ true →
+        IsSeenIn table.new (scene_of store.now) k }
+    ensures room { IsRoom (scene_of store.now).limits.objects listed.new }
+{
+    // Lending the tree tells that the scene is in order.
+    let _tree = store.tree();
+    let mut users = store.users(style);
+    while let Some(h) = users.next() {
+        // What is below a user that stands below another is seen from there.
+        if is_below_other(store, style, *h) {
+            continue;
+        }
+        see_below(table, listed, damage, None, store, places, concerned, *h);
+    }
+}
+
+/// Sees all that is shown once more. It is listed in paint order.
+fn see_shown(
+    table: &mut Table<Seen>,
+    damage: &mut Damage,
+    store: &Store,
+    places: &Places,
+    concerned: Concerned,
+    listed: &[Handle],
+)
+    requires solved { AreSolved places.now (scene_of store.now) }
+    requires known { KeepOthers table.old concerned (scene_of store.now) }
+    requires shown { KnowsShown table.old (scene_of store.now) }
+    requires order { numbers listed.now ≡ order (scene_of store.now) }
+    ensures sees { SeesAgain None (scene_of store.now) table.old table.new damage.old damage.new }
+    ensures all { (k : ℕ) → IsSeenIn table.new (scene_of store.now) k }
+{
+    let _tree = store.tree();
+    see_all_again(table, damage, None, listed, store, places, concerned);
+}
+
+/// Sees two objects once more.
+fn see_both(
+    table: &mut Table<Seen>,
+    damage: &mut Damage,
+    store: &Store,
+    places: &Places,
+    concerned: Concerned,
+    h: Handle,
+    other: Handle,
+)
+    requires solved { AreSolved places.now (scene_of store.now) }
+    requires known { KeepOthers table.old concerned (scene_of store.now) }
+    requires shown { KnowsShown table.old (scene_of store.now) }
+    ensures sees { SeesAgain None (scene_of store.now) table.old table.new damage.old damage.new }
+    ensures own { IsSeenIn table.new (scene_of store.now) h.0 }
+    ensures other { IsSeenIn table.new (scene_of store.now) other.0 }
+{
+    see_one(table, damage, None, store, places, concerned, h);
+    see_one(table, damage, None, store, places, concerned, other);
+}
+
+/// Sees the objects once more that a change may concern, where it is not the named one alone: that was seen.
+/// `shown` lists what is shown.
+fn see_concerned(
+    table: &mut Table<Seen>,
+    listed: &mut Vec<Handle>,
+    damage: &mut Damage,
+    named: Option<Handle>,
+    store: &Store,
+    places: &Places,
+    concerned: Concerned,
+    shown: &[Handle],
+)
+    requires solved { AreSolved places.now (scene_of store.now) }
+    requires known { KeepOthers table.old concerned (scene_of store.now) }
+    requires shown { KnowsShown table.old (scene_of store.now) }
+    requires room { IsRoom (scene_of store.now).limits.objects listed.old }
+    requires order { numbers shown.now ≡ order (scene_of store.now) }
+    requires own { (k : ℕ) → is_named (option_map number_of named) k ≡ true →
+        IsSeenIn table.old (scene_of store.now) k }
+    ensures sees { SeesAgain None (scene_of store.now) table.old table.new damage.old damage.new }
+    ensures all { (k : ℕ) → may_be (scene_of store.now) concerned k ≡ true →
+        IsSeenIn table.new (scene_of store.now) k }
+    ensures room { IsRoom (scene_of store.now).limits.objects listed.new }
+{
+    match concerned {
+        Concerned::Nobody => {}
+        Concerned::One(h) if is_named(named, h) => {}
+        Concerned::One(h) => see_one(table, damage, None, store, places, concerned, h),
+        Concerned::Both(h, k) => see_both(table, damage, store, places, concerned, h, k),
+        Concerned::Below(h) => {
+            see_below(table, listed, damage, None, store, places, concerned, h);
+        }
+        Concerned::Moved(h, k, m) => {
+            see_both(table, damage, store, places, concerned, k, m);
+            see_below(table, listed, damage, None, store, places, concerned, h);
+        }
+        Concerned::Users(style) => see_users(table, damage, store, places, concerned, style),
+        Concerned::BelowUsers(style) => {
+            see_below_users(table, listed, damage, store, places, concerned, style);
+        }
+        Concerned::Anybody => see_shown(table, damage, store, places, concerned, shown),
+    }
+}
+
+/// Sees the object that a change names once more, and those that the change may concern, each once where these
+/// are that object and what lies below it. `shown` lists what is shown.
+fn see_own(
+    table: &mut Table<Seen>,
+    listed: &mut Vec<Handle>,
+    damage: &mut Damage,
+    named: Option<Handle>,
+    store: &Store,
+    places: &Places,
+    concerned: Concerned,
+    shown: &[Handle],
+)
+    requires solved { AreSolved places.now (scene_of store.now) }
+    requires known { KeepOthers table.old concerned (scene_of store.now) }
+    requires shown { KnowsShown table.old (scene_of store.now) }
+    requires room { IsRoom (scene_of store.now).limits.objects listed.old }
+    requires order { numbers shown.now ≡ order (scene_of store.now) }
+    ensures sees { SeesAgain (option_map number_of named)
+        (scene_of store.now) table.old table.new damage.old damage.new }
+    ensures all { (k : ℕ) → may_be (scene_of store.now) concerned k ≡ true →
+        IsSeenIn table.new (scene_of store.now) k }
+    ensures room { IsRoom (scene_of store.now).limits.objects listed.new }
+{
+    match concerned {
+        Concerned::Below(h) if is_named(named, h) => {
+            see_below(table, listed, damage, named, store, places, concerned, h);
+        }
+        _ => {
+            see_named(table, damage, named, store, places, concerned);
+            see_concerned(
+                table, listed, damage, named, store, places, concerned, shown,
+            );
+        }
+    }
+}
+
+/// Sees the objects once more that may differ after a change that leaves the trees and what is shown, and
+/// lists what they owe: the one that it names, those that it may concern, and all of the trees at the objects
+/// in `solved`. `listed` is empty, and is so afterwards.
+pub(crate) fn see_changed(
+    look: &mut Look,
+    listed: &mut Vec<Handle>,
+    damage: &mut Damage,
+    named: Option<Handle>,
+    store: &Store,
+    places: &Places,
+    solved: &[Handle],
+    concerned: Concerned,
+)
+    requires solved { AreSolved places.now (scene_of store.now) }
+    requires known { KeepOthers look.old.seen concerned (scene_of store.now) }
+    requires order { numbers look.old.order.items ≡ order (scene_of store.now) }
+    requires table { HasThese (scene_of store.now).limits.objects look.old.seen look.old.order.items }
+    requires order_room { (scene_of store.now).limits.objects ≤ vec_capacity look.old.order }
+    requires tops { (u : ℕ) → 0 < times solved.now u → is_there (scene_of store.now) u ≡ true }
+    requires others { (k : ℕ) (s : Seen) → value_at look.old.seen k ≡ Some s →
+        in_trees_at (handles_of (scene_of store.now).trees) solved.now k ≡ false →
+        may_be (scene_of store.now) concerned k ≡ false → IsSeen (scene_of store.now) k s }
+    requires room { IsRoom (scene_of store.now).limits.objects listed.old }
+    ensures shows { Shows (scene_of store.now).limits.objects look.new (scene_of store.now) }
+    ensures room { IsRoom (scene_of store.now).limits.objects listed.new }
+    ensures debt { OwesAll damage.old damage.new
+        (flat_map (owed_again (option_map number_of named) look.old.seen (scene_of store.now))
+        (order (scene_of store.now))) }
+{
+    let _tree = store.tree();
+    see_own(
+        &mut look.seen,
+        listed,
+        damage,
+        named,
+        store,
+        places,
+        concerned,
+        look.order.as_slice(),
+    );
+    // What is known of those is right now. So all others may keep their items where they stay in their places,
+    // and these owe nothing more.
+    see_trees(
+        &mut look.seen,
+        listed,
+        damage,
+        store,
+        places,
+        Concerned::Nobody,
+        solved,
+    );
+}

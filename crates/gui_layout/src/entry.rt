@@ -1,0 +1,15 @@
+//! What layout knows of an object.
+use crate::layout_box::LayoutBox;
+use crate::position::Position;
+use crate::size::Size;
+
+/// What layout knows of an object.
+#[derive(Clone, Copy, Drop)]
+pub(crate) struct Entry {
+    /// What its place goes by.
+    pub wanted: LayoutBox,
+    pub natural_width: Size,
+    pub width: Size,
+    pub natural_height: Size,
+    pub position: Position,
+}

@@ -1,0 +1,122 @@
+//! How large children are together along an axis.
+ghost use Rattle.std.specs.Prelude.{◌≡◌, ◌≤◌, ◌<◌, ◌+◌, ◌*◌, ℕ, if◌then◌else◌, ◌==◌};
+ghost use Rattle.layout_defs.specs.Boxes.{inset};
+ghost use Rattle.layout_defs.specs.Solving.{reach, natural_size};
+ghost use Rattle.gui_layout.specs.Views.{axis_of, box_of};
+ghost use Rattle.gui_layout.specs.Rows.{row_of, run_across, run_down, with_kid, with_gaps};
+
+use crate::axis::Axis;
+use crate::layout_box::LayoutBox;
+use gui_base::Length;
+use layout_defs::{Course, Side};
+
+/// How the flow of an object runs, as one of its axes sees it.
+#[derive(Clone, Copy)]
+pub(crate) enum Run {
+    /// There is none: children stand by themselves.
+    Apart,
+    /// Along the axis: children stand behind one another.
+    Along,
+    /// Across the axis: children stand side by side.
+    Crossing,
+}
+
+/// How a flow runs, as the axis across sees it.
+pub(crate) fn run_across(course: Course) -> Run
+    ensures { result ≡ run_across course }
+{
+    match course {
+        Course::Free => Run::Apart,
+        Course::Across => Run::Along,
+        Course::Down => Run::Crossing,
+    }
+}
+
+/// How a flow runs, as the axis down sees it.
+pub(crate) fn run_down(course: Course) -> Run
+    ensures { result ≡ run_down course }
+{
+    match course {
+        Course::Free => Run::Apart,
+        Course::Across => Run::Crossing,
+        Course::Down => Run::Along,
+    }
+}
+
+/// How large children are together so far, and how many they are.
+#[derive(Clone, Copy)]
+pub(crate) struct Row {
+    pub size: u32,
+    pub count: u32,
+}
+
+/// How far a child reaches from its parent's near side, without flex.
+fn reach(axis: &Axis, natural: u16) -> u32
+    ensures value { result ≡ reach axis.now.side axis.now.wanted natural }
+    ensures small { result ≤ 70000 }
+{
+    match axis.side {
+        Side::Near => (i32::from(natural) + axis.wanted).max(0) as u32,
+        _ => u32::from(natural),
+    }
+}
+
+/// A child's natural size in a sum along the flow.
+fn flowing(grow: u8, natural: u16) -> u32
+    ensures value { result ≡ (if grow == 0 then natural else 0) }
+    ensures small { result ≤ 65535 }
+{
+    if grow > 0 { 0 } else { u32::from(natural) }
+}
+
+/// The same with a child more, by its box and its axis. A hidden one takes no part.
+pub(crate) fn with_kid(row: Row, run: Run, kid: &LayoutBox, axis: &Axis, natural: u16) -> Row
+    requires size { row.size ≤ 70000 * row.count }
+    requires count { row.count < 4000 }
+    ensures value { (h : ℕ) → row_of result ≡ with_kid run (row_of row)
+        (record { box = box_of h kid.now; axis = axis_of axis.now; natural = natural }) }
+    ensures size { result.size ≤ 70000 * result.count }
+    ensures count { result.count ≤ row.count + 1 }
+{
+    if kid.hidden {
+        return row;
+    }
+    let size = match run {
+        Run::Apart => row.size.max(reach(axis, natural)),
+        Run::Along => row.size + flowing(kid.grow, natural),
+        Run::Crossing => row.size.max(u32::from(natural)),
+    };
+    Row {
+        size,
+        count: row.count + 1,
+    }
+}
+
+/// How large children are together that are so large, with the gaps between them where they stand behind one
+/// another.
+pub(crate) fn with_gaps(row: Row, run: Run, gap: u16) -> u32
+    requires size { row.size ≤ 70000 * row.count }
+    requires count { row.count ≤ 4000 }
+    requires gap { gap ≤ 1000 }
+    ensures value { result ≡ with_gaps run gap (row_of row) }
+    ensures small { result ≤ 500000000 }
+{
+    match run {
+        Run::Along => row.size + u32::from(gap) * row.count.saturating_sub(1),
+        _ => row.size,
+    }
+}
+
+/// The natural size along an axis of an object with so much inside its insets.
+pub(crate) fn natural_size(axis: &Axis, inside: u32) -> u16
+    requires inside { inside ≤ 1000000000 }
+    ensures value { result ≡ natural_size axis.now.size (inset (axis_of axis.now)) inside }
+    ensures small { result ≤ 8191 }
+{
+    let border = u32::from(axis.before) + u32::from(axis.after);
+    match axis.size {
+        Length::Pixels(n) => n.min(8191),
+        Length::Percent(_) => 0,
+        Length::Content => (border + inside).min(8191) as u16,
+    }
+}

@@ -4,7 +4,10 @@
 
 #[cfg(test)]
 mod color;
+mod covers;
 #[cfg(test)]
 mod edge;
 #[cfg(test)]
 mod machine;
+
+pub use covers::paint_stacked;

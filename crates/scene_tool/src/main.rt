@@ -1,7 +1,8 @@
-//! Reads a script from standard input, and writes the frames to standard output and the log to standard
-//! error.
+//! Reads a script from standard input, and writes the frames to standard output and the log to standard error.
+//! Where the first word is `bdf` it reads a font instead, and writes the lines of a script that make it.
 #![tactic(auto)]
 
+use bdf_font::run_bdf;
 use gui_edge::{SimPanel, SimPlan, StdSink, StdSource};
 use scene_run::{Status, run_scene};
 use std::alloc::{AllocError, Global};
@@ -28,11 +29,8 @@ fn texts(alloc: Global, words: &[String]) -> Result<Vec<&str>, AllocError> {
 }
 
 /// Runs the script with these words, over the standard streams and a panel in memory.
-fn run(rt: &HostRuntime, words: &[String]) -> Status {
+fn run_script(rt: &HostRuntime, words: &[&str]) -> Status {
     let alloc = rt.alloc();
-    let Ok(texts) = texts(alloc, words) else {
-        return Status::NoMemory;
-    };
     let plan = SimPlan {
         fail_open: false,
         fail_flush: Vec::new(alloc),
@@ -40,27 +38,46 @@ fn run(rt: &HostRuntime, words: &[String]) -> Status {
     let mut source = StdSource::new(rt.stdin());
     let mut log = StdSink::new(rt.stderr());
     let mut panel = SimPanel::new(StdSink::new(rt.stdout()), plan);
-    run_scene(alloc, &texts, &mut source, &mut log, &mut panel)
+    run_scene(alloc, words, &mut source, &mut log, &mut panel)
 }
 
-/// What the program says of a run that did not come to the end of its script.
-fn message(status: Status) -> Option<&'static str> {
+/// Writes the font of standard input as lines of a script. The word is its number.
+fn write_font(rt: &HostRuntime, words: &[&str]) -> u8 {
+    let mut source = StdSource::new(rt.stdin());
+    let mut out = StdSink::new(rt.stdout());
+    run_bdf(rt.alloc(), words, &mut source, &mut out).number()
+}
+
+/// Does what the first word asks for, and answers the exit status.
+fn run(rt: &HostRuntime, words: &[String]) -> u8 {
+    let Ok(texts) = texts(rt.alloc(), words) else {
+        return Status::NoMemory as u8;
+    };
+    match texts.as_slice() {
+        ["bdf", words @ ..] => write_font(rt, words),
+        words => run_script(rt, words) as u8,
+    }
+}
+
+/// What the program says of an input that it did not read to its end, by its exit status.
+fn message(status: u8) -> Option<&'static str> {
     match status {
-        Status::Done | Status::Noted => None,
-        Status::Usage => Some("usage: scene WIDTH HEIGHT LINES [POOL=COUNT]... [make=K]"),
-        Status::ReadFault => Some("read fault"),
-        Status::WriteFault => Some("write fault"),
-        Status::PanelFault => Some("panel fault"),
-        Status::NoMemory => Some("no memory"),
-        Status::TooLong => Some("script too long"),
+        2 => Some("usage: scene WIDTH HEIGHT LINES [POOL=COUNT]... [make=K]"),
+        3 => Some("read fault"),
+        4 => Some("write fault"),
+        5 => Some("panel fault"),
+        6 => Some("no memory"),
+        7 => Some("script too long"),
+        8 => Some("bad input"),
+        _ => None,
     }
 }
 
 /// The end of a run whose words could not be read: a word that is not UTF-8 makes a faulty command line.
-fn unread(error: &io::Error) -> Status {
+fn unread(error: &io::Error) -> u8 {
     match error.kind() {
-        ErrorKind::InvalidData => Status::Usage,
-        _ => Status::NoMemory,
+        ErrorKind::InvalidData => Status::Usage as u8,
+        _ => Status::NoMemory as u8,
     }
 }
 
@@ -72,5 +89,5 @@ fn main(rt: HostRuntime) -> ExitCode {
     if let Some(text) = message(status) {
         let _ = eprintln!(rt; "scene: {text}");
     }
-    ExitCode::from(status as u8)
+    ExitCode::from(status)
 }

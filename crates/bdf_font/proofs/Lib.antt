@@ -1,0 +1,11 @@
+pub mod Asked
+pub mod AskedAll
+pub mod Beginnings
+pub mod CodeSets
+pub mod Cuts
+pub mod Fitting
+pub mod Left
+pub mod Ranges
+pub mod Sound
+pub mod Lengthening
+pub mod Worked

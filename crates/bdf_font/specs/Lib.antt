@@ -1,0 +1,11 @@
+pub mod Asked
+pub mod Bdf
+pub mod Beginnings
+pub mod Capped
+pub mod Codes
+pub mod Examples
+pub mod Lines
+pub mod Near
+pub mod Reading
+pub mod Running
+pub mod Texts

@@ -1,0 +1,5 @@
+//! Tests over the reader of fonts.
+#![tactic(auto)]
+
+#[cfg(test)]
+mod fonts;

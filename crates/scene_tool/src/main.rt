@@ -1,9 +1,11 @@
 //! Reads a script from standard input, and writes the frames to standard output and the log to standard error.
-//! Where the first word is `bdf` it reads a font instead, and writes the lines of a script that make it.
+//! Where the first word is `bdf` it reads a font instead, and where it is `json` a tree of objects, and writes the
+//! lines of a script that make it.
 #![tactic(auto)]
 
 use bdf_font::run_bdf;
 use gui_edge::{SimPanel, SimPlan, StdSink, StdSource};
+use scene_json::run_json;
 use scene_run::{Status, run_scene};
 use std::alloc::{AllocError, Global};
 use std::io::ErrorKind;
@@ -48,6 +50,13 @@ fn write_font(rt: &HostRuntime, words: &[&str]) -> u8 {
     run_bdf(rt.alloc(), words, &mut source, &mut out).number()
 }
 
+/// Writes the scene in JSON of standard input as lines of a script. There are to be no words.
+fn write_scene(rt: &HostRuntime, words: &[&str]) -> u8 {
+    let mut source = StdSource::new(rt.stdin());
+    let mut out = StdSink::new(rt.stdout());
+    run_json(rt.alloc(), words, &mut source, &mut out).number()
+}
+
 /// Does what the first word asks for, and answers the exit status.
 fn run(rt: &HostRuntime, words: &[String]) -> u8 {
     let Ok(texts) = texts(rt.alloc(), words) else {
@@ -55,6 +64,7 @@ fn run(rt: &HostRuntime, words: &[String]) -> u8 {
     };
     match texts.as_slice() {
         ["bdf", words @ ..] => write_font(rt, words),
+        ["json", words @ ..] => write_scene(rt, words),
         words => run_script(rt, words) as u8,
     }
 }

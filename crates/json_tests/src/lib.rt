@@ -1,0 +1,5 @@
+//! Tests over the reader of scenes in JSON.
+#![tactic(auto)]
+
+#[cfg(test)]
+mod scenes;

@@ -1,1 +1,10 @@
 pub mod Checking
+pub mod Fielded
+pub mod Fitting
+pub mod Growing
+pub mod Ids
+pub mod Integers
+pub mod Made
+pub mod Outlines
+pub mod Own
+pub mod Trees

@@ -2,5 +2,6 @@
 #![tactic(auto)]
 
 mod check;
+pub mod laws;
 
 pub use check::check_scene;

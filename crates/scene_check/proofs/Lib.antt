@@ -1,0 +1,11 @@
+pub mod Differing
+pub mod Fielded
+pub mod Fitting
+pub mod Growing
+pub mod Holding
+pub mod Ids
+pub mod Integers
+pub mod Made
+pub mod Outlines
+pub mod Own
+pub mod Trees

@@ -1,30 +1,16 @@
 -- The texels of an image over the pixels of an area.
-use Rattle.gui_draw.proofs.Common.{pos, laid, ◌≡◌, ◌∙◌, refl, sym, ap, ℕ, ◌+◌, ◌-◌, ◌*◌, ◌<◌, ◌≤◌, ltb, Bool, true, false, ◌&&◌, if◌then◌else◌, List, length, slice_index_or, Option, Some, None, arith, ℤ, ◌≤ℤ◌, ◌+ℤ◌, ◌-ℤ◌, int_min, le_z, ints, nat_tests, cases_Bool, inl, inr, ◌⊎◌, Rgb565, Rect, has, is_empty, width_of, height_of, count_between, black, Buffer, HoldsRow, distance, row_of, with_row, Dab, only, within, Draws, IsInside, IsPart, HasLine, line_of}
+use Rattle.gui_draw.proofs.Common.{pos, laid, ◌≡◌, ◌∙◌, refl, sym, ap, ℕ, ◌+◌, ◌-◌, ◌*◌, ◌<◌, ◌≤◌, ltb, Bool, true, false, ◌&&◌, if◌then◌else◌, List, length, slice_index_or, Some, None, arith, ℤ, ◌≤ℤ◌, ◌+ℤ◌, ◌-ℤ◌, int_min, le_z, ints, nat_tests, cases_Bool, inl, inr, ◌⊎◌, Rgb565, Rect, has, is_empty, width_of, height_of, count_between, black, Buffer, HoldsRow, distance, row_of, with_row, Dab, only, within, Draws, IsInside, IsPart, HasLine, line_of}
 use Rattle.gui_draw.proofs.Steps.{draws_none, draws_same}
-use Rattle.std.proofs.Common.{option_map}
-use Rattle.std.specs.Borrow.{Bor}
 use Rattle.gui_draw.proofs.Counts.{row_count_all}
-use Rattle.gui_font.specs.ImageSets.{ImageSet}
+use Rattle.gui_font.specs.Bitmaps.{bitmap_texel}
+use Rattle.gui_font.specs.declared.images.Bitmap.{Bitmap}
 use Rattle.gui_base.specs.declared.words.Format.{Format}
-use Rattle.std.specs.Prelude.{IfSome}
 use Rattle.text_defs.specs.declared.Texel.{Texel}
-use Rattle.text_defs.specs.Images.{Image, size_or, size_in, is_done, finished, image_of, texel_of, texel_in, texel_size}
+use Rattle.text_defs.specs.Images.{Image, size_in, image_bytes, texel_of, texel_in, texel_size}
 use Rattle.text_defs.specs.Coats.{dab_of, is_pictured, texel_coat, picture_coat}
 use Rattle.gui_draw.specs.Texels.{row_over, texel_over, texels_in, HasTexels, HasTexelRow, first_pixels}
 use Rattle.gui_draw.specs.declared.texels.Texels.{Texels}
 use Rattle.gui_draw.proofs.Drawing.{line_drawn}
-
--- an image with a size is finished
-sized : (done : Bool) (a b : ℕ × ℕ) → (if done then Some a else None) ≡ Some b → Some done ≡ Some true
-sized true a b h = refl
-sized false a b h = cc
-
-finished_if : (image : Option Image) (size : ℕ × ℕ) → size_or image ≡ Some size → option_map is_done image ≡ Some true
-finished_if None size h = cc
-finished_if (Some image) size h = sized (is_done image) (image.width, image.height) size h
-
-pub size_finished : (images : List Image) (id : ℕ) (size : ℕ × ℕ) → size_in images id ≡ Some size → finished images id ≡ Some true
-size_finished images id size h = finished_if (image_of images id) size h
 
 -- one line of a part
 below_top : (top : ℤ) (n : ℕ) → distance top (top +ℤ pos n) ≡ n
@@ -42,17 +28,16 @@ pub texel_row : (t : Texels) (part : Rect) (line n : ℕ) → HasTexels t part �
 texel_row t part line n h below long =
     let columns = h.columns in
     let rows = h.rows in
-    record { width = h.width; height = h.height; size = h.size; columns = omega arith; row = omega arith; small = h.small }
+    record { columns = omega arith; row = omega arith; whole = h.whole; small = h.small }
 
 -- a texel by the bytes of its row
-pub by_row : (t : Texels) (y n k : ℕ) (format : Format) (bytes : List ℕ) (bg : Rgb565) → HasTexelRow t y n → k < n →
-    IfSome (size_in t.images.now.images t.id) (λ size. (x : ℕ) → x < size.0 → texel_in format bytes (x * texel_size format) ≡ texel_of t.images.now.images t.id x y) →
+pub by_row : (t : Texels) (y n k : ℕ) (format : Format) (bytes : List ℕ) (bg : Rgb565) → HasTexelRow t y n → k < n → t.bitmap.format ≡ format →
+    ((x : ℕ) → x < t.bitmap.width → texel_in t.bitmap.format bytes (x * texel_size t.bitmap.format) ≡ bitmap_texel t.bitmap x y) →
     row_over format bytes t.recolor t.opa (t.column + k) bg ≡ texel_over t (t.column + k) y bg
-by_row t y n k format bytes bg h l is =
+by_row t y n k format bytes bg h l e is =
     let columns = h.columns in
-    let size = h.size in
-    let at : (x : ℕ) → x < h.width → texel_in format bytes (x * texel_size format) ≡ texel_of t.images.now.images t.id x y = rw size at is in
-    ap (λ (texel : Texel). laid (Some (dab_of texel t.recolor t.opa)) bg) (at (t.column + k) (omega arith))
+    let texel : texel_in format bytes ((t.column + k) * texel_size format) ≡ bitmap_texel t.bitmap (t.column + k) y = rw (← e) (is (t.column + k) (omega arith)) in
+    ap (λ (texel : Texel). laid (Some (dab_of texel t.recolor t.opa)) bg) texel
 
 -- the part of an item in a clip has its first pixel in the item
 first_in : (p c i : Bool) → p ≡ true → p ≡ (c && i) → i ≡ true
@@ -100,31 +85,34 @@ coat_same false n s d e h k = rw h refl
 starts : (part : Rect) (x y : ℤ) → has part x y ≡ true → (part.x1 ≤ℤ x) × (part.y1 ≤ℤ y)
 starts part x y h = (grind (arith, ints), grind (arith, ints))
 
--- the first pixels of a part, as many as the picture has there
-module _ (area part : Rect) (images : Bor ImageSet) (id : ℕ) (recolor : Rgb565) (opa column row width height : ℕ) (size : size_in images.now.images id ≡ Some (width, height)) (after : (area.x1 ≤ℤ part.x1) × (area.y1 ≤ℤ part.y1))
-    (column_is : column ≡ distance area.x1 part.x1) (row_is : row ≡ distance area.y1 part.y1) where
-  texels : Texels
-  texels = record { images = images; id = id; recolor = recolor; opa = opa; column = column; row = row }
+-- what is known of the texels of an image
+pub record IsBitmap (images : List Image) (id : ℕ) (b : Bitmap) : Type 0 where
+  pub size : size_in images id ≡ Some (b.width, b.height)
+  pub whole : length b.bytes.now ≡ image_bytes b.format b.width b.height
+  pub texels : (x y : ℕ) → bitmap_texel b x y ≡ texel_of images id x y
 
-  pictured : (x y : ℤ) → is_pictured area images.now.images id x y ≡ (ltb (distance area.x1 x) width && ltb (distance area.y1 y) height)
-  pictured x y = rw size refl
+-- the first pixels of a part, as many as the picture has there
+module _ (area part : Rect) (images : List Image) (id : ℕ) (bitmap : Bitmap) (recolor : Rgb565) (opa column row : ℕ) (is : IsBitmap images id bitmap) (after : (area.x1 ≤ℤ part.x1) × (area.y1 ≤ℤ part.y1))
+    (column_is : column ≡ distance area.x1 part.x1) (row_is : row ≡ distance area.y1 part.y1) where
+  pictured : (x y : ℤ) → is_pictured area images id x y ≡ (ltb (distance area.x1 x) bitmap.width && ltb (distance area.y1 y) bitmap.height)
+  pictured x y = rw is.size refl
 
   dab_is : (seen : Rect) (x y : ℤ) → seen.x1 ≡ part.x1 → seen.y1 ≡ part.y1 → has part x y ≡ true →
-      dab_of (texel_of images.now.images id (column + distance seen.x1 x) (row + distance seen.y1 y)) recolor opa ≡ dab_of (texel_of images.now.images id (distance area.x1 x) (distance area.y1 y)) recolor opa
+      dab_of (bitmap_texel bitmap (column + distance seen.x1 x) (row + distance seen.y1 y)) recolor opa ≡ dab_of (texel_of images id (distance area.x1 x) (distance area.y1 y)) recolor opa
   dab_is seen x y ex ey h =
       let at = starts part x y h in
-      rw (ex, ey, place_axis area.x1 part.x1 x column after.0 column_is at.0, place_axis area.y1 part.y1 y row after.1 row_is at.1) refl
+      rw (ex, ey, place_axis area.x1 part.x1 x column after.0 column_is at.0, place_axis area.y1 part.y1 y row after.1 row_is at.1, is.texels (distance area.x1 x) (distance area.y1 y)) refl
 
-  pub picture_some : (old new : Buffer) (from to : ℕ) → column < width → row < height →
-      Draws old new from to (within (first_pixels part (width - column) (height - row)) (texels_in (record { images = images; id = id; recolor = recolor; opa = opa; column = column; row = row }) (first_pixels part (width - column) (height - row)))) →
-      Draws old new from to (within part (only (is_pictured area images.now.images id) (texel_coat area images.now.images id recolor opa)))
+  pub picture_some : (old new : Buffer) (from to : ℕ) → column < bitmap.width → row < bitmap.height →
+      Draws old new from to (within (first_pixels part (bitmap.width - column) (bitmap.height - row)) (texels_in (record { bitmap = bitmap; recolor = recolor; opa = opa; column = column; row = row }) (first_pixels part (bitmap.width - column) (bitmap.height - row)))) →
+      Draws old new from to (within part (only (is_pictured area images id) (texel_coat area images id recolor opa)))
   picture_some old new from to p q h =
-      let seen = first_pixels part (width - column) (height - row) in
+      let seen = first_pixels part (bitmap.width - column) (bitmap.height - row) in
       draws_same old new from to _ _ (λ x y i.
-      coat_same (has part x y) (is_pictured area images.now.images id x y) (has seen x y) _ _
-      (ap (λ (t : Bool). t && (le_z seen.y1 y && le_z y seen.y2)) (cut_axis area.x1 part.x1 part.x2 x width column after.0 column_is p)
-      ∙ (ap (λ (t : Bool). ((le_z part.x1 x && le_z x part.x2) && ltb (distance area.x1 x) width) && t) (cut_axis area.y1 part.y1 part.y2 y height row after.1 row_is q)
-      ∙ (swap (le_z part.x1 x && le_z x part.x2) (ltb (distance area.x1 x) width) (le_z part.y1 y && le_z y part.y2) (ltb (distance area.y1 y) height)
+      coat_same (has part x y) (is_pictured area images id x y) (has seen x y) _ _
+      (ap (λ (t : Bool). t && (le_z seen.y1 y && le_z y seen.y2)) (cut_axis area.x1 part.x1 part.x2 x bitmap.width column after.0 column_is p)
+      ∙ (ap (λ (t : Bool). ((le_z part.x1 x && le_z x part.x2) && ltb (distance area.x1 x) bitmap.width) && t) (cut_axis area.y1 part.y1 part.y2 y bitmap.height row after.1 row_is q)
+      ∙ (swap (le_z part.x1 x && le_z x part.x2) (ltb (distance area.x1 x) bitmap.width) (le_z part.y1 y && le_z y part.y2) (ltb (distance area.y1 y) bitmap.height)
       ∙ ap (λ (t : Bool). has part x y && t) (sym (pictured x y)))))
       (λ k. dab_is seen x y refl refl k)) h
 
@@ -137,25 +125,23 @@ module _ (area part : Rect) (images : Bor ImageSet) (id : ℕ) (recolor : Rgb565
   both_none true false m n h d = refl
   both_none false b m n h d = refl
 
-  pub picture_beyond : (old : Buffer) (steps : ℕ) → (width ≤ column) ⊎ (height ≤ row) → Draws old old steps steps (within part (only (is_pictured area images.now.images id) (texel_coat area images.now.images id recolor opa)))
+  pub picture_beyond : (old : Buffer) (steps : ℕ) → (bitmap.width ≤ column) ⊎ (bitmap.height ≤ row) → Draws old old steps steps (within part (only (is_pictured area images id) (texel_coat area images id recolor opa)))
   picture_beyond old steps none =
       draws_none old steps _ (λ x y i.
-      ap (λ (t : Bool). if has part x y then (if t then texel_coat area images.now.images id recolor opa x y else None) else None) (pictured x y)
-      ∙ both_none (le_z part.x1 x && le_z x part.x2) (le_z part.y1 y && le_z y part.y2) (ltb (distance area.x1 x) width) (ltb (distance area.y1 y) height) (either x y) _) where
-        either : (x y : ℤ) → (((le_z part.x1 x && le_z x part.x2) ≡ true → ltb (distance area.x1 x) width ≡ false) ⊎ ((le_z part.y1 y && le_z y part.y2) ≡ true → ltb (distance area.y1 y) height ≡ false))
+      ap (λ (t : Bool). if has part x y then (if t then texel_coat area images id recolor opa x y else None) else None) (pictured x y)
+      ∙ both_none (le_z part.x1 x && le_z x part.x2) (le_z part.y1 y && le_z y part.y2) (ltb (distance area.x1 x) bitmap.width) (ltb (distance area.y1 y) bitmap.height) (either x y) _) where
+        either : (x y : ℤ) → (((le_z part.x1 x && le_z x part.x2) ≡ true → ltb (distance area.x1 x) bitmap.width ≡ false) ⊎ ((le_z part.y1 y && le_z y part.y2) ≡ true → ltb (distance area.y1 y) bitmap.height ≡ false))
         either x y = elim none [
-          | inl h ↦ inl (λ k. beyond_axis area.x1 part.x1 part.x2 x width column after.0 column_is h k)
-          | inr h ↦ inr (λ k. beyond_axis area.y1 part.y1 part.y2 y height row after.1 row_is h k)
+          | inl h ↦ inl (λ k. beyond_axis area.x1 part.x1 part.x2 x bitmap.width column after.0 column_is h k)
+          | inr h ↦ inr (λ k. beyond_axis area.y1 part.y1 part.y2 y bitmap.height row after.1 row_is h k)
         ]
 
-  pub texels_there : (column < width) × (row < height) → (width < 65536) × (height < 65536) →
-      HasTexels (record { images = images; id = id; recolor = recolor; opa = opa; column = column; row = row }) (first_pixels part (width - column) (height - row))
+  pub texels_there : (column < bitmap.width) × (row < bitmap.height) → (bitmap.width < 65536) × (bitmap.height < 65536) →
+      HasTexels (record { bitmap = bitmap; recolor = recolor; opa = opa; column = column; row = row }) (first_pixels part (bitmap.width - column) (bitmap.height - row))
   texels_there p small = record {
-    width = width;
-    height = height;
-    size = size;
-    columns = fits part.x1 part.x2 column width p.0;
-    rows = fits part.y1 part.y2 row height p.1;
+    columns = fits part.x1 part.x2 column bitmap.width p.0;
+    rows = fits part.y1 part.y2 row bitmap.height p.1;
+    whole = is.whole;
     small = small;
   } where
     fits : (first last : ℤ) (n size : ℕ) → n < size → n + count_between first (int_min last ((first +ℤ pos (size - n)) -ℤ pos 1)) ≤ size

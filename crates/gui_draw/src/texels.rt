@@ -17,15 +17,14 @@ use crate::texel_rows::{mix_alphas, mix_colors, mix_shades};
 use crate::ticks::tick_times;
 use gui_base::{Area, Rgb565, Steps};
 use gui_color::DrawBuf;
-use gui_font::{Format, Images};
+use gui_font::{Bitmap, Format, Images};
 use std::sync::ledger::Ledger;
 
 /// The texels of an image over a part of the buffer's area. The part's first pixel has the texel in this
 /// column and row.
 #[derive(Clone, Copy)]
 pub(crate) struct Texels<'a> {
-    pub(crate) images: &'a Images,
-    pub(crate) id: u16,
+    pub(crate) bitmap: Bitmap<'a>,
     /// The colour of texels that have none.
     pub(crate) recolor: Rgb565,
     pub(crate) opa: u8,
@@ -49,7 +48,7 @@ pub fn picture<L: Ledger>(
     ensures { Draws buf.old buf.new steps.old steps.new (within (rect_of clip)
         (picture_coat (rect_of area) images.now.images id recolor opa)) }
 {
-    let Some((width, height)) = images.size(id) else {
+    let Some(bitmap) = images.bitmap(id) else {
         return;
     };
     let Some(part) = part_of(buf, clip, area) else {
@@ -57,16 +56,15 @@ pub fn picture<L: Ledger>(
     };
     let column = columns_before(area, part);
     let row = lines_before(area, part);
-    let Some(columns) = count_left(width, column) else {
+    let Some(columns) = count_left(bitmap.width, column) else {
         return;
     };
-    let Some(lines) = count_left(height, row) else {
+    let Some(lines) = count_left(bitmap.height, row) else {
         return;
     };
     let seen = first_of(part, columns, lines);
     let texels = Texels {
-        images,
-        id,
+        bitmap,
         recolor,
         opa,
         column,
@@ -110,12 +108,12 @@ fn mix_texels(row: &mut [Rgb565], texels: Texels<'_>, y: u32)
     ensures { (k : ℕ) → k < length row.old → slice_index_or row.new k black
         ≡ texel_over texels.entry (texels.entry.column + k) y (slice_index_or row.old k black) }
 {
-    let line = texels.images.texel_row(texels.id, y as u16);
+    let bytes = texels.bitmap.row(y as u16);
     let (first, opa) = (texels.column as usize, texels.opa);
-    match line.format {
-        Format::Rgb565 => mix_colors(row, line.bytes, first, opa),
-        Format::Rgb565Alpha => mix_shades(row, line.bytes, first, opa),
-        Format::Alpha => mix_alphas(row, line.bytes, first, texels.recolor, opa),
+    match texels.bitmap.format {
+        Format::Rgb565 => mix_colors(row, bytes, first, opa),
+        Format::Rgb565Alpha => mix_shades(row, bytes, first, opa),
+        Format::Alpha => mix_alphas(row, bytes, first, texels.recolor, opa),
     }
 }
 

@@ -343,30 +343,8 @@ seen slots bytes name s x y laid is member done within =
       texel = ap (texel_in s.format bytes) sum ∙ texel_moves s.format bytes s.start s.given (y * (s.width * texel_size s.format) + x * texel_size s.format) (omega arith) ∙ rw (← is) refl;
     }
 
--- what is known of the image of which a row is looked at
-pub record RowSeen (images : List Image) (bytes : List ℕ) (name : ℕ) (s : ImageSlot) (y : ℕ) : Type 0 where
-  pub size : size_in images name ≡ Some (s.width, s.height)
-  pub fits : s.start + y * (s.width * texel_size s.format) + s.width * texel_size s.format ≤ length bytes
-  pub texels : (x : ℕ) → x < s.width →
-      texel_in s.format (slice_range bytes (s.start + y * (s.width * texel_size s.format)) (s.start + y * (s.width * texel_size s.format) + s.width * texel_size s.format)) (x * texel_size s.format) ≡ texel_of images name x y
-
-pub row_seen : (slots : List ImageSlot) (bytes : List ℕ) (name : ℕ) (s : ImageSlot) (y : ℕ) → AreLaid 0 slots (length bytes) → Some (image_in bytes s) ≡ image_of (map (image_in bytes) slots) name → IsMember s slots →
-    finished (map (image_in bytes) slots) name ≡ Some true → IfSome (size_in (map (image_in bytes) slots) name) (λ size. y < size.1) → RowSeen (map (image_in bytes) slots) bytes name s y
-row_seen slots bytes name s y laid is member done within =
-    let m = member_inside slots (length bytes) s laid member in
-    let low = m.0 in
-    let given = m.1 in
-    let inside : s.start + s.given ≤ length bytes = omega arith in
-    let whole : eqb s.given (need_of s) ≡ true = same_Some _ _ (sym (finished_is (map (image_in bytes) slots) bytes name s is inside) ∙ done) in
-    let size : size_in (map (image_in bytes) slots) name ≡ Some (s.width, s.height) = size_is (map (image_in bytes) slots) bytes name s is inside ∙ rw whole refl in
-    let near : y < s.height = rw size at within in
-    let len = s.width * texel_size s.format in
-    let all : (y + 1) * len ≤ s.height * len = mul-le _ _ s.height len (omega arith) (omega arith) in
-    record {
-      size = size;
-      fits = omega arith;
-      texels = λ x h.
-          let last : (x + 1) * texel_size s.format ≤ len = mul-le _ _ s.width (texel_size s.format) (omega arith) (omega arith) in
-          sym (texel_moves s.format bytes (s.start + y * len) len (x * texel_size s.format) (omega arith))
-          ∙ (seen slots bytes name s x y laid is member done (rw size (h, near))).texel;
-    }
+-- the texels of an image, by its own bytes
+pub slot_texels : (images : List Image) (bytes : List ℕ) (name : ℕ) (s : ImageSlot) → Some (image_in bytes s) ≡ image_of images name → (x y : ℕ) →
+    texel_in s.format (slice_range bytes s.start (s.start + s.given)) (y * (s.width * texel_size s.format) + x * texel_size s.format) ≡ texel_of images name x y
+unfolding texel_at
+slot_texels images bytes name s is x y = rw (← is) refl

@@ -1,3 +1,4 @@
+pub mod Bitmaps
 pub mod Cells
 pub mod ImageSets
 pub mod LinesLeft

@@ -5,6 +5,7 @@ ghost use Rattle.std.specs.Prelude.{IfOk, IfSome, OnOk, OnErr, Some, None, pos, 
 ghost use Rattle.std.specs.Prelude.{vec_len, vec_capacity};
 ghost use Rattle.text_defs.specs.Images.{has_image, image_of, image_bytes, texel_size, texel_in, color_at};
 ghost use Rattle.text_defs.specs.Images.{finished, size_in, takes_if, texel_of};
+ghost use Rattle.gui_font.specs.Bitmaps.{bitmap_texel};
 ghost use Rattle.gui_font.specs.ImageSets.{no_images, begin_answer, with_image, row_answer, with_row};
 ghost use Rattle.gui_font.specs.Stores.{image_in, is_image, written, need_of, IsPlaced};
 ghost use Rattle.gui_font.specs.Views.{IsMember};
@@ -50,11 +51,30 @@ impl Model for Images {
     ghost invariant = { λ f. AreStored f.index f.slots.items f.bytes.items (vec_capacity f.slots) };
 }
 
-/// The texels of a row of an image: the bytes of each behind those of the ones before it.
+/// The texels of a finished image: the bytes of each behind those of the ones before it, row by row from the top.
 #[derive(Clone, Copy)]
-pub struct TexelRow<'a> {
+pub struct Bitmap<'a> {
     pub format: Format,
+    pub width: u16,
+    pub height: u16,
     pub bytes: &'a [u8],
+}
+
+impl<'a> Bitmap<'a> {
+    /// The bytes of a row, counted from the top.
+    #[inline]
+    pub fn row(self, y: u16) -> &'a [u8]
+        requires whole { length self.bytes.now ≡ image_bytes self.format self.width self.height }
+        requires inside { y < self.height }
+        ensures len { length result.now ≡ self.entry.width * texel_size self.entry.format }
+        ensures texels { (x : ℕ) → x < self.entry.width →
+            texel_in self.entry.format result.now (x * texel_size self.entry.format)
+            ≡ bitmap_texel self.entry x y }
+    {
+        let len = self.width as usize * texel_size(self.format);
+        let from = y as usize * len;
+        &self.bytes[from..from + len]
+    }
 }
 
 #[derive(Clone, Copy)]
@@ -169,25 +189,22 @@ impl Images {
         )
     }
 
-    /// The texels of a row of a finished image, counted from its top.
-    pub fn texel_row(&self, id: u16, y: u16) -> TexelRow<'_>
-        requires finished { finished self.now.images id ≡ Some true }
-        requires inside { IfSome (size_in self.now.images id) (λ size. y < size.1) }
-        ensures len { IfSome (size_in self.now.images id)
-            (λ size. length result.bytes.now ≡ size.0 * texel_size result.format) }
-        ensures texels { IfSome (size_in self.now.images id) (λ size. (x : ℕ) → x < size.0 →
-            texel_in result.format result.bytes.now (x * texel_size result.format)
-            ≡ texel_of self.now.images id x y) }
+    /// All texels of a finished image: `None` exactly where there is no finished image of this number.
+    pub fn bitmap(&self, id: u16) -> Option<Bitmap<'_>>
+        ensures size { option_map (λ b. (b.width, b.height)) result ≡ size_in self.now.images id }
+        ensures whole { IfSome result (λ b. length b.bytes.now ≡ image_bytes b.format b.width b.height) }
+        ensures texels { IfSome result (λ b. (x y : ℕ) → bitmap_texel b x y ≡ texel_of self.now.images id x y) }
     {
-        let Some(slot) = slot_of(&self.index, self.slots.as_slice(), id) else {
-            unreachable!()
-        };
-        let len = row_length(slot);
-        let from = slot.start + y as usize * len;
-        TexelRow {
-            format: slot.format,
-            bytes: &self.bytes.as_slice()[from..from + len],
+        let slot = slot_of(&self.index, self.slots.as_slice(), id)?;
+        if !is_whole(slot) {
+            return None;
         }
+        Some(Bitmap {
+            format: slot.format,
+            width: slot.width,
+            height: slot.height,
+            bytes: &self.bytes.as_slice()[slot.start..slot.start + slot.given],
+        })
     }
 
     /// How many more images fit.

@@ -12,7 +12,7 @@ mod lines;
 
 pub use fonts::{Bits, Fonts};
 pub use gui_base::words::{Format, TextAlign};
-pub use images::{Images, TexelRow, color_at};
+pub use images::{Bitmap, Images, color_at};
 pub use letters::first_char;
 pub use lines::{Lines, Run};
 pub use text_defs::{GlyphBox, Line, Texel, TextLook};

@@ -1,17 +1,19 @@
--- Tables that hold what the passes find fit object by object, and the other way round.
+-- Tables that hold what the passes find fit object by object, and objects that fit stand where they are solved.
 use Rattle.std.proofs.Common.{◌≡◌, ◌∙◌, refl, sym, ap, subst, ℕ, List, [], ◌∷◌, length, get_or, map, suc, inl, inr, arith}
 use Rattle.std.proofs.lemmas.Bool.{cases_Bool}
-use Rattle.gui_base.specs.Forest.{Forest, Empty, Tree, roots}
+use Rattle.gui_base.specs.Forest.{Forest, Empty, Tree, roots, map_forest}
 use Rattle.layout_defs.specs.declared.Course.{Course}
 use Rattle.layout_defs.specs.declared.Course.TheVariants.{Free, Across, Down}
 use Rattle.layout_defs.specs.Boxes.{Box, course_of, inner}
-use Rattle.layout_defs.specs.Solving.{Wide, Tall, Placed, Slot, solved, wide_box, tall_box, width_in, own_slot, dealt, natural_width, natural_height, kid_widths_by, kid_widths, kid_slots, room_of, flow_slots, taking_part, row_widths, with_widths, with_natural_heights, with_slots}
+use Rattle.layout_defs.specs.Solving.{Wide, Tall, Placed, Slot, solved, wide_box, tall_box, width_in, own_slot, dealt, natural_width, natural_height, kid_widths_by, kid_widths, kid_slots, room_of, flow_slots, taking_part, row_widths, nowhere, with_widths, with_natural_heights, with_slots}
 use Rattle.layout_defs.specs.Tables.{Holds}
 use Rattle.gui_layout.specs.Found.{HoldsNaturalWidths, HoldsWidths, boxed, widths_of}
 use Rattle.gui_layout.specs.Settled.{Known, wide_of, tall_of, width_of, slot_of, AllFit, Layout, known_at, known, corner, AllFill, IsSettled}
-use Rattle.gui_layout.specs.Slots.{HoldsPlaced, HoldsSlots, talls, tall_at}
-use Rattle.gui_layout.specs.Talls.{HoldsNaturalHeights, heights_of}
-use Rattle.gui_layout.proofs.Bridges.{widths_given, heights_given, naturals_hold, widths_hold}
+use Rattle.gui_layout.specs.Slots.{HoldsPlaced, HoldsSlots, slot_at, talls, tall_at}
+use Rattle.gui_layout.specs.Talls.{HoldsNaturalHeights, heights_of, widened_at}
+
+same_tree : {A : Type 0} (a b : A) (cs ds rest later : Forest A) → a ≡ b → cs ≡ ds → rest ≡ later → Tree a cs rest ≡ Tree b ds later
+same_tree {A} a b cs ds rest later row children others = ap (λ (r : A). Tree r cs rest) row ∙ (ap (λ (f : Forest A). Tree b f rest) children ∙ ap (λ (f : Forest A). Tree b ds f) others)
 
 -- Lists of sizes and slots are as long as those of the children.
 dealt-length : {A B : Type 0} (box : A → Box) (own : A → B) (kids : List A) (ys : List B) → length (dealt box own kids ys) ≡ length kids
@@ -39,19 +41,19 @@ module _ (box : ℕ → Box) (l : Layout) where
   knows f = known box l f
 
   -- what the tables hold is what they know of the roots
-  wide_roots : (f : Forest ℕ) → HoldsNaturalWidths box l.natural_widths f → roots (widths_of box f) ≡ map wide_of (roots (knows f))
+  pub wide_roots : (f : Forest ℕ) → HoldsNaturalWidths box l.natural_widths f → roots (widths_of box f) ≡ map wide_of (roots (knows f))
   wide_roots Empty holds = refl
   wide_roots (Tree h cs rest) holds =
       ap (λ n. record { box = record (box h) { handle = h }; natural = n } ∷ roots (widths_of box rest)) (sym holds.0)
       ∙ ap (λ ws. wide_of (known_at box l h) ∷ ws) (wide_roots rest holds.2)
 
-  high_roots : (f : Forest ℕ) → HoldsNaturalHeights box l.widths l.natural_heights f → roots (heights_of box l.widths f) ≡ map tall_of (roots (knows f))
+  pub high_roots : (f : Forest ℕ) → HoldsNaturalHeights box l.widths l.natural_heights f → roots (heights_of box l.widths f) ≡ map tall_of (roots (knows f))
   high_roots Empty holds = refl
   high_roots (Tree h cs rest) holds =
       ap (λ n. record { box = record (box h) { handle = h }; width = get_or l.widths h 0; natural_height = n } ∷ roots (heights_of box l.widths rest)) (sym holds.0)
       ∙ ap (λ ts. tall_of (known_at box l h) ∷ ts) (high_roots rest holds.2)
 
-  tall_roots : (f : Forest ℕ) → roots (talls box l.widths l.natural_heights f) ≡ map tall_of (roots (knows f))
+  pub tall_roots : (f : Forest ℕ) → roots (talls box l.widths l.natural_heights f) ≡ map tall_of (roots (knows f))
   tall_roots Empty = refl
   tall_roots (Tree h cs rest) = ap (λ ts. tall_of (known_at box l h) ∷ ts) (tall_roots rest)
 
@@ -109,70 +111,86 @@ module _ (box : ℕ → Box) (l : Layout) where
         }),
       )
 
-  -- Tables that fit hold what the passes find.
-  pub holds_of : (f : Forest ℕ) → AllFit (knows f) → HoldsAll f
-  holds_of Empty fit = record { natural_widths = tt; widths = tt; natural_heights = tt; slots = tt }
-  holds_of (Tree h cs rest) fit =
+  -- what is known of objects that fit is what the definition gives of their boxes
+  roots_known : {A : Type 0} (g : Known → A) (f : Forest ℕ) → roots (map_forest (λ h. g (known_at box l h)) f) ≡ map g (roots (knows f))
+  roots_known g Empty = refl
+  roots_known g (Tree h cs rest) = ap (λ xs. g (known_at box l h) ∷ xs) (roots_known g rest)
+
+  abbrev wides : Forest ℕ → Forest Wide
+  wides f = map_forest (λ h. wide_of (known_at box l h)) f
+
+  abbrev placed_at : ℕ → Placed
+  placed_at h = record { tall = tall_at box l.widths l.natural_heights h; slot = slot_at l.slots h }
+
+  wides_given : (f : Forest ℕ) → AllFit (knows f) → widths_of box f ≡ wides f
+  wides_given Empty fit = refl
+  wides_given (Tree h cs rest) fit =
       let own = record (box h) { handle = h } in
+      let below = wides_given cs fit.1 in
+      let natural = ap (λ (t : Forest Wide). natural_width own (roots t)) below ∙ (ap (natural_width own) (roots_known wide_of cs) ∙ sym fit.0.natural_width) in
+      same_tree _ _ _ _ _ _ (ap (λ n. record { box = own; natural = n }) natural) below (wides_given rest fit.2)
+
+  widths_given : (f : Forest ℕ) → AllFit (knows f) → with_widths (map width_of (roots (knows f))) (wides f) ≡ map_forest (widened_at box l.widths) f
+  widths_given Empty fit = refl
+  widths_given (Tree h cs rest) fit =
+      let own = record (box h) { handle = h } in
+      let kids = ap (kid_widths own (known_at box l h).width) (roots_known wide_of cs) ∙ sym fit.0.widths in
+      same_tree _ _ _ _ _ _ refl (ap (λ ws. with_widths ws (wides cs)) kids ∙ widths_given cs fit.1) (widths_given rest fit.2)
+
+  heights_given : (f : Forest ℕ) → AllFit (knows f) → heights_of box l.widths f ≡ talls box l.widths l.natural_heights f
+  heights_given Empty fit = refl
+  heights_given (Tree h cs rest) fit =
+      let own = record (box h) { handle = h } in
+      let width = (known_at box l h).width in
+      let below = heights_given cs fit.1 in
+      let natural = ap (λ (t : Forest Tall). natural_height own width (roots t)) below ∙ (ap (natural_height own width) (tall_roots cs) ∙ sym fit.0.natural_height) in
+      same_tree _ _ _ _ _ _ (ap (λ n. record { box = own; width = width; natural_height = n }) natural) below (heights_given rest fit.2)
+
+  slots_given : (f : Forest ℕ) → AllFit (knows f) → with_slots (map slot_of (roots (knows f))) (talls box l.widths l.natural_heights f) ≡ map_forest placed_at f
+  slots_given Empty fit = refl
+  slots_given (Tree h cs rest) fit =
       let k = known_at box l h in
-      let tall = tall_at box l.widths l.natural_heights h in
-      let below = holds_of cs fit.1 in
-      let beside = holds_of rest fit.2 in
-      let wides = wide_roots cs below.natural_widths in
-      let highs = high_roots cs below.natural_heights in
-      record {
-        natural_widths = (fit.0.natural_width ∙ ap (natural_width own) (sym wides), below.natural_widths, beside.natural_widths);
-        widths = (
-          refl,
-          subst (λ ws. HoldsWidths box ws l.widths cs) (fit.0.widths ∙ ap (kid_widths own k.width) (sym wides)) below.widths,
-          beside.widths,
-        );
-        natural_heights = (fit.0.natural_height ∙ ap (natural_height own k.width) (sym highs), below.natural_heights, beside.natural_heights);
-        slots = (
-          refl,
-          subst (λ ss. HoldsSlots box l.widths l.natural_heights ss l.slots cs) (fit.0.slots ∙ ap (kid_slots tall k.slot) (sym (tall_roots cs))) below.slots,
-          beside.slots,
-        );
-      }
+      let kids = ap (kid_slots (tall_of k) k.slot) (tall_roots cs) ∙ sym fit.0.slots in
+      same_tree _ _ _ _ _ _ refl (ap (λ ss. with_slots ss (talls box l.widths l.natural_heights cs)) kids ∙ slots_given cs fit.1) (slots_given rest fit.2)
+
+  -- a table has of each object what it tells
+  told_holds : {A V : Type 0} (g : ℕ → A) (handle : A → ℕ) (value : A → V) (d : V) (table : List V) → ((h : ℕ) → get_or table (handle (g h)) d ≡ value (g h)) → (f : Forest ℕ) → Holds handle value d table (map_forest g f)
+  told_holds g handle value d table is Empty = tt
+  told_holds g handle value d table is (Tree h cs rest) = (is h, told_holds g handle value d table is cs, told_holds g handle value d table is rest)
 
   -- Where all fit, and the roots fill the panel, the places are those that are solved.
   module _ (width height : ℕ) where
-    fill_widths : {A : Type 0} (ks : List Known) (xs : List A) → length xs ≡ length ks → AllFill width height ks → map (λ _. width) xs ≡ map width_of ks
-    fill_widths [] [] long fill = refl
-    fill_widths [] (x ∷ xs) long fill = absurd (omega arith)
-    fill_widths (k ∷ ks) [] long fill = absurd (omega arith)
-    fill_widths (k ∷ ks) (x ∷ xs) long fill = ap (λ n. n ∷ map (λ _. width) xs) (sym fill.0.is_wide) ∙ ap (λ ns. k.width ∷ ns) (fill_widths ks xs (omega arith) fill.1)
+    fill_widths : (f : Forest ℕ) → AllFill width height (roots (knows f)) → map (λ _. width) (roots (wides f)) ≡ map width_of (roots (knows f))
+    fill_widths Empty fill = refl
+    fill_widths (Tree h cs rest) fill = ap (λ n. n ∷ map (λ _. width) (roots (wides rest))) (sym fill.0.is_wide) ∙ ap (λ ns. (known_at box l h).width ∷ ns) (fill_widths rest fill.1)
 
-    fill_slots : {A : Type 0} (ks : List Known) (xs : List A) → length xs ≡ length ks → AllFill width height ks → map (λ _. corner height) xs ≡ map slot_of ks
-    fill_slots [] [] long fill = refl
-    fill_slots [] (x ∷ xs) long fill = absurd (omega arith)
-    fill_slots (k ∷ ks) [] long fill = absurd (omega arith)
-    fill_slots (k ∷ ks) (x ∷ xs) long fill = ap (λ n. n ∷ map (λ _. corner height) xs) (sym fill.0.at_corner) ∙ ap (λ ns. k.slot ∷ ns) (fill_slots ks xs (omega arith) fill.1)
+    fill_slots : (f : Forest ℕ) → AllFill width height (roots (knows f)) → map (λ _. corner height) (roots (talls box l.widths l.natural_heights f)) ≡ map slot_of (roots (knows f))
+    fill_slots Empty fill = refl
+    fill_slots (Tree h cs rest) fill =
+        ap (λ s. s ∷ map (λ _. corner height) (roots (talls box l.widths l.natural_heights rest))) (sym fill.0.at_corner) ∙ ap (λ ss. (known_at box l h).slot ∷ ss) (fill_slots rest fill.1)
 
     -- the trees that are solved are those that the tables tell
-    solved_is : (f : Forest ℕ) → IsSettled width height (knows f) → solved width height (boxed box f) ≡ with_slots (map slot_of (roots (knows f))) (talls box l.widths l.natural_heights f)
+    solved_is : (f : Forest ℕ) → IsSettled width height (knows f) → solved width height (boxed box f) ≡ map_forest placed_at f
     solved_is f settled =
-        let holds = holds_of f settled.fit in
-        let wide = widths_of box f in
-        let roots_of : length (roots wide) ≡ length (roots (knows f)) = ap length (wide_roots f holds.natural_widths) ∙ mapped-length wide_of (roots (knows f)) in
-        let ws = map (λ _. width) (roots wide) in
-        let given : HoldsWidths box ws l.widths f = subst (λ us. HoldsWidths box us l.widths f) (sym (fill_widths (roots (knows f)) (roots wide) roots_of settled.fill)) holds.widths in
-        let high = talls box l.widths l.natural_heights f in
-        let tall : with_natural_heights (with_widths ws wide) ≡ high = ap with_natural_heights (widths_given box l.widths ws f given) ∙ heights_given box l.widths l.natural_heights f holds.natural_heights in
-        let tops : length (roots high) ≡ length (roots (knows f)) = ap length (tall_roots f) ∙ mapped-length tall_of (roots (knows f)) in
+        let fit = settled.fit in
+        let wide : with_widths (map (λ _. width) (roots (widths_of box f))) (widths_of box f) ≡ map_forest (widened_at box l.widths) f =
+        ap (λ (t : Forest Wide). with_widths (map (λ _. width) (roots t)) t) (wides_given f fit) ∙ (ap (λ ws. with_widths ws (wides f)) (fill_widths f settled.fill) ∙ widths_given f fit) in
+        let tall = ap with_natural_heights wide ∙ heights_given f fit in
         ap (λ (t : Forest Tall). with_slots (map (λ _. corner height) (roots t)) t) tall
-        ∙ ap (λ (us : List Slot). with_slots us high) (fill_slots (roots (knows f)) (roots high) tops settled.fill)
+        ∙ (ap (λ (ss : List Slot). with_slots ss (talls box l.widths l.natural_heights f)) (fill_slots f settled.fill) ∙ slots_given f fit)
 
     pub settled_placed : (f : Forest ℕ) → IsSettled width height (knows f) → HoldsPlaced l.widths l.slots (solved width height (boxed box f))
     settled_placed f settled =
-        let ss = map slot_of (roots (knows f)) in
-        subst (HoldsPlaced l.widths l.slots) (sym (solved_is f settled)) (widths_hold box l.widths l.natural_heights ss f, (holds_of f settled.fit).slots)
+        subst (HoldsPlaced l.widths l.slots) (sym (solved_is f settled))
+        (told_holds placed_at (λ p. p.tall.box.handle) (λ p. p.tall.width) 0 l.widths (λ h. refl) f, told_holds placed_at (λ p. p.tall.box.handle) (λ p. p.slot) nowhere l.slots (λ h. refl) f)
 
     -- and so are their natural sizes
     pub settled_wide : (f : Forest ℕ) → IsSettled width height (knows f) → HoldsNaturalWidths box l.natural_widths f
-    settled_wide f settled = (holds_of f settled.fit).natural_widths
+    settled_wide f settled =
+        subst (Holds (λ (w : Wide). w.box.handle) (λ (w : Wide). w.natural) 0 l.natural_widths) (sym (wides_given f settled.fit))
+        (told_holds (λ h. wide_of (known_at box l h)) (λ w. w.box.handle) (λ w. w.natural) 0 l.natural_widths (λ h. refl) f)
 
     pub settled_high : (f : Forest ℕ) → IsSettled width height (knows f) → Holds (λ (p : Placed). p.tall.box.handle) (λ (p : Placed). p.tall.natural_height) 0 l.natural_heights (solved width height (boxed box f))
     settled_high f settled =
-        let ss = map slot_of (roots (knows f)) in
-        subst (Holds (λ (p : Placed). p.tall.box.handle) (λ (p : Placed). p.tall.natural_height) 0 l.natural_heights) (sym (solved_is f settled)) (naturals_hold box l.widths l.natural_heights ss f)
+        subst (Holds (λ (p : Placed). p.tall.box.handle) (λ (p : Placed). p.tall.natural_height) 0 l.natural_heights) (sym (solved_is f settled))
+        (told_holds placed_at (λ p. p.tall.box.handle) (λ p. p.tall.natural_height) 0 l.natural_heights (λ h. refl) f)

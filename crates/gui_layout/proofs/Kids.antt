@@ -1,10 +1,10 @@
 -- Children with what was found for them.
-use Rattle.std.proofs.Common.{◌≡◌, ◌∙◌, refl, sym, ap, get_or, ℕ, max, List, [], ◌∷◌, ◌++◌, map, Option, Some, None, Bool, true, false, if◌then◌else◌}
+use Rattle.std.proofs.Common.{◌≡◌, ◌∙◌, refl, sym, ap, get_or, ℕ, max, List, Option, Some, None}
 use Rattle.gui_base.specs.Forest.{Forest, roots}
 use Rattle.layout_defs.specs.declared.Course.{Course}
 use Rattle.layout_defs.specs.declared.Course.TheVariants.{Free, Across, Down}
 use Rattle.layout_defs.specs.Boxes.{Box, course_of, inset}
-use Rattle.layout_defs.specs.Solving.{Wide, wide_box, taking_part, natural_size, kids_width, natural_width, width_item}
+use Rattle.layout_defs.specs.Solving.{Wide, wide_box, taking_part, natural_size, kids_width, natural_width}
 use Rattle.gui_layout.specs.Kids.{wide_kid}
 use Rattle.gui_layout.specs.declared.layout_box.LayoutBox.{LayoutBox}
 use Rattle.gui_layout.specs.Views.{axis_of, box_of, box_or, box_at}
@@ -29,14 +29,6 @@ pub kid_is : (boxes : List (Option LayoutBox)) (h natural : ℕ) (kid : LayoutBo
     wide_kid h kid natural ≡ kid_found (box_at boxes) h cs
 kid_is boxes h natural kid cs is_box is_natural =
     ap (λ (b : Box). record { box = b; natural = natural }) (is_box ∙ sym (named boxes h)) ∙ ap (λ n. record { box = record (box_at boxes h) { handle = h }; natural = n }) is_natural
-
--- a child and then the others
-pub part_taken : (room : ℕ) (kid : Wide) (kids : List Wide) → map (width_item room) (taking_part wide_box (kid ∷ [])) ++ map (width_item room) (taking_part wide_box kids) ≡ map (width_item room) (taking_part wide_box (kid ∷ kids))
-part_taken room kid kids = cases kid.box.hidden
-  where
-    cases : (hidden : Bool) → map (width_item room) (if hidden then [] else kid ∷ []) ++ map (width_item room) (taking_part wide_box kids) ≡ map (width_item room) (if hidden then taking_part wide_box kids else kid ∷ taking_part wide_box kids)
-    cases true = refl
-    cases false = refl
 
 -- the width of those together
 widths_are : (course : Course) (box : Box) (kids : List Wide) → together wide_box (λ (b : Box). b.across) (λ (k : Wide). k.natural) (run_across course) box.across.gap kids ≡ kids_width course box kids

@@ -23,6 +23,7 @@ pub mod OwnHeights
 pub mod Within
 pub mod Solves
 pub mod Fitting
+pub mod Filled
 pub mod Settling
 pub mod Alone
 pub mod Climbing

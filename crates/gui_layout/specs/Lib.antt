@@ -12,6 +12,7 @@ pub mod Walks
 pub mod Scenes
 pub mod OwnHeights
 pub mod Kids
+pub mod Sizings
 pub mod Solved
 pub mod Naturals
 pub mod Settled

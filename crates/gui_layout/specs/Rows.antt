@@ -4,7 +4,7 @@ use Rattle.layout_defs.specs.declared.Course.{Course}
 use Rattle.layout_defs.specs.declared.Course.TheVariants.{Free, Across, Down}
 use Rattle.layout_defs.specs.Boxes.{Axis, Box}
 use Rattle.layout_defs.specs.Solving.{Wide, Tall, reach, flowing}
-use Rattle.gui_layout.specs.declared.measuring.Row.{Row}
+use Rattle.gui_layout.specs.declared.row.Row.{Row}
 use Rattle.gui_layout.specs.declared.measuring.Run.{Run}
 use Rattle.gui_layout.specs.declared.measuring.Run.TheVariants.{Apart, Along, Crossing}
 

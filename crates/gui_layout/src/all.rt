@@ -1,5 +1,5 @@
 //! All roots.
-ghost use Rattle.std.specs.Prelude.{◌≡◌, ◌≤◌, vec_capacity};
+ghost use Rattle.std.specs.Prelude.{◌≡◌, ◌≤◌, length};
 ghost use Rattle.gui_base.specs.Forest.{StandsOnce, size};
 ghost use Rattle.gui_base.specs.Forest.{height as levels_of};
 ghost use Rattle.gui_store.specs.Views.{scene_of};
@@ -21,7 +21,7 @@ pub(crate) fn solve_trees(
     tree: &Tree,
     store: &Store,
     entries: &mut Table<Entry>,
-    items: &mut Vec<FlexItem>,
+    items: &mut [FlexItem],
     width: Size,
     height: Size,
 )
@@ -30,12 +30,11 @@ pub(crate) fn solve_trees(
     requires listed { AreListed (listing_of entries.old) tree.now.forest }
     requires few { size tree.now.forest ≤ 4000 }
     requires low { levels_of tree.now.forest ≤ 16 }
-    requires capacity { size tree.now.forest ≤ vec_capacity items.old }
+    requires enough { size tree.now.forest ≤ length items.old }
     ensures settled { IsSettled width.pixels height.pixels
         (known (scene_box (scene_of store.now)) (told entries.new) tree.now.forest) }
     ensures boxes { HoldsBoxes (told entries.new).boxes (scene_of store.now) }
     ensures listed { listing_of entries.new ≡ listing_of entries.old }
-    ensures capacity { vec_capacity items.new ≡ vec_capacity items.old }
 {
     let mut next = tree.first_root();
     while let Some(root) = next {

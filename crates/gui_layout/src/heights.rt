@@ -1,15 +1,15 @@
 //! Natural heights.
-ghost use Rattle.std.specs.Prelude.{◌≡◌, ◌≤◌, ◌<◌, ◌+◌, ◌*◌, ◌∷◌, ◌++◌, [], ℕ, true, map, vec_len};
-ghost use Rattle.std.specs.Prelude.{vec_capacity, slice_index};
+ghost use Rattle.std.specs.Prelude.{◌≡◌, ◌≤◌, ◌<◌, ◌+◌, true, length, map};
+ghost use Rattle.std.specs.Prelude.{slice_index};
 ghost use Rattle.gui_base.specs.Forest.{StandsOnce, has, size, tree_at};
 ghost use Rattle.layout_defs.specs.declared.Course.TheVariants.{Across};
 ghost use Rattle.layout_defs.specs.Flex.{spanned, thickness, tracks};
 ghost use Rattle.layout_defs.specs.Boxes.{course_of, inner, is_reversed, wraps};
-ghost use Rattle.layout_defs.specs.Solving.{tall_box, taking_part, in_order, height_item, kids_height};
+ghost use Rattle.layout_defs.specs.Solving.{tall_box, taking_part, in_order, kids_height};
 ghost use Rattle.layout_defs.specs.Solving.{natural_height};
 ghost use Rattle.layout_defs.specs.Tables.{KeepsOthers};
 ghost use Rattle.gui_flex.specs.Items.{items_of};
-ghost use Rattle.gui_layout.specs.Kids.{tall_kid, high_kids, BelowHaveHeights};
+ghost use Rattle.gui_layout.specs.Kids.{high_kids, BelowHaveHeights};
 ghost use Rattle.gui_layout.specs.Views.{axis_of, box_of, box_at};
 ghost use Rattle.gui_layout.specs.Rows.{row_of, run_down, down_kid, sum_of};
 ghost use Rattle.gui_layout.specs.Talls.{HoldsNaturalHeights};
@@ -19,10 +19,11 @@ ghost use Rattle.gui_layout.specs.Tables.{told, listing_of, AreListed, IsEntry};
 use crate::along::inner;
 use crate::boxes::{course_of, is_reversed, wraps};
 use crate::entry::Entry;
-use crate::layout_box::LayoutBox;
-use crate::measuring::{Row, natural_size, run_down, with_gaps, with_kid};
+use crate::items::{fill_items, turn};
+use crate::measuring::{natural_size, no_kids, run_down, with_gaps, with_kid};
+use crate::row::Row;
+use crate::sizing::Sizing;
 use crate::tables::{entry_of, set_natural_height};
-use crate::widths::turn;
 use gui_base::Handle;
 use gui_base::words::Flow;
 use gui_flex::{FlexItem, measure};
@@ -30,72 +31,17 @@ use gui_pool::Table;
 use gui_tree::Tree;
 use layout_defs::Course;
 
-/// Puts a child that takes part behind the others.
-fn push_kid(items: &mut Vec<FlexItem>, kid: &LayoutBox, width: u16, natural: u16)
-    requires room { vec_len items.old < vec_capacity items.old }
-    requires width { width ≤ 8191 }
-    requires natural { natural ≤ 8191 }
-    ensures items { (h : ℕ) → items_of items.new.items
-        ≡ items_of items.old.items ++ map height_item (taking_part tall_box
-        (tall_kid h kid.now width natural ∷ [])) }
-    ensures len { vec_len items.new ≤ vec_len items.old + 1 }
-    ensures capacity { vec_capacity items.new ≡ vec_capacity items.old }
-{
-    if kid.hidden {
-        return;
-    }
-    items.push_reserved(FlexItem {
-        main: i32::from(width),
-        cross: i32::from(natural),
-        grow: kid.grow,
-        main_at: 0,
-        cross_at: 0,
-    });
-}
-
-/// Makes the children that take part items, as wide as they are and as high as they are by nature.
-fn fill_row(tree: &Tree, entries: &Table<Entry>, items: &mut Vec<FlexItem>, h: Handle)
-    requires once { StandsOnce tree.now.forest }
-    requires few { size tree.now.forest ≤ 4000 }
-    requires found { BelowHaveHeights (told entries.now) tree.now.forest h.0 }
-    requires capacity { size tree.now.forest ≤ vec_capacity items.old }
-    requires listed { AreListed (listing_of entries.now) (tree_at tree.now.forest h.0) }
-    ensures items { items_of items.new.items
-        ≡ map height_item (taking_part tall_box (high_kids (told entries.now) tree.now.forest h.0)) }
-    ensures few { vec_len items.new ≤ 4000 }
-    ensures capacity { vec_capacity items.new ≡ vec_capacity items.old }
-{
-    items.clear();
-    let mut next = tree.first_child(h);
-    while let Some(child) = next {
-        let kid = entry_of(entries, child);
-        push_kid(
-            items,
-            &kid.wanted,
-            kid.width.pixels,
-            kid.natural_height.pixels,
-        );
-        next = tree.next(child);
-    }
-}
-
 /// How high the tracks of items are together, with the gaps between them.
-fn tracks_height(items: &mut Vec<FlexItem>, flow: Flow, room: u16, gap: u16, track_gap: u16) -> u32
-    requires few { vec_len items.old ≤ 4000 }
+fn tracks_height(items: &mut [FlexItem], flow: Flow, room: u16, gap: u16, track_gap: u16) -> u32
+    requires few { length items.old ≤ 4000 }
     requires gap { gap ≤ 1000 }
     requires track_gap { track_gap ≤ 1000 }
     ensures value { result ≡ spanned track_gap (map thickness
-        (tracks (wraps flow) room gap (in_order (is_reversed flow) (items_of items.old.items)))) }
+        (tracks (wraps flow) room gap (in_order (is_reversed flow) (items_of items.old)))) }
     ensures small { result ≤ 500000000 }
-    ensures capacity { vec_capacity items.new ≡ vec_capacity items.old }
 {
     turn(items, is_reversed(flow));
-    let (count, sizes) = measure(
-        items.as_slice(),
-        wraps(flow),
-        u32::from(room),
-        u32::from(gap),
-    );
+    let (count, sizes) = measure(items, wraps(flow), u32::from(room), u32::from(gap));
     sizes + u32::from(track_gap) * count.saturating_sub(1)
 }
 
@@ -105,25 +51,24 @@ fn tracks_height(items: &mut Vec<FlexItem>, flow: Flow, room: u16, gap: u16, tra
 fn row_height(
     tree: &Tree,
     entries: &Table<Entry>,
-    items: &mut Vec<FlexItem>,
+    items: &mut [FlexItem],
     h: Handle,
     own: &Entry,
 ) -> u32
     requires once { StandsOnce tree.now.forest }
     requires few { size tree.now.forest ≤ 4000 }
     requires found { BelowHaveHeights (told entries.now) tree.now.forest h.0 }
-    requires capacity { size tree.now.forest ≤ vec_capacity items.old }
+    requires enough { size tree.now.forest ≤ length items.old }
     requires listed { AreListed (listing_of entries.now) (tree_at tree.now.forest h.0) }
     ensures value { result ≡ kids_height Across (box_of h.0 own.now.wanted)
         (inner (axis_of own.now.wanted.across) own.now.width.pixels)
         (taking_part tall_box (high_kids (told entries.now) tree.now.forest h.0)) }
     ensures small { result ≤ 500000000 }
-    ensures capacity { vec_capacity items.new ≡ vec_capacity items.old }
 {
-    fill_row(tree, entries, items, h);
+    let count = fill_items(tree, entries, items, h, Sizing::Naturals);
     let room = inner(&own.wanted.across, own.width.pixels);
     tracks_height(
-        items,
+        &mut items[..count],
         own.wanted.flow,
         room,
         own.wanted.across.gap,
@@ -135,7 +80,7 @@ fn row_height(
 fn kids_height(
     tree: &Tree,
     entries: &Table<Entry>,
-    items: &mut Vec<FlexItem>,
+    items: &mut [FlexItem],
     h: Handle,
     own: &Entry,
     row: Row,
@@ -143,17 +88,14 @@ fn kids_height(
     requires once { StandsOnce tree.now.forest }
     requires few { size tree.now.forest ≤ 4000 }
     requires found { BelowHaveHeights (told entries.now) tree.now.forest h.0 }
-    requires capacity { size tree.now.forest ≤ vec_capacity items.old }
+    requires enough { size tree.now.forest ≤ length items.old }
     requires row { row_of row ≡ sum_of down_kid (run_down (course_of own.now.wanted.flow))
         (high_kids (told entries.now) tree.now.forest h.0) }
-    requires size { row.size ≤ 70000 * row.count }
-    requires count { row.count ≤ 4000 }
     requires listed { AreListed (listing_of entries.now) (tree_at tree.now.forest h.0) }
     ensures value { result ≡ kids_height (course_of own.now.wanted.flow) (box_of h.0 own.now.wanted)
         (inner (axis_of own.now.wanted.across) own.now.width.pixels)
         (taking_part tall_box (high_kids (told entries.now) tree.now.forest h.0)) }
     ensures small { result ≤ 500000000 }
-    ensures capacity { vec_capacity items.new ≡ vec_capacity items.old }
 {
     if row.count == 0 {
         return 0;
@@ -170,7 +112,7 @@ fn kids_height(
 fn natural_height(
     tree: &Tree,
     entries: &Table<Entry>,
-    items: &mut Vec<FlexItem>,
+    items: &mut [FlexItem],
     h: Handle,
     own: &Entry,
     row: Row,
@@ -178,17 +120,14 @@ fn natural_height(
     requires once { StandsOnce tree.now.forest }
     requires few { size tree.now.forest ≤ 4000 }
     requires found { BelowHaveHeights (told entries.now) tree.now.forest h.0 }
-    requires capacity { size tree.now.forest ≤ vec_capacity items.old }
+    requires enough { size tree.now.forest ≤ length items.old }
     requires own { IsEntry (told entries.now) h.0 own.now }
     requires row { row_of row ≡ sum_of down_kid (run_down (course_of own.now.wanted.flow))
         (high_kids (told entries.now) tree.now.forest h.0) }
-    requires size { row.size ≤ 70000 * row.count }
-    requires count { row.count ≤ 4000 }
     requires listed { AreListed (listing_of entries.now) (tree_at tree.now.forest h.0) }
     ensures value { result ≡ natural_height (box_at (told entries.now).boxes h.0)
         (slice_index (told entries.now).widths h.0) (high_kids (told entries.now) tree.now.forest h.0) }
     ensures small { result ≤ 8191 }
-    ensures capacity { vec_capacity items.new ≡ vec_capacity items.old }
 {
     let kids = kids_height(tree, entries, items, h, own, row);
     natural_size(&own.wanted.down, own.wanted.own_height.max(kids))
@@ -198,14 +137,14 @@ fn natural_height(
 pub(crate) fn find_natural_heights(
     tree: &Tree,
     entries: &mut Table<Entry>,
-    items: &mut Vec<FlexItem>,
+    items: &mut [FlexItem],
     h: Handle,
 ) -> u16
     requires once { StandsOnce tree.now.forest }
     requires listed { AreListed (listing_of entries.old) (tree_at tree.now.forest h.0) }
     requires few { size tree.now.forest ≤ 4000 }
     requires there { has tree.now.forest h.0 ≡ true }
-    requires capacity { size tree.now.forest ≤ vec_capacity items.old }
+    requires enough { size tree.now.forest ≤ length items.old }
     ensures value { result ≡ natural_height (box_at (told entries.old).boxes h.0)
         (slice_index (told entries.old).widths h.0) (high_kids (told entries.old) tree.now.forest h.0) }
     ensures found { HoldsNaturalHeights (box_at (told entries.old).boxes) (told entries.old).widths
@@ -213,11 +152,10 @@ pub(crate) fn find_natural_heights(
     ensures others { KeepsOthers 0 (told entries.old).natural_heights (told entries.new).natural_heights
         (tree_at tree.now.forest h.0) }
     ensures rest { ButNaturalHeights (told entries.old) (told entries.new) }
-    ensures capacity { vec_capacity items.new ≡ vec_capacity items.old }
     ensures listed { listing_of entries.new ≡ listing_of entries.old }
 {
     let run = run_down(course_of(entry_of(entries, h).wanted.flow));
-    let mut row = Row { size: 0, count: 0 };
+    let mut row = no_kids();
     let mut next = tree.first_child(h);
     while let Some(child) = next {
         let natural = find_natural_heights(tree, entries, items, child);

@@ -1,5 +1,5 @@
 //! How large children are together along an axis.
-ghost use Rattle.std.specs.Prelude.{◌≡◌, ◌≤◌, ◌<◌, ◌+◌, ◌*◌, ℕ, if◌then◌else◌, ◌==◌};
+ghost use Rattle.std.specs.Prelude.{◌≡◌, ◌≤◌, ◌<◌, ◌+◌, ℕ, if◌then◌else◌, ◌==◌};
 ghost use Rattle.layout_defs.specs.Boxes.{inset};
 ghost use Rattle.layout_defs.specs.Solving.{reach, natural_size};
 ghost use Rattle.gui_layout.specs.Views.{axis_of, box_of};
@@ -7,6 +7,7 @@ ghost use Rattle.gui_layout.specs.Rows.{row_of, run_across, run_down, with_kid, 
 
 use crate::axis::Axis;
 use crate::layout_box::LayoutBox;
+use crate::row::Row;
 use gui_base::Length;
 use layout_defs::{Course, Side};
 
@@ -43,11 +44,11 @@ pub(crate) fn run_down(course: Course) -> Run
     }
 }
 
-/// How large children are together so far, and how many they are.
-#[derive(Clone, Copy)]
-pub(crate) struct Row {
-    pub size: u32,
-    pub count: u32,
+/// No children.
+pub(crate) fn no_kids() -> Row
+    ensures { row_of result ≡ record { size = 0; count = 0 } }
+{
+    Row { size: 0, count: 0 }
 }
 
 /// How far a child reaches from its parent's near side, without flex.
@@ -71,11 +72,9 @@ fn flowing(grow: u8, natural: u16) -> u32
 
 /// The same with a child more, by its box and its axis. A hidden one takes no part.
 pub(crate) fn with_kid(row: Row, run: Run, kid: &LayoutBox, axis: &Axis, natural: u16) -> Row
-    requires size { row.size ≤ 70000 * row.count }
     requires count { row.count < 4000 }
     ensures value { (h : ℕ) → row_of result ≡ with_kid run (row_of row)
         (record { box = box_of h kid.now; axis = axis_of axis.now; natural = natural }) }
-    ensures size { result.size ≤ 70000 * result.count }
     ensures count { result.count ≤ row.count + 1 }
 {
     if kid.hidden {
@@ -95,8 +94,6 @@ pub(crate) fn with_kid(row: Row, run: Run, kid: &LayoutBox, axis: &Axis, natural
 /// How large children are together that are so large, with the gaps between them where they stand behind one
 /// another.
 pub(crate) fn with_gaps(row: Row, run: Run, gap: u16) -> u32
-    requires size { row.size ≤ 70000 * row.count }
-    requires count { row.count ≤ 4000 }
     requires gap { gap ≤ 1000 }
     ensures value { result ≡ with_gaps run gap (row_of row) }
     ensures small { result ≤ 500000000 }

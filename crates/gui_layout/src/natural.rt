@@ -1,5 +1,5 @@
 //! Natural widths.
-ghost use Rattle.std.specs.Prelude.{◌≡◌, ◌≤◌, ◌*◌, ℕ, true, List};
+ghost use Rattle.std.specs.Prelude.{◌≡◌, ◌≤◌, ℕ, true, List};
 ghost use Rattle.gui_base.specs.Forest.{StandsOnce, has, size, tree_at};
 ghost use Rattle.layout_defs.specs.Boxes.{course_of};
 ghost use Rattle.layout_defs.specs.Solving.{Wide, natural_width};
@@ -14,7 +14,8 @@ ghost use Rattle.gui_layout.specs.Tables.{told, listing_of, AreListed};
 use crate::boxes::course_of;
 use crate::entry::Entry;
 use crate::layout_box::LayoutBox;
-use crate::measuring::{Row, natural_size, run_across, with_gaps, with_kid};
+use crate::measuring::{natural_size, no_kids, run_across, with_gaps, with_kid};
+use crate::row::Row;
 use crate::tables::{entry_of, set_natural_width};
 use gui_base::Handle;
 use gui_pool::Table;
@@ -22,8 +23,6 @@ use gui_tree::Tree;
 
 /// The natural width of an object whose children are together so wide.
 fn natural_width(own: &LayoutBox, row: Row) -> u16
-    requires size { row.size ≤ 70000 * row.count }
-    requires count { row.count ≤ 4000 }
     ensures value { (h : ℕ) (kids : List Wide)
         → row_of row ≡ sum_of across_kid (run_across (course_of own.now.flow)) kids
         → result ≡ natural_width (box_of h own.now) kids }
@@ -49,7 +48,7 @@ pub(crate) fn find_natural_widths(tree: &Tree, entries: &mut Table<Entry>, h: Ha
     ensures listed { listing_of entries.new ≡ listing_of entries.old }
 {
     let run = run_across(course_of(entry_of(entries, h).wanted.flow));
-    let mut row = Row { size: 0, count: 0 };
+    let mut row = no_kids();
     let mut next = tree.first_child(h);
     while let Some(child) = next {
         let natural = find_natural_widths(tree, entries, child);

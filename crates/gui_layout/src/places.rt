@@ -1,7 +1,7 @@
 //! The places of the objects of a store.
 ghost use Rattle.std.specs.Prelude.{◌≡◌, ◌≤◌, ◌+ℤ◌, ◌-ℤ◌, pos, ℕ, Bool, [], true, false, None, Some, IfOk};
 ghost use Rattle.std.specs.Prelude.{IfSome, eqb, is_some, option_map};
-ghost use Rattle.std.specs.Prelude.{◌<◌, ◌+◌, length, vec_capacity};
+ghost use Rattle.std.specs.Prelude.{◌<◌, ◌+◌, length, vec_len, vec_capacity};
 ghost use Rattle.std.specs.Option.{option_to_list};
 ghost use Rattle.gui_base.specs.Area.{area_at, is_empty, width_of};
 ghost use Rattle.gui_base.specs.Bounded.{bounds_of};
@@ -42,6 +42,7 @@ use crate::entry::Entry;
 use crate::frame::Frame;
 use crate::gone::{have_left, take_gone};
 use crate::inside::Inside;
+use crate::items::new_item;
 use crate::listing::{add_any, are_same, clear, fill, list_trees, put};
 use crate::looks::{look_in, paint_look_in};
 use crate::mark::Mark;
@@ -85,13 +86,13 @@ pub struct Places {
     listed: Vec<Handle>,
     // Room to list those of a store.
     found: Vec<Handle>,
-    // The children of one object that take part in its flow.
+    // Room for the children of one object that take part in its flow.
     items: Vec<FlexItem>,
     limits: Limits,
     ghost kept: { HasThese limits.objects entries listed.items },
     ghost list_room: { limits.objects ≤ vec_capacity listed },
     ghost found_room: { limits.objects ≤ vec_capacity found },
-    ghost items_room: { limits.objects ≤ vec_capacity items },
+    ghost items_room: { limits.objects ≤ vec_len items },
 }
 
 /// A table with room for the entries of so many objects.
@@ -110,6 +111,16 @@ fn open_list<T>(alloc: Global, count: u32) -> Result<Vec<T>, NoMemory>
     ensures room { IfOk result (λ list. count ≤ vec_capacity list) }
 {
     match Vec::with_capacity(alloc, count as usize) {
+        Ok(list) => Ok(list),
+        Err(_) => Err(NoMemory),
+    }
+}
+
+/// Room for so many items.
+fn open_items(alloc: Global, count: u32) -> Result<Vec<FlexItem>, NoMemory>
+    ensures { IfOk result (λ list. count ≤ vec_len list) }
+{
+    match vec![in alloc; new_item(0, 0, 0); count as usize] {
         Ok(list) => Ok(list),
         Err(_) => Err(NoMemory),
     }
@@ -180,7 +191,7 @@ impl Places {
         let entries = open_table(alloc, objects)?;
         let listed = open_list(alloc, objects)?;
         let found = open_list(alloc, objects)?;
-        let items = open_list(alloc, objects)?;
+        let items = open_items(alloc, objects)?;
         Ok(Places {
             entries,
             listed,
@@ -544,7 +555,14 @@ impl Places {
     {
         let tree = store.tree();
         let (top, frame) = self.frame_of(tree, h);
-        solve_tree(tree, store, &mut self.entries, &mut self.items, top, frame);
+        solve_tree(
+            tree,
+            store,
+            &mut self.entries,
+            self.items.as_mut_slice(),
+            top,
+            frame,
+        );
         top
     }
 
@@ -712,7 +730,7 @@ impl Places {
             store.tree(),
             store,
             &mut self.entries,
-            &mut self.items,
+            self.items.as_mut_slice(),
             Size {
                 pixels: self.limits.width as u16,
             },

@@ -1,18 +1,18 @@
 //! Heights and places, downward.
-ghost use Rattle.std.specs.Prelude.{◌≡◌, ◌≤◌, ◌<◌, ◌+◌, ◌∷◌, ◌++◌, [], ℕ, List, true, length, map};
-ghost use Rattle.std.specs.Prelude.{drop, vec_len, vec_capacity};
+ghost use Rattle.std.specs.Prelude.{◌≡◌, ◌≤◌, ◌<◌, ◌+◌, ◌∷◌, [], ℕ, List, true, length, map};
+ghost use Rattle.std.specs.Prelude.{take, drop};
 ghost use Rattle.std.specs.List.{All};
 ghost use Rattle.gui_base.specs.Forest.{StandsOnce, has, height, size, tree_at, children_of};
 ghost use Rattle.layout_defs.specs.declared.Course.TheVariants.{Across, Down};
 ghost use Rattle.layout_defs.specs.Flex.{shared, spots};
 ghost use Rattle.layout_defs.specs.Boxes.{course_of};
-ghost use Rattle.layout_defs.specs.Solving.{Tall, tall_box, taking_part, in_order, dealt, nowhere};
+ghost use Rattle.layout_defs.specs.Solving.{Tall, tall_box, taking_part, dealt, nowhere};
 ghost use Rattle.layout_defs.specs.Solving.{own_slot, row_slot, column_slot, flow_slots, kid_slots, room_of};
 ghost use Rattle.layout_defs.specs.Tables.{KeepsOthers};
 ghost use Rattle.gui_flex.specs.Items.{items_of, item_of, spot_of, spots_of, placings_of};
 ghost use Rattle.gui_layout.specs.Kids.{tall_kid, tall_kids};
 ghost use Rattle.gui_layout.specs.Views.{box_of, box_at};
-ghost use Rattle.gui_layout.specs.Slots.{slot_of, room_in, arranged, item_in, flow_item, item_slot};
+ghost use Rattle.gui_layout.specs.Slots.{slot_of, room_in, arranged, item_slot};
 ghost use Rattle.gui_layout.specs.Slots.{IsClose, HasRoom, HoldsSlots, Deals, IsAtCorner, IsBelow, tall_at};
 ghost use Rattle.gui_layout.specs.Slots.{slot_at, at_roots};
 ghost use Rattle.gui_layout.specs.Layouts.{ButSlots};
@@ -22,8 +22,10 @@ use crate::along::{corner, from_corner, inner, own_at, size_in};
 use crate::boxes::{course_of, is_reversed, wraps};
 use crate::entry::Entry;
 use crate::inside::Inside;
+use crate::items::{fill_items, turn};
 use crate::layout_box::LayoutBox;
 use crate::position::Position;
+use crate::sizing::Sizing;
 use crate::tables::{entry_of, set_position};
 use gui_base::Handle;
 use gui_flex::{FlexItem, FlexPlaces, place, share};
@@ -80,88 +82,19 @@ fn item_position(course: Course, item: &FlexItem, inside: Inside) -> Position
     }
 }
 
-/// Puts a child that takes part behind the others.
-fn push_kid(
-    items: &mut Vec<FlexItem>,
-    kid: &LayoutBox,
-    course: Course,
-    room: u16,
-    width: u16,
-    natural: u16,
-)
-    requires room { vec_len items.old < vec_capacity items.old }
-    requires width { width ≤ 8191 }
-    ensures items { (h : ℕ) → items_of items.new.items
-        ≡ items_of items.old.items ++ map (flow_item course room) (taking_part tall_box
-        (tall_kid h kid.now width natural ∷ [])) }
-    ensures len { vec_len items.new ≤ vec_len items.old + 1 }
-    ensures capacity { vec_capacity items.new ≡ vec_capacity items.old }
-{
-    if kid.hidden {
-        return;
-    }
-    let height = size_in(&kid.down, room, natural);
-    items.push_reserved(flow_item(course, width, height, kid.grow));
-}
-
-/// An item so wide and so high.
-fn flow_item(course: Course, width: u16, height: u16, grow: u8) -> FlexItem
-    requires width { width ≤ 8191 }
-    requires height { height ≤ 8191 }
-    ensures { item_of result ≡ item_in course width height grow }
-{
-    match course {
-        Course::Down => new_item(height, width, grow),
-        _ => new_item(width, height, grow),
-    }
-}
-
-/// An item of these sizes.
-fn new_item(main: u16, cross: u16, grow: u8) -> FlexItem
-    requires main { main ≤ 8191 }
-    requires cross { cross ≤ 8191 }
-    ensures { item_of result ≡ record { main = main; cross = cross; grow = grow } }
-{
-    FlexItem {
-        main: i32::from(main),
-        cross: i32::from(cross),
-        grow,
-        main_at: 0,
-        cross_at: 0,
-    }
-}
-
-/// Turns the items round where their flow is reversed.
-fn turn_round(items: &mut Vec<FlexItem>, back: bool)
-    ensures items { items.new.items ≡ in_order back items.old.items }
-    ensures len { vec_len items.new ≡ vec_len items.old }
-    ensures capacity { vec_capacity items.new ≡ vec_capacity items.old }
-{
-    if back {
-        items.as_mut_slice().reverse();
-    }
-}
-
 /// Shares what is free among the items.
-fn share_all(items: &mut Vec<FlexItem>, wrap: bool, extent: u16, gap: u16)
-    requires few { vec_len items.old ≤ 4000 }
+fn share_all(items: &mut [FlexItem], wrap: bool, extent: u16, gap: u16)
+    requires few { length items.old ≤ 4000 }
     requires extent { extent ≤ 8191 }
     requires gap { gap ≤ 1000 }
-    ensures items { items_of items.new.items ≡ shared wrap extent gap (items_of items.old.items) }
-    ensures len { vec_len items.new ≡ vec_len items.old }
-    ensures capacity { vec_capacity items.new ≡ vec_capacity items.old }
+    ensures items { items_of items.new ≡ shared wrap extent gap (items_of items.old) }
 {
-    share(
-        items.as_mut_slice(),
-        wrap,
-        i32::from(extent),
-        i32::from(gap),
-    );
+    share(items, wrap, i32::from(extent), i32::from(gap));
 }
 
 /// Places the items.
 fn place_all(
-    items: &mut Vec<FlexItem>,
+    items: &mut [FlexItem],
     wrap: bool,
     places: FlexPlaces,
     extent: u16,
@@ -169,19 +102,17 @@ fn place_all(
     gap: u16,
     track_gap: u16,
 )
-    requires few { vec_len items.old ≤ 4000 }
+    requires few { length items.old ≤ 4000 }
     requires extent { extent ≤ 8191 }
     requires cross_extent { cross_extent ≤ 8191 }
     requires gap { gap ≤ 1000 }
     requires track_gap { track_gap ≤ 1000 }
-    ensures spots { spots_of items.new.items
-        ≡ spots (placings_of places) wrap extent cross_extent gap track_gap (items_of items.old.items) }
-    ensures items { items_of items.new.items ≡ items_of items.old.items }
-    ensures len { vec_len items.new ≡ vec_len items.old }
-    ensures capacity { vec_capacity items.new ≡ vec_capacity items.old }
+    ensures spots { spots_of items.new
+        ≡ spots (placings_of places) wrap extent cross_extent gap track_gap (items_of items.old) }
+    ensures items { items_of items.new ≡ items_of items.old }
 {
     place(
-        items.as_mut_slice(),
+        items,
         wrap,
         places,
         i32::from(extent),
@@ -192,12 +123,10 @@ fn place_all(
 }
 
 /// Places the items of a row, in the order of its flow.
-fn place_row(items: &mut Vec<FlexItem>, own: &LayoutBox, inside: Inside)
-    requires few { vec_len items.old ≤ 4000 }
-    ensures items { (h : ℕ) → map (item_slot Across (room_in inside)) items.new.items
-        ≡ arranged Across (box_of h own.now) (room_in inside) (items_of items.old.items) }
-    ensures len { vec_len items.new ≡ vec_len items.old }
-    ensures capacity { vec_capacity items.new ≡ vec_capacity items.old }
+fn place_row(items: &mut [FlexItem], own: &LayoutBox, inside: Inside)
+    requires few { length items.old ≤ 4000 }
+    ensures items { (h : ℕ) → map (item_slot Across (room_in inside)) items.new
+        ≡ arranged Across (box_of h own.now) (room_in inside) (items_of items.old) }
 {
     place_all(
         items,
@@ -211,12 +140,10 @@ fn place_row(items: &mut Vec<FlexItem>, own: &LayoutBox, inside: Inside)
 }
 
 /// Shares what is free in a column among its items, and places them, in the order of its flow.
-fn place_column(items: &mut Vec<FlexItem>, own: &LayoutBox, inside: Inside)
-    requires few { vec_len items.old ≤ 4000 }
-    ensures items { (h : ℕ) → map (item_slot Down (room_in inside)) items.new.items
-        ≡ arranged Down (box_of h own.now) (room_in inside) (items_of items.old.items) }
-    ensures len { vec_len items.new ≡ vec_len items.old }
-    ensures capacity { vec_capacity items.new ≡ vec_capacity items.old }
+fn place_column(items: &mut [FlexItem], own: &LayoutBox, inside: Inside)
+    requires few { length items.old ≤ 4000 }
+    ensures items { (h : ℕ) → map (item_slot Down (room_in inside)) items.new
+        ≡ arranged Down (box_of h own.now) (room_in inside) (items_of items.old) }
 {
     share_all(items, wraps(own.flow), inside.height, own.down.gap);
     place_all(
@@ -270,73 +197,45 @@ fn dealt_position(
     (item_position(course, &items[i], inside), i + 1)
 }
 
-/// Makes the children that take part items of a flow, first to last.
-fn fill_flow(
-    tree: &Tree,
-    entries: &Table<Entry>,
-    items: &mut Vec<FlexItem>,
-    h: Handle,
-    course: Course,
-    room: u16,
-)
-    requires once { StandsOnce tree.now.forest }
-    requires few { size tree.now.forest ≤ 4000 }
-    requires capacity { size tree.now.forest ≤ vec_capacity items.old }
-    requires listed { AreListed (listing_of entries.now) (tree_at tree.now.forest h.0) }
-    ensures items { items_of items.new.items ≡ map (flow_item course room)
-        (taking_part tall_box (tall_kids (told entries.now) tree.now.forest h.0)) }
-    ensures few { vec_len items.new ≤ 4000 }
-    ensures capacity { vec_capacity items.new ≡ vec_capacity items.old }
-{
-    items.clear();
-    let mut next = tree.first_child(h);
-    while let Some(child) = next {
-        let kid = entry_of(entries, child);
-        push_kid(
-            items,
-            &kid.wanted,
-            course,
-            room,
-            kid.width.pixels,
-            kid.natural_height.pixels,
-        );
-        next = tree.next(child);
-    }
-}
-
-/// Makes the items the children that take part in a flow, each with its place, first to last.
+/// Makes the items the children that take part in a flow, each with its place, first to last. It answers how
+/// many they are.
 fn place_flow(
     tree: &Tree,
     entries: &Table<Entry>,
-    items: &mut Vec<FlexItem>,
+    items: &mut [FlexItem],
     h: Handle,
     own: &LayoutBox,
     inside: Inside,
-)
+) -> usize
     requires once { StandsOnce tree.now.forest }
     requires few { size tree.now.forest ≤ 4000 }
-    requires capacity { size tree.now.forest ≤ vec_capacity items.old }
+    requires enough { size tree.now.forest ≤ length items.old }
     requires listed { AreListed (listing_of entries.now) (tree_at tree.now.forest h.0) }
-    ensures slots { map (item_slot (course_of own.now.flow) (room_in inside)) items.new.items
+    ensures slots { map (item_slot (course_of own.now.flow) (room_in inside)) (take result items.new)
         ≡ flow_slots (box_of h.0 own.now) (room_in inside)
         (taking_part tall_box (tall_kids (told entries.now) tree.now.forest h.0)) }
-    ensures capacity { vec_capacity items.new ≡ vec_capacity items.old }
+    ensures within { result ≤ length items.new }
 {
     let course = course_of(own.flow);
     let back = is_reversed(own.flow);
+    let sizing = Sizing::Sizes(course, inside.height);
     match course {
-        Course::Free => items.clear(),
+        Course::Free => 0,
         Course::Across => {
-            fill_flow(tree, entries, items, h, course, inside.height);
-            turn_round(items, back);
-            place_row(items, own, inside);
-            turn_round(items, back);
+            let count = fill_items(tree, entries, items, h, sizing);
+            let flow = &mut items[..count];
+            turn(flow, back);
+            place_row(flow, own, inside);
+            turn(flow, back);
+            count
         }
         Course::Down => {
-            fill_flow(tree, entries, items, h, course, inside.height);
-            turn_round(items, back);
-            place_column(items, own, inside);
-            turn_round(items, back);
+            let count = fill_items(tree, entries, items, h, sizing);
+            let flow = &mut items[..count];
+            turn(flow, back);
+            place_column(flow, own, inside);
+            turn(flow, back);
+            count
         }
     }
 }
@@ -388,11 +287,11 @@ pub(crate) fn inside_of(own: &LayoutBox, at: Position, width: u16) -> Inside
 /// Sets the places of the children of an object whose own place is set. It is not inlined, so that an object
 /// without children pays nothing for it.
 #[inline(never)]
-fn set_kid_positions(tree: &Tree, entries: &mut Table<Entry>, items: &mut Vec<FlexItem>, h: Handle)
+fn set_kid_positions(tree: &Tree, entries: &mut Table<Entry>, items: &mut [FlexItem], h: Handle)
     requires once { StandsOnce tree.now.forest }
     requires listed { AreListed (listing_of entries.old) (tree_at tree.now.forest h.0) }
     requires few { size tree.now.forest ≤ 4000 }
-    requires capacity { size tree.now.forest ≤ vec_capacity items.old }
+    requires enough { size tree.now.forest ≤ length items.old }
     requires room { HasRoom (slot_at (told entries.old).slots h.0) 1 }
     requires there { has tree.now.forest h.0 ≡ true }
     ensures kids { at_roots (told entries.new).slots (children_of tree.now.forest h.0)
@@ -404,28 +303,27 @@ fn set_kid_positions(tree: &Tree, entries: &mut Table<Entry>, items: &mut Vec<Fl
     ensures near { All (IsBelow (slot_at (told entries.old).slots h.0))
         (at_roots (told entries.new).slots (children_of tree.now.forest h.0)) }
     ensures rest { ButSlots (told entries.old) (told entries.new) }
-    ensures capacity { vec_capacity items.new ≡ vec_capacity items.old }
     ensures listed { listing_of entries.new ≡ listing_of entries.old }
 {
     let own = entry_of(entries, h);
     let inside = inside_of(&own.wanted, own.position, own.width.pixels);
     let course = course_of(own.wanted.flow);
-    place_flow(tree, entries, items, h, &own.wanted, inside);
-    deal_positions(tree, entries, items.as_slice(), h, course, inside);
+    let count = place_flow(tree, entries, items, h, &own.wanted, inside);
+    deal_positions(tree, entries, &items[..count], h, course, inside);
 }
 
 /// Finds the heights and places of all that lies below an object whose own place is set, parents first.
 pub(crate) fn find_places(
     tree: &Tree,
     entries: &mut Table<Entry>,
-    items: &mut Vec<FlexItem>,
+    items: &mut [FlexItem],
     h: Handle,
 )
     requires once { StandsOnce tree.now.forest }
     requires listed { AreListed (listing_of entries.old) (tree_at tree.now.forest h.0) }
     requires few { size tree.now.forest ≤ 4000 }
     requires there { has tree.now.forest h.0 ≡ true }
-    requires capacity { size tree.now.forest ≤ vec_capacity items.old }
+    requires enough { size tree.now.forest ≤ length items.old }
     requires room { HasRoom (slot_at (told entries.old).slots h.0) (height (tree_at tree.now.forest h.0)) }
     ensures found { HoldsSlots (box_at (told entries.old).boxes) (told entries.old).widths
         (told entries.old).natural_heights (slot_at (told entries.old).slots h.0 ∷ [])
@@ -433,7 +331,6 @@ pub(crate) fn find_places(
     ensures others { KeepsOthers nowhere (told entries.old).slots (told entries.new).slots
         (tree_at tree.now.forest h.0) }
     ensures rest { ButSlots (told entries.old) (told entries.new) }
-    ensures capacity { vec_capacity items.new ≡ vec_capacity items.old }
     ensures listed { listing_of entries.new ≡ listing_of entries.old }
 {
     if tree.first_child(h).is_none() {

@@ -1,5 +1,5 @@
 //! One object with all below it.
-ghost use Rattle.std.specs.Prelude.{◌≡◌, ◌≤◌, true, vec_capacity};
+ghost use Rattle.std.specs.Prelude.{◌≡◌, ◌≤◌, true, length};
 ghost use Rattle.gui_base.specs.Forest.{StandsOnce, has, height, size, tree_at};
 ghost use Rattle.gui_store.specs.Views.{scene_of};
 ghost use Rattle.gui_layout.specs.Frames.{FrameIsNearby, StandsIn};
@@ -29,7 +29,7 @@ pub(crate) fn solve_tree(
     tree: &Tree,
     store: &Store,
     entries: &mut Table<Entry>,
-    items: &mut Vec<FlexItem>,
+    items: &mut [FlexItem],
     h: Handle,
     frame: Frame,
 )
@@ -40,7 +40,7 @@ pub(crate) fn solve_tree(
     requires few { size tree.now.forest ≤ 4000 }
     requires low { height tree.now.forest ≤ 16 }
     requires there { has tree.now.forest h.0 ≡ true }
-    requires capacity { size tree.now.forest ≤ vec_capacity items.old }
+    requires enough { size tree.now.forest ≤ length items.old }
     requires near { FrameIsNearby frame }
     ensures fit { AllFit (known (scene_box (scene_of store.now)) (told entries.new)
         (tree_at tree.now.forest h.0)) }
@@ -48,7 +48,6 @@ pub(crate) fn solve_tree(
     ensures others { KeepsRest (told entries.old) (told entries.new) (tree_at tree.now.forest h.0) }
     ensures boxes { KeepsRenewed (scene_of store.now) (told entries.old).boxes (told entries.new).boxes }
     ensures listed { listing_of entries.new ≡ listing_of entries.old }
-    ensures capacity { vec_capacity items.new ≡ vec_capacity items.old }
 {
     find_natural_widths(tree, entries, h);
     let own = entry_of(entries, h);

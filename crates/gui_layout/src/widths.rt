@@ -1,11 +1,11 @@
 //! Widths, downward.
-ghost use Rattle.std.specs.Prelude.{◌≡◌, ◌≤◌, ◌<◌, ◌+◌, ◌∷◌, ◌++◌, [], ℕ, List, true, length, map, drop};
-ghost use Rattle.std.specs.Prelude.{vec_len, vec_capacity, slice_index};
+ghost use Rattle.std.specs.Prelude.{◌≡◌, ◌≤◌, ◌<◌, ◌+◌, ◌∷◌, [], ℕ, List, true, length, map, take, drop};
+ghost use Rattle.std.specs.Prelude.{slice_index};
 ghost use Rattle.gui_base.specs.Forest.{StandsOnce, has, roots, size, tree_at, children_of};
 ghost use Rattle.layout_defs.specs.Flex.{shared};
 ghost use Rattle.layout_defs.specs.Boxes.{course_of, wraps, is_reversed};
-ghost use Rattle.layout_defs.specs.Solving.{Wide, wide_box, taking_part, in_order, dealt, width_in};
-ghost use Rattle.layout_defs.specs.Solving.{width_item, main_sizes, kid_widths, kid_widths_by};
+ghost use Rattle.layout_defs.specs.Solving.{Wide, wide_box, in_order, dealt, width_in};
+ghost use Rattle.layout_defs.specs.Solving.{main_sizes, kid_widths, kid_widths_by};
 ghost use Rattle.layout_defs.specs.Tables.{KeepsOthers};
 ghost use Rattle.gui_flex.specs.Items.{items_of};
 ghost use Rattle.gui_layout.specs.Kids.{wide_kid, wide_kids, BelowHaveWidths};
@@ -17,7 +17,9 @@ ghost use Rattle.gui_layout.specs.Tables.{told, listing_of, AreListed};
 use crate::along::{inner, size_in};
 use crate::boxes::{course_of, is_reversed, wraps};
 use crate::entry::Entry;
+use crate::items::{fill_items, turn};
 use crate::layout_box::LayoutBox;
+use crate::sizing::Sizing;
 use crate::tables::{entry_of, set_width};
 use gui_base::Handle;
 use gui_base::words::Flow;
@@ -26,57 +28,18 @@ use gui_pool::Table;
 use gui_tree::Tree;
 use layout_defs::Course;
 
-/// Puts a child that takes part behind the others.
-fn push_kid(items: &mut Vec<FlexItem>, kid: &LayoutBox, room: u16, natural: u16)
-    requires room { vec_len items.old < vec_capacity items.old }
-    ensures items { (h : ℕ) → items_of items.new.items
-        ≡ items_of items.old.items ++ map (width_item room) (taking_part wide_box
-        (wide_kid h kid.now natural ∷ [])) }
-    ensures len { vec_len items.new ≤ vec_len items.old + 1 }
-    ensures capacity { vec_capacity items.new ≡ vec_capacity items.old }
-{
-    if kid.hidden {
-        return;
-    }
-    items.push_reserved(FlexItem {
-        main: i32::from(size_in(&kid.across, room, natural)),
-        cross: 0,
-        grow: kid.grow,
-        main_at: 0,
-        cross_at: 0,
-    });
-}
-
-/// Turns the items round where their flow is reversed.
-pub(crate) fn turn(items: &mut Vec<FlexItem>, back: bool)
-    ensures items { items_of items.new.items ≡ in_order back (items_of items.old.items) }
-    ensures len { vec_len items.new ≡ vec_len items.old }
-    ensures capacity { vec_capacity items.new ≡ vec_capacity items.old }
-{
-    if back {
-        items.as_mut_slice().reverse();
-    }
-}
-
 /// Shares what is free among the items, in the order of their flow.
-pub(crate) fn share_in_order(items: &mut Vec<FlexItem>, flow: Flow, room: u16, gap: u16)
-    requires few { vec_len items.old ≤ 4000 }
+pub(crate) fn share_in_order(items: &mut [FlexItem], flow: Flow, room: u16, gap: u16)
+    requires few { length items.old ≤ 4000 }
     requires room { room ≤ 8191 }
     requires gap { gap ≤ 1000 }
-    ensures items { items_of items.new.items ≡
+    ensures items { items_of items.new ≡
         in_order (is_reversed flow) (shared (wraps flow) room gap
-        (in_order (is_reversed flow) (items_of items.old.items))) }
-    ensures len { vec_len items.new ≡ vec_len items.old }
-    ensures capacity { vec_capacity items.new ≡ vec_capacity items.old }
+        (in_order (is_reversed flow) (items_of items.old))) }
 {
     let back = is_reversed(flow);
     turn(items, back);
-    share(
-        items.as_mut_slice(),
-        wraps(flow),
-        i32::from(room),
-        i32::from(gap),
-    );
+    share(items, wraps(flow), i32::from(room), i32::from(gap));
     turn(items, back);
 }
 
@@ -97,27 +60,6 @@ fn dealt_width(kid: &Entry, room: u16, items: &[FlexItem], i: usize) -> (u16, us
         );
     }
     (items[i].main as u16, i + 1)
-}
-
-/// Makes the children that take part items of a row, first to last.
-fn fill_row(tree: &Tree, entries: &Table<Entry>, items: &mut Vec<FlexItem>, h: Handle, room: u16)
-    requires once { StandsOnce tree.now.forest }
-    requires few { size tree.now.forest ≤ 4000 }
-    requires found { BelowHaveWidths (told entries.now) tree.now.forest h.0 }
-    requires capacity { size tree.now.forest ≤ vec_capacity items.old }
-    requires listed { AreListed (listing_of entries.now) (tree_at tree.now.forest h.0) }
-    ensures items { items_of items.new.items
-        ≡ map (width_item room) (taking_part wide_box (wide_kids (told entries.now) tree.now.forest h.0)) }
-    ensures few { vec_len items.new ≤ 4000 }
-    ensures capacity { vec_capacity items.new ≡ vec_capacity items.old }
-{
-    items.clear();
-    let mut next = tree.first_child(h);
-    while let Some(child) = next {
-        let kid = entry_of(entries, child);
-        push_kid(items, &kid.wanted, room, kid.natural_width.pixels);
-        next = tree.next(child);
-    }
 }
 
 /// Sets the widths of the children of an object: the shares to those that take part, and its own to each
@@ -144,44 +86,46 @@ fn deal_widths(tree: &Tree, entries: &mut Table<Entry>, items: &[FlexItem], h: H
     }
 }
 
-/// Makes the items' sizes the shares of the children of a row, and lists none for other children.
+/// Makes the items' sizes the shares of the children of a row, and answers how many they are: none for other
+/// children.
 fn row_shares(
     tree: &Tree,
     entries: &Table<Entry>,
-    items: &mut Vec<FlexItem>,
+    items: &mut [FlexItem],
     h: Handle,
     own: &LayoutBox,
     room: u16,
-)
+) -> usize
     requires once { StandsOnce tree.now.forest }
     requires few { size tree.now.forest ≤ 4000 }
     requires found { BelowHaveWidths (told entries.now) tree.now.forest h.0 }
-    requires capacity { size tree.now.forest ≤ vec_capacity items.old }
+    requires enough { size tree.now.forest ≤ length items.old }
     requires room { room ≤ 8191 }
     requires listed { AreListed (listing_of entries.now) (tree_at tree.now.forest h.0) }
     ensures dealt { let kids = wide_kids (told entries.now) tree.now.forest h.0
-        in dealt wide_box (width_in room) kids (main_sizes (items_of items.new.items))
+        in dealt wide_box (width_in room) kids (main_sizes (items_of (take result items.new)))
         ≡ kid_widths_by (course_of own.now.flow) (box_of h.0 own.now) room kids }
-    ensures capacity { vec_capacity items.new ≡ vec_capacity items.old }
+    ensures within { result ≤ length items.new }
 {
     match course_of(own.flow) {
         Course::Across => {
-            fill_row(tree, entries, items, h, room);
-            share_in_order(items, own.flow, room, own.across.gap);
+            let count = fill_items(tree, entries, items, h, Sizing::Widths(room));
+            share_in_order(&mut items[..count], own.flow, room, own.across.gap);
+            count
         }
-        _ => items.clear(),
+        _ => 0,
     }
 }
 
 /// Sets the widths of the children of an object whose own width is set. It is not inlined, so that an object
 /// without children pays nothing for it.
 #[inline(never)]
-fn set_kid_widths(tree: &Tree, entries: &mut Table<Entry>, items: &mut Vec<FlexItem>, h: Handle)
+fn set_kid_widths(tree: &Tree, entries: &mut Table<Entry>, items: &mut [FlexItem], h: Handle)
     requires once { StandsOnce tree.now.forest }
     requires listed { AreListed (listing_of entries.old) (tree_at tree.now.forest h.0) }
     requires few { size tree.now.forest ≤ 4000 }
     requires found { BelowHaveWidths (told entries.old) tree.now.forest h.0 }
-    requires capacity { size tree.now.forest ≤ vec_capacity items.old }
+    requires enough { size tree.now.forest ≤ length items.old }
     requires there { has tree.now.forest h.0 ≡ true }
     ensures kids { map (slice_index (told entries.new).widths) (roots (children_of tree.now.forest h.0))
         ≡ kid_widths (box_at (told entries.old).boxes h.0) (slice_index (told entries.old).widths h.0)
@@ -189,20 +133,19 @@ fn set_kid_widths(tree: &Tree, entries: &mut Table<Entry>, items: &mut Vec<FlexI
     ensures others { KeepsOthers 0 (told entries.old).widths (told entries.new).widths
         (children_of tree.now.forest h.0) }
     ensures rest { ButWidths (told entries.old) (told entries.new) }
-    ensures capacity { vec_capacity items.new ≡ vec_capacity items.old }
     ensures listed { listing_of entries.new ≡ listing_of entries.old }
 {
     let own = entry_of(entries, h);
     let room = inner(&own.wanted.across, own.width.pixels);
-    row_shares(tree, entries, items, h, &own.wanted, room);
-    deal_widths(tree, entries, items.as_slice(), h, room);
+    let count = row_shares(tree, entries, items, h, &own.wanted, room);
+    deal_widths(tree, entries, &items[..count], h, room);
 }
 
 /// Finds the widths of all that lies below an object whose own width is set, parents first.
 pub(crate) fn find_widths(
     tree: &Tree,
     entries: &mut Table<Entry>,
-    items: &mut Vec<FlexItem>,
+    items: &mut [FlexItem],
     h: Handle,
 )
     requires once { StandsOnce tree.now.forest }
@@ -211,14 +154,13 @@ pub(crate) fn find_widths(
     requires there { has tree.now.forest h.0 ≡ true }
     requires naturals_found { HoldsNaturalWidths (box_at (told entries.old).boxes)
         (told entries.old).natural_widths (tree_at tree.now.forest h.0) }
-    requires capacity { size tree.now.forest ≤ vec_capacity items.old }
+    requires enough { size tree.now.forest ≤ length items.old }
     ensures found { HoldsWidths (box_at (told entries.old).boxes)
         (slice_index (told entries.old).widths h.0 ∷ [])
         (told entries.new).widths (tree_at tree.now.forest h.0) }
     ensures others { KeepsOthers 0 (told entries.old).widths (told entries.new).widths
         (tree_at tree.now.forest h.0) }
     ensures rest { ButWidths (told entries.old) (told entries.new) }
-    ensures capacity { vec_capacity items.new ≡ vec_capacity items.old }
     ensures listed { listing_of entries.new ≡ listing_of entries.old }
 {
     if tree.first_child(h).is_none() {

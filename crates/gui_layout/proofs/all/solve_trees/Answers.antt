@@ -22,7 +22,6 @@ loop-next-init c =
       next_is = next_first f f c.first_root-next.result whole distinct is;
       boxes = c.requires.boxes;
       listed = refl;
-      capacity = refl;
       later = λ (now : Layout) all.
           subst (Solves (scene_box (scene_of c.args.store.now)) c.args.width.pixels c.args.height.pixels (told c.args.entries.now) now)
           (ap (λ (o : Option Handle). trees_from o f) is ∙ trees_from-first_of f f whole distinct) all;
@@ -81,7 +80,6 @@ loop-next-preserved c =
       next_is = g.next_is;
       boxes = holds-still (scene_of c.args.store.now) c.loop-next.entries c.solve_tree.new.entries inv.boxes c.solve_tree.ensures.boxes c.solve_tree.ensures.listed;
       listed = c.solve_tree.ensures.listed ∙ inv.listed;
-      capacity = c.solve_tree.ensures.capacity ∙ inv.capacity;
       later = λ (last : Layout) all.
           inv.later last
           (subst (Solves box c.args.width.pixels c.args.height.pixels was last) (sym (now_is d))

@@ -1,4 +1,4 @@
-use Rattle.std.proofs.Common.{◌≡◌, vec_capacity}
+use Rattle.std.proofs.Common.{◌≡◌}
 use Rattle.gui_base.specs.Forest.{size}
 use Rattle.gui_layout.specs.Settled.{Layout}
 use Rattle.gui_layout.specs.Tables.{listing_of, told}
@@ -15,7 +15,6 @@ invariant-loop-next l =
       next_is : IsNext f l.next;
       boxes : HoldsBoxes (told l.entries).boxes (scene_of l.store);
       listed : listing_of l.entries ≡ listing_of l.fn.entries;
-      capacity : vec_capacity l.items ≡ vec_capacity l.fn.items;
       later : (now : Layout) →
           Solves (scene_box (scene_of l.store)) l.width.pixels l.height.pixels (told l.entries) now (trees_from l.next f) →
           Solves (scene_box (scene_of l.store)) l.width.pixels l.height.pixels (told l.fn.entries) now f;

@@ -13,7 +13,7 @@ use Rattle.gui_layout.proofs.Climbing.{in_own_tree}
 use Rattle.gui_layout.proofs.Parts.{distinct_once, distinct-part, has-part, here, IsHead, next_head, IsNext, GoesOn, trees_from, walk_begins, walk_goes_on, there, found, part_children, size-part}
 use Rattle.gui_layout.proofs.Within.{begins_within, child_within, goes_within, tree_within}
 use Rattle.gui_layout.specs.declared.measuring.Run.{Run}
-use Rattle.gui_layout.specs.Rows.{row_of, run_down, down_kid, with_kid, with_kids, sum_of}
+use Rattle.gui_layout.specs.Rows.{Sum, row_of, run_down, down_kid, with_kid, with_kids, sum_of}
 use Rattle.gui_layout.proofs.Columns.{found_is}
 use Rattle.gui_layout.proofs.Kids.{named}
 use Rattle.gui_layout.proofs.Heightens.{Heightens, heightens_none, heightens_first, heightens_top}
@@ -30,16 +30,15 @@ loop-next-init t c =
     let known = found at.part distinct in
     let few = size-part (part_children f c.args.h.0) in
     let most = c.requires.few in
+    let none : c.no_kids-row.result.count ≡ 0 = ap (λ (s : Sum). s.count) c.no_kids-row.ensures in
     record {
       next_is = begins.next_is;
       inside = begins_within f c.args.h.0 c.first_child-next.result begins.all;
       small = rw (begins.all, known.children, known.tree) (omega arith);
       few = rw begins.all (omega arith);
-      sized = omega arith;
-      left = rw begins.all refl;
+      left = rw begins.all (ap (λ (s : Sum). with_kids down_kid c.run_down-run.result s (roots (heights_of box (told c.args.entries.now).widths (children_of f c.args.h.0)))) c.no_kids-row.ensures);
       listed = refl;
       rest = refl;
-      capacity = refl;
       later = λ u rest. subst (Heightens box (told c.args.entries.now).widths (told c.args.entries.now).natural_heights u) begins.all rest;
     }
 
@@ -59,8 +58,7 @@ find_natural_heights-natural-requires t c =
     let smaller : size (tree_at f c.in-Some.child.0) < size (tree_at f c.args.h.0) = rw known.tree (omega arith) in
     let lies = tree_within f (tree_at f c.args.h.0) c.in-Some.child c.loop-next.next c.in-Some.is c.loop-next.invariant.inside (distinct_once f c.requires.once) e in
     let listed : AreListed (listing_of c.loop-next.entries) (tree_at f c.in-Some.child.0) = λ k i. subst (λ (ks : Listing). IsListed ks k) (sym c.loop-next.invariant.listed) (c.requires.listed k (lies k i)) in
-    let capacity = c.loop-next.invariant.capacity in
-    let room = c.requires.capacity in
+    let room = c.requires.enough in
     (search rules, (c.requires.once, (listed, (c.requires.few, (has-part e.part c.in-Some.child.0 (here c.in-Some.child.0 e.children e.rest), omega arith)))))
 
 pub entry_of-requires : goal.entry_of-requires
@@ -122,14 +120,12 @@ loop-next-preserved t c =
       inside = goes_within f (tree_at f c.args.h.0) c.in-Some.child c.loop-next.next c.in-Some.is inv.inside c.next-next.result g;
       small = rw g.later (omega arith);
       few = rw g.later (omega arith);
-      sized = c.with_kid-row.ensures.size;
       left =
           rw g.later
           (ap (λ s. with_kids down_kid run s (roots (heights_of box w g.rest))) (c.with_kid-row.ensures.value h ∙ ap (λ (k : Tall). with_kid run row (down_kid k)) kid)
           ∙ left);
       listed = c.find_natural_heights-natural.ensures.listed ∙ inv.listed;
       rest = c.find_natural_heights-natural.ensures.rest ∙ ap (λ (l : Layout). record l { natural_heights = b }) inv.rest;
-      capacity = c.find_natural_heights-natural.ensures.capacity ∙ inv.capacity;
       later = λ (u : List ℕ) rest.
           inv.later u (subst (Heightens box (told c.args.entries.now).widths a u) (sym (now_is t d)) (heightens_first box (told c.args.entries.now).widths a b u h g.children g.rest (distinct-part g.part distinct) first (subst (Heightens box (told c.args.entries.now).widths b u) g.later rest)));
     }

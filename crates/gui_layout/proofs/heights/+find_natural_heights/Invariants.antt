@@ -1,4 +1,4 @@
-use Rattle.std.proofs.Common.{ℕ, List, ◌≡◌, ◌<◌, ◌≤◌, ◌+◌, ◌*◌, vec_capacity}
+use Rattle.std.proofs.Common.{ℕ, List, ◌≡◌, ◌<◌, ◌≤◌, ◌+◌}
 use Rattle.gui_base.specs.Forest.{roots, size, tree_at, children_of}
 use Rattle.gui_layout.specs.Rows.{row_of, down_kid, with_kids, sum_of}
 use Rattle.gui_layout.specs.Talls.{heights_of}
@@ -23,11 +23,9 @@ invariant-loop-next l =
       inside : LieIn (trees_from l.next f) (tree_at f l.h.0);
       small : size trees < size (tree_at f l.h.0);
       few : l.row.count + size trees ≤ 4000;
-      sized : l.row.size ≤ 70000 * l.row.count;
       left : with_kids down_kid l.run (row_of l.row) (roots (heights_of box (told l.fn.entries).widths trees)) ≡ sum_of down_kid l.run (roots (heights_of box (told l.fn.entries).widths (children_of f l.h.0)));
       listed : listing_of l.entries ≡ listing_of l.fn.entries;
       rest : ButNaturalHeights (told l.fn.entries) (told l.entries);
-      capacity : vec_capacity l.items ≡ vec_capacity l.fn.items;
       later : (u : List ℕ) → Heightens box (told l.fn.entries).widths (told l.entries).natural_heights u (trees_from l.next f) → Heightens box (told l.fn.entries).widths (told l.fn.entries).natural_heights u (children_of f l.h.0);
     }
 

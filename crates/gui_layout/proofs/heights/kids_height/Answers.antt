@@ -1,4 +1,4 @@
-use Rattle.std.proofs.Common.{◌∙◌, ap, refl, sym}
+use Rattle.std.proofs.Common.{◌∙◌, ap, sym}
 use Rattle.gui_base.specs.Forest.{roots, children_of}
 use Rattle.layout_defs.specs.declared.Course.{Course}
 use Rattle.layout_defs.specs.Boxes.{course_of, inner}
@@ -32,5 +32,4 @@ returns-in_default c =
           ∙ (column_is c.course_of-course.result box room kids (row_of c.args.row) c.in_default.not-Across row
           ∙ ap (λ (course : Course). kids_height course box room (taking_part tall_box kids)) c.course_of-course.ensures));
       small = c.with_gaps.ensures.small;
-      capacity = refl;
     }

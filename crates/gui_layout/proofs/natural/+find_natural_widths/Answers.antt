@@ -14,7 +14,7 @@ use Rattle.gui_layout.proofs.Climbing.{in_own_tree}
 use Rattle.gui_layout.proofs.Parts.{distinct_once, distinct-part, has-part, here, IsHead, next_head, IsNext, GoesOn, trees_from, walk_begins, walk_goes_on, there, found, part_children, size-part}
 use Rattle.gui_layout.proofs.Within.{begins_within, child_within, goes_within, tree_within}
 use Rattle.gui_layout.specs.declared.measuring.Run.{Run}
-use Rattle.gui_layout.specs.Rows.{row_of, run_across, across_kid, with_kid, with_kids, sum_of}
+use Rattle.gui_layout.specs.Rows.{Sum, row_of, run_across, across_kid, with_kid, with_kids, sum_of}
 use Rattle.gui_layout.proofs.Kids.{named, kid_is}
 use Rattle.gui_layout.proofs.Finds.{Finds, finds_none, finds_first, finds_top}
 use Rattle.gui_layout.proofs.natural.+find_natural_widths.Goals as goal
@@ -30,6 +30,7 @@ loop-next-init t c =
     let known = found at.part distinct in
     let few = size-part (part_children f c.args.h.0) in
     let most = c.requires.few in
+    let none : c.no_kids-row.result.count ≡ 0 = ap (λ (s : Sum). s.count) c.no_kids-row.ensures in
     record {
       next_is = begins.next_is;
       inside = begins_within f c.args.h.0 c.first_child-next.result begins.all;
@@ -37,8 +38,7 @@ loop-next-init t c =
       rest = refl;
       small = rw (begins.all, known.children, known.tree) (omega arith);
       few = rw begins.all (omega arith);
-      sized = omega arith;
-      left = rw begins.all refl;
+      left = rw begins.all (ap (λ (s : Sum). with_kids across_kid c.run_across-run.result s (roots (widths_of box (children_of f c.args.h.0)))) c.no_kids-row.ensures);
       later = λ u rest. subst (Finds box (told c.args.entries.now).natural_widths u) begins.all rest;
     }
 
@@ -122,7 +122,6 @@ loop-next-preserved t c =
       rest = c.find_natural_widths-natural.ensures.rest ∙ ap (λ (l : Layout). record l { natural_widths = b }) inv.rest;
       small = rw g.later (omega arith);
       few = rw g.later (omega arith);
-      sized = c.with_kid-row.ensures.size;
       left =
           rw g.later
           (ap (λ s. with_kids across_kid run s (roots (widths_of box g.rest))) (c.with_kid-row.ensures.value h ∙ ap (λ (k : Wide). with_kid run row (across_kid k)) kid)

@@ -1,4 +1,4 @@
-use Rattle.std.proofs.Common.{ℕ, List, ◌<◌, ◌≤◌, ◌+◌, ◌*◌, ◌≡◌}
+use Rattle.std.proofs.Common.{ℕ, List, ◌<◌, ◌≤◌, ◌+◌, ◌≡◌}
 use Rattle.gui_base.specs.Forest.{roots, size, tree_at, children_of}
 use Rattle.gui_layout.specs.Found.{widths_of}
 use Rattle.gui_layout.specs.Layouts.{ButNaturalWidths}
@@ -25,7 +25,6 @@ invariant-loop-next l =
       rest : ButNaturalWidths (told l.fn.entries) (told l.entries);
       small : size trees < size (tree_at f l.h.0);
       few : l.row.count + size trees ≤ 4000;
-      sized : l.row.size ≤ 70000 * l.row.count;
       left : with_kids across_kid l.run (row_of l.row) (roots (widths_of box trees)) ≡ sum_of across_kid l.run (roots (widths_of box (children_of f l.h.0)));
       later : (u : List ℕ) → Finds box (told l.entries).natural_widths u (trees_from l.next f) → Finds box (told l.fn.entries).natural_widths u (children_of f l.h.0);
     }

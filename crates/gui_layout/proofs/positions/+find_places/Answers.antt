@@ -39,7 +39,6 @@ loop-next-init t c =
       listed = c.set_kid_positions.ensures.listed;
       rest = c.set_kid_positions.ensures.rest;
       near = rw begins.all c.set_kid_positions.ensures.near;
-      capacity = c.set_kid_positions.ensures.capacity;
       later = λ (u : List Slot) rest. subst (Stands box (told c.args.entries.now).widths (told c.args.entries.now).natural_heights (told c.set_kid_positions.new.entries).slots u) begins.all rest;
     }
 
@@ -65,8 +64,7 @@ find_places-requires t c =
     let below : IsBelow parent child = All-head (IsBelow parent) child (at_roots (told c.loop-next.entries).slots e.rest) near in
     let lies = tree_within f (tree_at f c.args.h.0) c.in-Some.child c.loop-next.next c.in-Some.is c.loop-next.invariant.inside (distinct_once f c.requires.once) e in
     let listed : AreListed (listing_of c.loop-next.entries) (tree_at f c.in-Some.child.0) = λ k i. subst (λ (ks : Listing). IsListed ks k) (sym inv.listed) (c.requires.listed k (lies k i)) in
-    let capacity = inv.capacity in
-    let room = c.requires.capacity in
+    let room = c.requires.enough in
     (search rules, (c.requires.once, (listed, (c.requires.few, (has-part e.part h (here h e.children e.rest), (omega arith, room_below parent child (height (tree_at f h)) (height (tree_at f c.args.h.0)) c.requires.room below low))))))
 
 goes : (t : ℕ) (c : After-next-next t) → GoesOn c.args.tree.now.forest c.in-Some.child c.next-next.result
@@ -114,7 +112,6 @@ loop-next-preserved t c =
       listed = c.find_places.ensures.listed ∙ inv.listed;
       rest = c.find_places.ensures.rest ∙ ap (λ (l : Layout). record l { slots = b }) inv.rest;
       near = rw (g.later, later_kept box w n a b h g.children g.rest all first.others) (All-tail (IsBelow parent) (get_or a h nowhere) (at_roots a g.rest) near);
-      capacity = c.find_places.ensures.capacity ∙ inv.capacity;
       later = λ (u : List Slot) rest.
           inv.later u (subst (Stands box w n a u) (sym (now_is t d)) (stands_first box w n a b u h g.children g.rest all first (subst (Stands box w n b u) g.later rest)));
     }

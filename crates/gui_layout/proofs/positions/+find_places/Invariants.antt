@@ -1,4 +1,4 @@
-use Rattle.std.proofs.Common.{List, ◌≡◌, ◌<◌, ◌≤◌, ◌+◌, vec_capacity}
+use Rattle.std.proofs.Common.{List, ◌≡◌, ◌<◌, ◌≤◌, ◌+◌}
 use Rattle.std.specs.List.{All}
 use Rattle.gui_base.specs.Forest.{size, height, tree_at, children_of}
 use Rattle.layout_defs.specs.Solving.{Slot}
@@ -26,7 +26,6 @@ invariant-loop-next l =
       listed : listing_of l.entries ≡ listing_of l.fn.entries;
       rest : ButSlots (told l.fn.entries) (told l.entries);
       near : All (IsBelow (slot_at (told l.fn.entries).slots l.fn.h.0)) (at_roots (told l.entries).slots (trees_from l.next f));
-      capacity : vec_capacity l.items ≡ vec_capacity l.fn.items;
       later : (u : List Slot) → Stands box (told l.fn.entries).widths (told l.fn.entries).natural_heights (told l.entries).slots u (trees_from l.next f) → Stands box (told l.fn.entries).widths (told l.fn.entries).natural_heights (told l.initial.entries).slots u (children_of f l.fn.h.0);
     }
 

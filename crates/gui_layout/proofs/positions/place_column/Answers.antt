@@ -7,16 +7,18 @@ use Rattle.gui_layout.specs.Slots.{room_in}
 use Rattle.gui_layout.proofs.Lists.{paired-map}
 use Rattle.gui_layout.proofs.positions.place_column.Goals as goal
 
-pub returns-clause-items : goal.returns-clause-items
-returns-clause-items c h =
-    let f = column_slot (room_in c.args.inside) in
-    let inside = c.args.inside in
-    let own = c.args.own.now in
-    let all : items_of c.share_all.new.items.items ≡ shared (wraps own.flow) inside.height own.down.gap (items_of c.args.items.now.items) =
-    c.share_all.ensures.items ∙ ap (λ (wrap : Bool). shared wrap inside.height own.down.gap (items_of c.args.items.now.items)) c.wraps.ensures in
-    let at : spots_of c.place_all.new.items.items ≡ spots (placings_of own.places) (wraps own.flow) inside.height inside.width own.down.gap own.across.gap (items_of c.share_all.new.items.items) =
-    c.place_all.ensures.spots ∙ ap (λ (wrap : Bool). spots (placings_of own.places) wrap inside.height inside.width own.down.gap own.across.gap (items_of c.share_all.new.items.items)) c.wraps-2.ensures in
-    sym (paired-map f item_of spot_of c.place_all.new.items.items)
-    ∙ (ap (λ (items : List Item). paired f items (spots_of c.place_all.new.items.items)) c.place_all.ensures.items
-    ∙ (ap (λ (ss : List Spot). paired f (items_of c.share_all.new.items.items) ss) at
-    ∙ ap (λ (items : List Item). paired f items (spots (placings_of own.places) (wraps own.flow) inside.height inside.width own.down.gap own.across.gap items)) all))
+pub returns : goal.returns
+returns c = record {
+  items = λ h.
+      let f = column_slot (room_in c.args.inside) in
+      let inside = c.args.inside in
+      let own = c.args.own.now in
+      let all : items_of c.share_all.new.items ≡ shared (wraps own.flow) inside.height own.down.gap (items_of c.args.items.now) =
+      c.share_all.ensures.items ∙ ap (λ (wrap : Bool). shared wrap inside.height own.down.gap (items_of c.args.items.now)) c.wraps.ensures in
+      let at : spots_of c.place_all.new.items ≡ spots (placings_of own.places) (wraps own.flow) inside.height inside.width own.down.gap own.across.gap (items_of c.share_all.new.items) =
+      c.place_all.ensures.spots ∙ ap (λ (wrap : Bool). spots (placings_of own.places) wrap inside.height inside.width own.down.gap own.across.gap (items_of c.share_all.new.items)) c.wraps-2.ensures in
+      sym (paired-map f item_of spot_of c.place_all.new.items)
+      ∙ (ap (λ (items : List Item). paired f items (spots_of c.place_all.new.items)) c.place_all.ensures.items
+      ∙ (ap (λ (ss : List Spot). paired f (items_of c.share_all.new.items) ss) at
+      ∙ ap (λ (items : List Item). paired f items (spots (placings_of own.places) (wraps own.flow) inside.height inside.width own.down.gap own.across.gap items)) all));
+}

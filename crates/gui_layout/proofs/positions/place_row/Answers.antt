@@ -6,9 +6,11 @@ use Rattle.gui_layout.specs.Slots.{room_in}
 use Rattle.gui_layout.proofs.Lists.{paired-map}
 use Rattle.gui_layout.proofs.positions.place_row.Goals as goal
 
-pub returns-clause-items : goal.returns-clause-items
-returns-clause-items c h =
-    let f = row_slot (room_in c.args.inside) in
-    sym (paired-map f item_of spot_of c.place_all.new.items.items)
-    ∙ (ap (λ (items : List Item). paired f items (spots_of c.place_all.new.items.items)) c.place_all.ensures.items
-    ∙ ap (λ (all : List Spot). paired f (items_of c.args.items.now.items) all) (c.place_all.ensures.spots ∙ ap (λ (wrap : Bool). spots (placings_of c.args.own.now.places) wrap c.args.inside.width c.args.inside.height c.args.own.now.across.gap c.args.own.now.down.gap (items_of c.args.items.now.items)) c.wraps.ensures))
+pub returns : goal.returns
+returns c = record {
+  items = λ h.
+      let f = row_slot (room_in c.args.inside) in
+      sym (paired-map f item_of spot_of c.place_all.new.items)
+      ∙ (ap (λ (items : List Item). paired f items (spots_of c.place_all.new.items)) c.place_all.ensures.items
+      ∙ ap (λ (all : List Spot). paired f (items_of c.args.items.now) all) (c.place_all.ensures.spots ∙ ap (λ (wrap : Bool). spots (placings_of c.args.own.now.places) wrap c.args.inside.width c.args.inside.height c.args.own.now.across.gap c.args.own.now.down.gap (items_of c.args.items.now)) c.wraps.ensures));
+}

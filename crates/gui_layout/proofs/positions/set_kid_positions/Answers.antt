@@ -1,9 +1,8 @@
-use Rattle.std.proofs.Common.{◌≡◌, ◌∙◌, sym, ap, subst, refl, List, get_or, map}
+use Rattle.std.proofs.Common.{◌≡◌, ◌∙◌, sym, ap, subst, refl, get_or, map, take}
 use Rattle.std.proofs.lemmas.List.Elements.{All-weaker}
 use Rattle.gui_base.specs.Forest.{roots, children_of}
 use Rattle.layout_defs.specs.Solving.{Tall, Slot, tall_box, taking_part, flow_slots, kid_slots}
 use Rattle.layout_defs.specs.declared.Course.{Course}
-use Rattle.gui_flex.specs.declared.item.FlexItem.{FlexItem}
 use Rattle.gui_layout.specs.Tables.{told}
 use Rattle.gui_layout.specs.Views.{box_at}
 use Rattle.gui_layout.specs.Slots.{talls, slot_of, slot_at, at_roots, room_in, item_slot, tall_at, IsClose, IsAtCorner, IsBelow, HasRoom}
@@ -26,11 +25,11 @@ returns-clause-kids c =
     let tall = tall_kid h own c.entry_of-own.result.now.width.pixels (get_or n h 0) in
     let slot = slot_of c.entry_of-own.result.now.position in
     let ss = at_roots (told c.deal_positions.new.entries).slots (children_of f h) in
-    let flow : map (item_slot c.course_of-course.result room) c.as_slice.result.now ≡ flow_slots tall.box room (taking_part tall_box kids) =
-    ap (λ (items : List FlexItem). map (item_slot c.course_of-course.result room) items) c.as_slice.ensures.value
-    ∙ (ap (λ (course : Course). map (item_slot course room) c.place_flow.new.items.items) c.course_of-course.ensures ∙ c.place_flow.ensures.slots) in
+    let items = take c.place_flow-count.result c.place_flow-count.new.items in
+    let flow : map (item_slot c.course_of-course.result room) items ≡ flow_slots tall.box room (taking_part tall_box kids) =
+    ap (λ (course : Course). map (item_slot course room) items) c.course_of-course.ensures ∙ c.place_flow-count.ensures.slots in
     let all : ss ≡ kid_slots tall slot kids =
-    kid_slots_are tall slot room kids (map (item_slot c.course_of-course.result room) c.as_slice.result.now) ss (c.inside_of-inside.ensures.value h (get_or n h 0)) c.deal_positions.ensures.deals.dealt flow in
+    kid_slots_are tall slot room kids (map (item_slot c.course_of-course.result room) items) ss (c.inside_of-inside.ensures.value h (get_or n h 0)) c.deal_positions.ensures.deals.dealt flow in
     subst (λ (s : Slot). ss ≡ kid_slots (tall_at (box_at (told c.args.entries.now).boxes) w n h) s kids) entry.slot
     (subst (λ (t : Tall). ss ≡ kid_slots t slot kids) (tall_is (told c.args.entries.now).boxes w n h _ _ own entry.wanted entry.width refl) all)
 

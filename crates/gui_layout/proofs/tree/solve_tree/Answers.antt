@@ -270,48 +270,52 @@ returns-clause-boxes c =
     ∙ c.set_own_heights.ensures.boxes k (ap (λ (j : Layout). but_height (box_at j.boxes k)) (passes_widths d) ∙ was)
 
 pub returns-clause-fit : goal.returns-clause-fit
-returns-clause-fit c = subst (λ t. AllFit (known (box c) (l c) t)) (sym (is c).tree) (fit_of (box c) (l c) (tree c) (all c))
+returns-clause-fit c =
+    let e = (goal.at.returns-clause-fit c).After-find_places in
+    subst (λ t. AllFit (known (box e) (l e) t)) (sym (is e).tree) (fit_of (box e) (l e) (tree e) (all e))
 
 pub returns-clause-stands : goal.returns-clause-stands
 returns-clause-stands c =
+    let e = (goal.at.returns-clause-stands c).After-find_places in
     let h = c.args.h.0 in
     let kid = box_of h c.entry_of-own.result.now.wanted in
     let tall = box_of h c.entry_of-own-2.result.now.wanted in
     let frame = c.args.frame in
-    let n = get_or (l c).natural_widths h 0 in
+    let n = get_or (l e).natural_widths h 0 in
     record {
       width =
-          set_width_is c
+          set_width_is e
           ∙ (c.framed_width-width.ensures.value h
-          ∙ (ap (λ m. framed_width frame (record { box = kid; natural = m })) (natural_told c)
-          ∙ same_width frame kid (box c h) h n (own c)));
+          ∙ (ap (λ m. framed_width frame (record { box = kid; natural = m })) (natural_told e)
+          ∙ same_width frame kid (box e h) h n (own e)));
       slot =
-          (slots c).0
+          (slots e).0
           ∙ (placed (goal.at.returns-clause-stands c).After-set_position
           ∙ (c.framed_position-position.ensures.value h
-          ∙ (ap (λ m. framed_slot frame (record { box = tall; width = m; natural_height = c.entry_of-own-2.result.now.natural_height.pixels })) (width_told c)
-          ∙ (ap (λ m. framed_slot frame (record { box = tall; width = get_or (l c).widths h 0; natural_height = m })) (height_told c)
-          ∙ same_slot frame tall (box c h) h (get_or (l c).widths h 0) (get_or (l c).natural_heights h 0) (set_own c)))));
+          ∙ (ap (λ m. framed_slot frame (record { box = tall; width = m; natural_height = c.entry_of-own-2.result.now.natural_height.pixels })) (width_told e)
+          ∙ (ap (λ m. framed_slot frame (record { box = tall; width = get_or (l e).widths h 0; natural_height = m })) (height_told e)
+          ∙ same_slot frame tall (box e h) h (get_or (l e).widths h 0) (get_or (l e).natural_heights h 0) (set_own e)))));
     }
 
 pub returns-clause-others : goal.returns-clause-others
 returns-clause-others c =
+    let e = (goal.at.returns-clause-others c).After-find_places in
     let d = (goal.at.returns-clause-others c).After-set_width in
     let h = c.args.h.0 in
     let t = tree_at c.args.tree.now.forest h in
-    let inside : has t h ≡ true = rw (is c).tree (here h (at c).children Empty) in
+    let inside : has t h ≡ true = rw (is e).tree (here h (at e).children Empty) in
     let start = told c.args.entries.now in
     let set_w : (told c.set_width.new.entries).widths ≡ set start.widths h c.framed_width-width.result =
     ap (λ (k : Layout). k.widths) c.set_width.ensures.set ∙ ap (λ (k : Layout). set k.widths h c.framed_width-width.result) c.find_natural_widths.ensures.rest in
-    let heights_start : fixed_heights c ≡ start.natural_heights = ap (λ (k : Layout). k.natural_heights) (c.set_own_heights.ensures.rest ∙ ap (λ (k : Layout). record k { boxes = (told c.set_own_heights.new.entries).boxes }) (passes_widths c)) in
+    let heights_start : fixed_heights e ≡ start.natural_heights = ap (λ (k : Layout). k.natural_heights) (c.set_own_heights.ensures.rest ∙ ap (λ (k : Layout). record k { boxes = (told c.set_own_heights.new.entries).boxes }) (passes_widths e)) in
     let slots_start : (told c.find_natural_heights.new.entries).slots ≡ start.slots =
-    ap (λ (k : Layout). k.slots) (passes_heights c ∙ ap (λ (k : Layout). record k { natural_heights = ns c }) (c.set_own_heights.ensures.rest ∙ ap (λ (k : Layout). record k { boxes = (told c.set_own_heights.new.entries).boxes }) (passes_widths c))) in
+    ap (λ (k : Layout). k.slots) (passes_heights e ∙ ap (λ (k : Layout). record k { natural_heights = ns e }) (c.set_own_heights.ensures.rest ∙ ap (λ (k : Layout). record k { boxes = (told c.set_own_heights.new.entries).boxes }) (passes_widths e))) in
     record {
-      natural_widths = subst (λ (xs : List ℕ). KeepsOthers 0 start.natural_widths xs t) (sym (same_n c)) c.find_natural_widths.ensures.others;
-      widths = subst (λ (xs : List ℕ). KeepsOthers 0 start.widths xs t) (sym (same_w c)) (keeps_set 0 start.widths (told c.set_width.new.entries).widths (ws c) h _ t inside set_w c.find_widths.ensures.others);
-      natural_heights = subst (λ (xs : List ℕ). KeepsOthers 0 start.natural_heights xs t) (sym (same_h c)) (subst (λ (xs : List ℕ). KeepsOthers 0 xs (ns c) t) heights_start c.find_natural_heights.ensures.others);
+      natural_widths = subst (λ (xs : List ℕ). KeepsOthers 0 start.natural_widths xs t) (sym (same_n e)) c.find_natural_widths.ensures.others;
+      widths = subst (λ (xs : List ℕ). KeepsOthers 0 start.widths xs t) (sym (same_w e)) (keeps_set 0 start.widths (told c.set_width.new.entries).widths (ws e) h _ t inside set_w c.find_widths.ensures.others);
+      natural_heights = subst (λ (xs : List ℕ). KeepsOthers 0 start.natural_heights xs t) (sym (same_h e)) (subst (λ (xs : List ℕ). KeepsOthers 0 xs (ns e) t) heights_start c.find_natural_heights.ensures.others);
       slots =
-          keeps_set nowhere start.slots (told c.set_position.new.entries).slots (l c).slots h _ t inside
+          keeps_set nowhere start.slots (told c.set_position.new.entries).slots (l e).slots h _ t inside
           (ap (λ (k : Layout). k.slots) c.set_position.ensures.set ∙ ap (λ (ss : List Slot). set ss h (slot_of c.framed_position-position.result)) slots_start)
           c.find_places.ensures.others;
     }

@@ -41,7 +41,6 @@ loop-next-init t c =
           subst (HoldsNaturalWidths box (told c.args.entries.now).natural_widths) (sym (begins.all ∙ known.children)) holds.1;
       listed = c.set_kid_widths.ensures.listed;
       rest = c.set_kid_widths.ensures.rest;
-      capacity = c.set_kid_widths.ensures.capacity;
       later = λ (u : List ℕ) rest. subst (Widens box (told c.set_kid_widths.new.entries).widths u) begins.all rest;
     }
 
@@ -58,11 +57,10 @@ find_widths-requires t c =
     let smaller : size (tree_at f c.in-Some.child.0) < size (tree_at f c.args.h.0) = rw known.tree (omega arith) in
     let lies = tree_within f (tree_at f c.args.h.0) c.in-Some.child c.loop-next.next c.in-Some.is c.loop-next.invariant.inside (distinct_once f c.requires.once) e in
     let listed : AreListed (listing_of c.loop-next.entries) (tree_at f c.in-Some.child.0) = λ k i. subst (λ (ks : Listing). IsListed ks k) (sym c.loop-next.invariant.listed) (c.requires.listed k (lies k i)) in
-    let capacity = c.loop-next.invariant.capacity in
     let box = box_at (told c.args.entries.now).boxes in
     let holds : HoldsNaturalWidths box (told c.args.entries.now).natural_widths (Tree c.in-Some.child.0 e.children e.rest) = subst (HoldsNaturalWidths box (told c.args.entries.now).natural_widths) (ap (λ (o : Option Handle). trees_from o f) c.in-Some.is ∙ e.is) c.loop-next.invariant.holds in
     let own : HoldsNaturalWidths box (told c.args.entries.now).natural_widths (Tree c.in-Some.child.0 e.children Empty) = (holds.0, holds.1, tt) in
-    let room = c.requires.capacity in
+    let room = c.requires.enough in
     let start : HoldsNaturalWidths box (told c.args.entries.now).natural_widths (tree_at f c.in-Some.child.0) = subst (HoldsNaturalWidths box (told c.args.entries.now).natural_widths) (sym known.tree) own in
     let naturals = subst (λ (l : Layout). HoldsNaturalWidths (box_at l.boxes) l.natural_widths (tree_at f c.in-Some.child.0)) (sym c.loop-next.invariant.rest) start in
     (search rules, (c.requires.once, (listed, (c.requires.few, (has-part e.part c.in-Some.child.0 (here c.in-Some.child.0 e.children e.rest), (naturals, omega arith))))))
@@ -107,7 +105,6 @@ loop-next-preserved t c =
           subst (HoldsNaturalWidths box (told c.args.entries.now).natural_widths) (sym g.later) holds.2;
       listed = c.find_widths.ensures.listed ∙ inv.listed;
       rest = c.find_widths.ensures.rest ∙ ap (λ (l : Layout). record l { widths = b }) inv.rest;
-      capacity = c.find_widths.ensures.capacity ∙ inv.capacity;
       later = λ (u : List ℕ) rest.
           inv.later u (subst (Widens box a u) (sym (now_is t d)) (widens_first box a b u h g.children g.rest (distinct-part g.part distinct) first (subst (Widens box b u) g.later rest)));
     }

@@ -1,4 +1,4 @@
-use Rattle.std.proofs.Common.{ℕ, List, ◌≡◌, ◌<◌, vec_capacity}
+use Rattle.std.proofs.Common.{ℕ, List, ◌≡◌, ◌<◌}
 use Rattle.gui_base.specs.Forest.{size, tree_at, children_of}
 use Rattle.gui_layout.specs.Tables.{told, listing_of}
 use Rattle.gui_layout.specs.Layouts.{ButWidths}
@@ -23,7 +23,6 @@ invariant-loop-next l =
       holds : HoldsNaturalWidths box (told l.fn.entries).natural_widths (trees_from l.next f);
       listed : listing_of l.entries ≡ listing_of l.fn.entries;
       rest : ButWidths (told l.fn.entries) (told l.entries);
-      capacity : vec_capacity l.items ≡ vec_capacity l.fn.items;
       later : (u : List ℕ) → Widens box (told l.entries).widths u (trees_from l.next f) → Widens box (told l.initial.entries).widths u (children_of f l.fn.h.0);
     }
 

@@ -50,24 +50,24 @@ solve_tree-requires-clause-few c =
 pub solve_tree-requires-clause-low : goal.solve_tree-requires-clause-low
 solve_tree-requires-clause-low c = let low = flat (scene_of c.args.store.now) c.tree-tree.ensures.valid in rw c.tree-tree.ensures.forest (omega arith)
 
-pub solve_tree-requires-clause-capacity : goal.solve_tree-requires-clause-capacity
-solve_tree-requires-clause-capacity c =
+pub solve_tree-requires-clause-enough : goal.solve_tree-requires-clause-enough
+solve_tree-requires-clause-enough c =
     let scene = scene_of c.args.store.now in
     let fits : size (handles_of scene.trees) ≤ scene.limits.objects = few scene c.tree-tree.ensures.valid in
     let objects : c.args.self.now.limits.objects ≡ scene.limits.objects = ap (λ (b : Bounds). b.objects) c.requires.limits in
     let room = c.args.self.now.items_room in
+    let long = c.as_mut_slice.ensures.len in
     rw c.tree-tree.ensures.forest (omega arith)
 
 pub invariant_of-self : goal.invariant_of-self
 invariant_of-self c =
     let self = c.args.self.now in
     let done = c.solve_tree.ensures in
-    let room = self.items_room in
     record {
       kept = these_kept self.limits.objects self.entries c.solve_tree.new.entries self.listed.items done.listed self.kept;
       list_room = self.list_room;
       found_room = self.found_room;
-      items_room = rw done.capacity room;
+      items_room = self.items_room;
     }
 
 pub returns : goal.returns

@@ -26,12 +26,13 @@ solve_trees-requires-clause-few c =
 pub solve_trees-requires-clause-low : goal.solve_trees-requires-clause-low
 solve_trees-requires-clause-low c = let low = flat (scene_of c.args.store.now) c.tree.ensures.valid in rw c.tree.ensures.forest (omega arith)
 
-pub solve_trees-requires-clause-capacity : goal.solve_trees-requires-clause-capacity
-solve_trees-requires-clause-capacity c =
+pub solve_trees-requires-clause-enough : goal.solve_trees-requires-clause-enough
+solve_trees-requires-clause-enough c =
     let scene = scene_of c.args.store.now in
     let fits : size (handles_of scene.trees) ≤ scene.limits.objects = few scene c.tree.ensures.valid in
     let objects : c.args.self.now.limits.objects ≡ scene.limits.objects = ap (λ (b : Bounds). b.objects) c.requires.limits in
     let room = c.args.self.now.items_room in
+    let long = c.as_mut_slice.ensures.len in
     rw c.tree.ensures.forest (omega arith)
 
 pub solve_trees-requires-clause-listed : goal.solve_trees-requires-clause-listed
@@ -43,12 +44,11 @@ pub invariant_of-self : goal.invariant_of-self
 invariant_of-self c =
     let self = c.args.self.now in
     let done = c.solve_trees.ensures in
-    let room = self.items_room in
     record {
       kept = these_kept self.limits.objects self.entries c.solve_trees.new.entries self.listed.items done.listed self.kept;
       list_room = self.list_room;
       found_room = self.found_room;
-      items_room = rw done.capacity room;
+      items_room = self.items_room;
     }
 
 settled : (c : After-solve_trees) → let scene = scene_of c.args.store.now in IsSettled scene.limits.width scene.limits.height (known (scene_box scene) (told c.solve_trees.new.entries) (handles_of scene.trees))

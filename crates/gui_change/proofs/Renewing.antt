@@ -13,13 +13,12 @@ use Rattle.gui_layout.specs.Listing.{times, value_count, HasThese}
 use Rattle.gui_layout.proofs.These.{value-set, within_of}
 use Rattle.gui_pool.specs.Table.{Table, value_at, value_inserted, value_removed}
 use Rattle.gui_tree.specs.Handles.{numbers}
-use Rattle.gui_widgets.specs.Looks.{items_of}
 use Rattle.scene_defs.specs.Items.{items_of as items_at}
 use Rattle.scene_defs.specs.Place.{place}
 use Rattle.scene_defs.specs.Scene.{Object, Scene, object_at}
 use Rattle.gui_change.specs.Again.{AreSeenOf}
 use Rattle.gui_change.specs.Owed.{sight_of}
-use Rattle.gui_change.specs.Seen.{KeepsItems, place_in}
+use Rattle.gui_change.specs.Seen.{KeepsItems, items_known, place_in}
 use Rattle.gui_change.specs.Sights.{AreSeen, KeepOthers}
 use Rattle.gui_change.specs.declared.concerned.Concerned.{Concerned}
 use Rattle.gui_change.specs.declared.seen.Seen.{Seen}
@@ -53,12 +52,12 @@ module _ (t u : Table Seen) (h : ℕ) (v : Seen) (within : h < length t.values) 
   no-items scene (Some object) None none = refl
   no-items scene (Some object) (Some area) none = cc
 
-  keeps-nothing : (scene : Scene) (k : ℕ) → items_of v.items.items ≡ [] → KeepsItems scene k v
+  keeps-nothing : (scene : Scene) (k : ℕ) → items_known v.paints ≡ [] → KeepsItems scene k v
   keeps-nothing scene k empty stands =
       let none : place scene k ≡ None = sym stands ∙ ap place_in empty in
       empty ∙ sym (no-items scene (object_at scene k) (place scene k) none)
 
-  pub put-keeps : items_of v.items.items ≡ [] → (concerned : Concerned) (scene : Scene) → KeepOthers t concerned scene → KeepOthers u concerned scene
+  pub put-keeps : items_known v.paints ≡ [] → (concerned : Concerned) (scene : Scene) → KeepOthers t concerned scene → KeepOthers u concerned scene
   put-keeps empty concerned scene known k s there off found = elim (cases_Bool (eqb h k)) [
     | inl here ↦
         let at : value_at u k ≡ Some v = placed k ∙ rw here refl in

@@ -1,8 +1,9 @@
 //! The picture of a canvas.
-ghost use Rattle.std.specs.Prelude.{◌≡◌, ◌≤◌, ◌<◌, ◌+◌, ◌*◌, true, option_map, length, drop, get_or, map, sum_by};
+ghost use Rattle.std.specs.Prelude.{◌≡◌, ◌≤◌, ◌<◌, ◌+◌, ◌*◌, true, option_map, length, drop, get_or, map, option_copied, sum_by};
 ghost use Rattle.gui_base.specs.Area.{size_of};
 ghost use Rattle.gui_base.specs.Corners.{rect_of};
 ghost use Rattle.gui_change.specs.Canvas.{scene_in};
+ghost use Rattle.gui_change.specs.Seen.{items_known};
 ghost use Rattle.gui_color.specs.Buffer.{IsBlack};
 ghost use Rattle.gui_draw.specs.Drawing.{ShowsColors};
 ghost use Rattle.gui_paint.specs.Painting.{Paints};
@@ -86,7 +87,7 @@ fn covers_at(canvas: &Canvas, n: usize, part: Area) -> bool
 {
     match canvas.shown_at(n) {
         Some(object) => match object.visible {
-            Some(visible) => covers(visible, object.items, part),
+            Some(visible) => covers(visible, object.items().as_slice(), part),
             None => false,
         },
         None => false,
@@ -123,7 +124,7 @@ fn paint_object<L: Ledger>(
     requires there { is_there (scene_of shown.now.store.now) object.now.h.0 ≡ true }
     requires visible { option_map rect_of object.now.visible
         ≡ visible (scene_of shown.now.store.now) object.now.h.0 }
-    requires items { items_of object.now.items.now ≡ items (scene_of shown.now.store.now) object.now.h.0 }
+    requires items { items_known (option_copied object.now.paints) ≡ items (scene_of shown.now.store.now) object.now.h.0 }
     ensures painted { Paints buf.old buf.new (painted_seen (scene_of shown.now.store.now) object.now.h.0) }
     ensures steps { steps.new ≤ steps.old
         + seen_steps (scene_of shown.now.store.now) (size_of buf.old.area) object.now.h.0 }
@@ -132,6 +133,7 @@ fn paint_object<L: Ledger>(
         return;
     };
     if !visible.meet(buf.area()).is_empty() {
-        shown.paint_known(buf, visible, object.h, object.items, text, steps);
+        let items = object.items();
+        shown.paint_known(buf, visible, object.h, items.as_slice(), text, steps);
     }
 }

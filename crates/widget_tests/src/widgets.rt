@@ -5,7 +5,8 @@ ghost use Rattle.gui_widgets.specs.Looks.{IsLook};
 
 use gui_base::{Area, Kind, NoMemory};
 use gui_font::Fonts;
-use gui_widgets::{ImageLook, Look, Values, items, own_height, own_width};
+use gui_pack::paints;
+use gui_widgets::{ImageLook, Item, Look, Values, items, own_height, own_width};
 use std::alloc::Global;
 use std::test::Fail;
 
@@ -40,16 +41,29 @@ fn look(kind: Kind, fonts: &Fonts) -> Look<'_>
     }
 }
 
-fn last_in(kind: Kind, fonts: &Fonts, width: u32, height: u32) -> Last
-    requires wide { width ≤ 3000 }
-    requires high { height ≤ 3000 }
-{
-    let items = items(&look(kind, fonts), Area::at(0, 0, width, height));
+fn last_of(items: &[Item]) -> Last {
     let last = match items.last() {
         None => [0; 4],
         Some(item) => [item.area.x1, item.area.y1, item.area.x2, item.area.y2],
     };
     (items.len(), last)
+}
+
+fn last_in(kind: Kind, fonts: &Fonts, width: u32, height: u32) -> Last
+    requires wide { width ≤ 3000 }
+    requires high { height ≤ 3000 }
+{
+    let place = Area::at(0, 0, width, height);
+    last_of(items(&look(kind, fonts), place).as_slice())
+}
+
+/// The same by what is kept of it.
+fn last_kept(kind: Kind, fonts: &Fonts, width: u32, height: u32) -> Last
+    requires wide { width ≤ 3000 }
+    requires high { height ≤ 3000 }
+{
+    let place = Area::at(0, 0, width, height);
+    last_of(paints(&look(kind, fonts), place).items().as_slice())
 }
 
 /// The same of each kind.
@@ -140,5 +154,27 @@ fn kinds_by_themselves(rt: HostRuntime) -> Result<(), Fail> {
     assert_eq!(rt; size(Kind::Image), (2, 3));
     assert_eq!(rt; size(Kind::Checkbox), (20, 16));
     assert_eq!(rt; size(Kind::Button), (0, 0));
+    Ok(())
+}
+
+#[test]
+fn each_kind_is_kept(rt: HostRuntime) -> Result<(), Fail> {
+    let fonts = opened(rt.alloc())?;
+    let kinds = [
+        Kind::Obj,
+        Kind::Label,
+        Kind::Button,
+        Kind::Image,
+        Kind::Bar,
+        Kind::Slider,
+        Kind::Checkbox,
+        Kind::List,
+    ];
+    for kind in kinds {
+        assert_eq!(rt;
+            last_kept(kind, &fonts, 100, 20),
+            last_in(kind, &fonts, 100, 20)
+        );
+    }
     Ok(())
 }

@@ -1,4 +1,4 @@
-use Rattle.std.proofs.Common.{◌≡◌, ◌∙◌, ◌<◌, ◌+◌, not, sym, ap, subst, ℕ, true, false, eqb, [], ◌∷◌, is_some, inl, inr, arith}
+use Rattle.std.proofs.Common.{◌≡◌, ◌∙◌, ◌<◌, ◌+◌, not, sym, ap, subst, refl, ℕ, true, false, eqb, eq-eqb, [], ◌∷◌, is_some, inl, inr, arith}
 use Rattle.std.specs.Prelude.{option_map}
 use Rattle.std.proofs.lemmas.Bool.{cases_Bool, eqb-true}
 use Rattle.gui_pool.specs.Table.{value_at}
@@ -51,3 +51,8 @@ returns-clause-sees c =
       | inr other ↦ other
     ]))
     c.see_all_again.ensures.listing c.see_all_again.ensures.seen c.see_all_again.ensures.rest c.args.damage.now c.see_all_again.new.damage c.see_all_again.ensures.debt
+
+pub returns-clause-own : goal.returns-clause-own
+returns-clause-own c s found =
+    let h = c.args.h.0 in
+    c.see_all_again.ensures.seen h s (rw (eq-eqb h h refl) (omega arith)) found

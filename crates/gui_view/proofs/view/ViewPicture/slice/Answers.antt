@@ -1,4 +1,4 @@
-use Rattle.std.proofs.Common.{◌≡◌, ◌≤◌, ◌+◌, subst, drop, map}
+use Rattle.std.proofs.Common.{◌≡◌, subst, drop, map}
 use Rattle.gui_base.specs.Area.{Rect}
 use Rattle.gui_change.specs.Canvas.{scene_in}
 use Rattle.scene_defs.specs.Shown.{order, seen}

@@ -9,17 +9,12 @@ use Rattle.fast_float.specs.Text.{scan, with_sign, Parts, digits_of}
 use Rattle.json.specs.Json as json
 use Rattle.json.specs.Lex.{tokens}
 use Rattle.serde_json.specs.Data.{Num, unsigned, negative, float, Data, null, boolean, number, string, array, object, Items, item, Members, no_members, member, put}
-use Rattle.serde_json.specs.Find.{get, get_member}
+use Rattle.serde_json.specs.Find.{get, get_member, as_array, as_object}
 use Rattle.serde_json.specs.Read.{read, of_json, of_items, of_members, number_of, number_from, is_integer, float_of, max_depth}
 use Rattle.scene_json.specs.Words.{integer}
 use Rattle.scene_check.specs.Integers.{is_short, are_short, items_short, members_short, IntegersAreShort}
 use lib.Signed.{mag}
-use Rattle.scene_check.proofs.Holding.{both_hold}
-
--- what is so of a thing, where there is one
-abbrev Or : {A : Type 0} → (A → Bool) → Option A → Type 0
-Or p None = Unit {0}
-Or p (Some a) = p a ≡ true
+use Rattle.scene_check.proofs.Holding.{both_hold, Or}
 
 short_digits : (n : ℕ) → nat_le n (2 ^ 63) ≡ true → nat_lt 0 n ≡ true → nat_lt (mag (with_sign true n)) (2 ^ 63) ≡ true
 short_digits zero h k = cc
@@ -125,7 +120,23 @@ some_member k (member l e ms) h =
       by Equal p q = p
       by Greater p q = q
 
-some_below : (k : List ℕ) (d : Data) → are_short d ≡ true → Or are_short (get k d)
+pub short_array : (d : Data) → are_short d ≡ true → Or items_short (as_array d)
+short_array null h = tt
+short_array (boolean b) h = tt
+short_array (number n) h = tt
+short_array (string s) h = tt
+short_array (array ds) h = h
+short_array (object ms) h = tt
+
+pub short_object : (d : Data) → are_short d ≡ true → Or members_short (as_object d)
+short_object null h = tt
+short_object (boolean b) h = tt
+short_object (number n) h = tt
+short_object (string s) h = tt
+short_object (array ds) h = tt
+short_object (object ms) h = h
+
+pub some_below : (k : List ℕ) (d : Data) → are_short d ≡ true → Or are_short (get k d)
 some_below k null h = tt
 some_below k (boolean b) h = tt
 some_below k (number n) h = tt
@@ -142,7 +153,7 @@ short_unsigned m n e = by (nat_lt m (2 ^ 63)) refl e where
   by true is e = subst (λ (k : ℤ). mag k < 2 ^ 63) (same n e) (grind (arith, nat_tests, is))
   by false is e = cc
 
-short_integer : (d : Data) (n : ℤ) → are_short d ≡ true → integer d ≡ Some n → mag n < 2 ^ 63
+pub short_integer : (d : Data) (n : ℤ) → are_short d ≡ true → integer d ≡ Some n → mag n < 2 ^ 63
 short_integer null n h e = cc
 short_integer (boolean b) n h e = cc
 short_integer (number (unsigned m)) n h e = short_unsigned m n e

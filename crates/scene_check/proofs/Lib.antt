@@ -5,7 +5,14 @@ pub mod Growing
 pub mod Holding
 pub mod Ids
 pub mod Integers
+pub mod Lined
 pub mod Made
+pub mod Noting
 pub mod Outlines
 pub mod Own
+pub mod Owning
+pub mod PlainWords
+pub mod Planting
+pub mod Scenes
 pub mod Trees
+pub mod Worked

@@ -1,10 +1,13 @@
 pub mod Checking
+pub mod Examples
 pub mod Fielded
 pub mod Fitting
 pub mod Growing
 pub mod Ids
 pub mod Integers
 pub mod Made
+pub mod Nodes
 pub mod Outlines
 pub mod Own
+pub mod Scenes
 pub mod Trees

@@ -1,4 +1,5 @@
 //! What the changes of scenes do to a store. Each function does nothing: its contract is a law, which is proved.
+ghost use Rattle.scene_check.specs.Examples.{TreesAreWorked};
 ghost use Rattle.scene_check.specs.Fielded.{LinesAreFielded};
 ghost use Rattle.scene_check.specs.Fitting.{ChangesFit};
 ghost use Rattle.scene_check.specs.Growing.{HandlesGrow};
@@ -7,6 +8,7 @@ ghost use Rattle.scene_check.specs.Integers.{IntegersAreShort};
 ghost use Rattle.scene_check.specs.Made.{TreesAreMade};
 ghost use Rattle.scene_check.specs.Outlines.{ScenesAreOutlined};
 ghost use Rattle.scene_check.specs.Own.{OwnWordsSay};
+ghost use Rattle.scene_check.specs.Scenes.{ScenesAreMade};
 ghost use Rattle.scene_check.specs.Trees.{TreesGrow};
 
 /// The changes of scenes are refused for a full pool alone, where what they name is there.
@@ -45,6 +47,20 @@ pub fn wanted_trees_grow()
 #[tactic(auto, using(crate::proofs::Made::trees_are_made))]
 pub fn wanted_trees_are_made()
     ensures { TreesAreMade }
+{}
+
+/// The changes that the lines of a scene in JSON ask for are those that make its trees: on a store as opened they
+/// are refused for a full pool alone, and where none is refused, the trees of the scene are what stands on the
+/// first screen.
+#[tactic(auto, using(crate::proofs::Scenes::scenes_are_made))]
+pub fn scene_lines_make_trees()
+    ensures { ScenesAreMade }
+{}
+
+/// The trees of a scene that was worked out by hand.
+#[tactic(auto, using(crate::proofs::Worked::trees_are_worked))]
+pub fn worked_trees()
+    ensures { TreesAreWorked }
 {}
 
 /// The integers of what is read of JSON fit 64 bits.

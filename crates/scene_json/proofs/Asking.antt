@@ -1,5 +1,5 @@
 -- All lines of a scene ask for changes.
-use Rattle.std.proofs.Common.{◌≡◌, ◌∙◌, refl, sym, ap, ap₂, subst, ℕ, zero, suc, true, false, Bool, List, [], ◌∷◌, ◌++◌, append_assoc, arith}
+use Rattle.std.proofs.Common.{◌≡◌, ◌∙◌, refl, sym, ap, ap₂, subst, ℕ, zero, suc, true, false, Bool, List, [], ◌∷◌, ◌++◌, append_assoc, map, arith}
 use Rattle.std.proofs.lemmas.List.{map-append}
 use Rattle.std.proofs.lemmas.Grind.{flat_map-append}
 use Rattle.std.proofs.lemmas.List.Elements.{All-append, All-cons, All-nil}
@@ -14,7 +14,7 @@ use Rattle.gui_base.specs.declared.props.Prop.{Prop}
 use Rattle.run_defs.specs.Commands.{command_says}
 use Rattle.run_defs.specs.Fields.{ended_by}
 use Rattle.run_defs.specs.Language.{Word, words_of, is_control}
-use Rattle.run_defs.specs.Script.{Said, parse, line_says, max_line}
+use Rattle.run_defs.specs.Script.{Said, parse, line_says, max_line, says, Whole}
 use Rattle.run_defs.specs.declared.Command.TheVariants as ask
 use Rattle.run_defs.specs.declared.Line.TheVariants.{Make}
 use Rattle.run_defs.specs.declared.LineFault.{LineFault}
@@ -27,9 +27,10 @@ use Rattle.scene_defs.specs.declared.Change.{Change}
 use Rattle.serde_json.specs.Data.{Data, Items, no_items, item, Members, no_members, member}
 use Rattle.serde_json.specs.Find.{get, as_str, as_array, as_object}
 use Rattle.serde_json.specs.Read.{read}
-use Rattle.line_texts.specs.LineTexts.{spaced, line_text}
+use Rattle.line_texts.specs.LineTexts.{spaced, line_text, ended_lines}
 use Rattle.line_texts.specs.Quoting.{quoted, is_in_text}
 use Rattle.line_texts.specs.Commands.{asks}
+use Rattle.scene_json.proofs.Scripts.{says_asked}
 use Rattle.scene_json.specs.Asked.{is_scene_change, Asks, LinesAsk}
 use Rattle.scene_json.specs.Scenes.{two, put_two, put_pair, size_line, pos_line, put_flag, flag_lines, has_text, put_text, text_line, put_value, put_prop, prop_lines, local_lines, own_lines, node_itself, head, in_nodes, node_of, node_lines, first_nodes, has_one, scene, scene_in, text_or}
 use Rattle.scene_json.specs.Words.{extent_word, number_word, string_word, value_word, prop_named, is_selector}
@@ -38,7 +39,7 @@ use Rattle.scene_json.specs.Writing.{Writing, ◌>>=◌, says_some, put, put_lin
 -- Lines.
 
 -- what is said asks for a change of a scene, where it is not refused
-abbrev Fits : Said → Type 0
+abbrev pub Fits : Said → Type 0
 Fits said = says_some said ≡ true → (change : Change) × ((said ≡ asks change) × (is_scene_change change ≡ true))
 
 ended_fits : (words : List Word) (fault : Option LineFault) (change : Change) → is_scene_change change ≡ true → Fits (ended_by words fault (Make (ask.Change change)))
@@ -50,27 +51,27 @@ or_refused : (b : Bool) (fault : LineFault) (said : Said) → Fits said → Fits
 or_refused true fault said h e = cc
 or_refused false fault said h e = h e
 
-new_fits : (words : List Word) → Fits (command_says (codes "new") words)
+pub new_fits : (words : List Word) → Fits (command_says (codes "new") words)
 unfolding command_says named
 new_fits words = ended_fits _ _ _ refl
 
-size_fits : (words : List Word) → Fits (command_says (codes "size") words)
+pub size_fits : (words : List Word) → Fits (command_says (codes "size") words)
 unfolding command_says named
 size_fits words = ended_fits _ _ _ refl
 
-pos_fits : (words : List Word) → Fits (command_says (codes "pos") words)
+pub pos_fits : (words : List Word) → Fits (command_says (codes "pos") words)
 unfolding command_says named
 pos_fits words = ended_fits _ _ _ refl
 
-flag_fits : (words : List Word) → Fits (command_says (codes "flag") words)
+pub flag_fits : (words : List Word) → Fits (command_says (codes "flag") words)
 unfolding command_says named
 flag_fits words = ended_fits _ _ _ refl
 
-text_fits : (words : List Word) → Fits (command_says (codes "text") words)
+pub text_fits : (words : List Word) → Fits (command_says (codes "text") words)
 unfolding command_says named
 text_fits words = ended_fits _ _ _ refl
 
-local_fits : (words : List Word) → Fits (command_says (codes "local") words)
+pub local_fits : (words : List Word) → Fits (command_says (codes "local") words)
 unfolding command_says named
 local_fits words = ended_fits _ _ _ refl
 
@@ -123,7 +124,7 @@ all_and p [] c h k = grind (arith, k)
 all_and p (d ∷ cs) c h k = grind (arith, h, k, all_and p cs c)
 
 -- a change that a line asks for is in range and allowed
-ranged : (line : List ℕ) (change : Change) → parse line ≡ asks change → (is_in_range change ≡ true) × IsChange change
+pub ranged : (line : List ℕ) (change : Change) → parse line ≡ asks change → (is_in_range change ≡ true) × IsChange change
 ranged line change e = subst IsInRange e (says_in_range line)
 
 abbrev AsksOr : Option Writing → Type 0
@@ -134,21 +135,25 @@ abbrev Keeps : (Writing → Option Writing) → Type 0
 Keeps f = (w : Writing) → Asks w.text → AsksOr (f w)
 
 one_more : (text line : List ℕ) (change : Change) → parse line ≡ asks change → is_scene_change change ≡ true → Asks text → Asks (text ++ line ++ 10 ∷ [])
-one_more text line change e h g = record {
-  lines = g.lines ++ line ∷ [];
-  changes = g.changes ++ change ∷ [];
-  text_is =
-      append_assoc text line (10 ∷ [])
-      ∙ ap₂ (λ (xs ys : List ℕ). xs ++ ys) g.text_is (sym (append_assoc line (10 ∷ []) []))
-      ∙ sym (flat_map-append (λ (line : List ℕ). line ++ 10 ∷ []) g.lines (line ∷ []));
-  asked =
-      map-append (λ (line : List ℕ). parse line) g.lines (line ∷ [])
-      ∙ ap₂ (λ (xs ys : List Said). xs ++ ys) g.asked (ap (λ (said : Said). said ∷ []) e)
-      ∙ sym (map-append asks g.changes (change ∷ []));
-  scenes = all_and is_scene_change g.changes change g.scenes h;
-  in_range = all_and is_in_range g.changes change g.in_range (ranged line change e).0;
-  allowed = All-append IsChange g.changes (change ∷ []) g.allowed (All-cons IsChange change [] (ranged line change e).1 (All-nil IsChange));
-}
+one_more text line change e h g =
+    let text_is : text ++ line ++ 10 ∷ [] ≡ ended_lines (g.lines ++ line ∷ []) =
+    append_assoc text line (10 ∷ [])
+    ∙ ap₂ (λ (xs ys : List ℕ). xs ++ ys) g.text_is (sym (append_assoc line (10 ∷ []) []))
+    ∙ sym (flat_map-append (λ (line : List ℕ). line ++ 10 ∷ []) g.lines (line ∷ [])) in
+    let asked : map (λ line. parse line) (g.lines ++ line ∷ []) ≡ map asks (g.changes ++ change ∷ []) =
+    map-append (λ (line : List ℕ). parse line) g.lines (line ∷ [])
+    ∙ ap₂ (λ (xs ys : List Said). xs ++ ys) g.asked (ap (λ (said : Said). said ∷ []) e)
+    ∙ sym (map-append asks g.changes (change ∷ [])) in
+    record {
+      lines = g.lines ++ line ∷ [];
+      changes = g.changes ++ change ∷ [];
+      text_is = text_is;
+      asked = asked;
+      script = ap (says Whole) text_is ∙ says_asked (g.lines ++ line ∷ []) (g.changes ++ change ∷ []) asked;
+      scenes = all_and is_scene_change g.changes change g.scenes h;
+      in_range = all_and is_in_range g.changes change g.in_range (ranged line change e).0;
+      allowed = All-append IsChange g.changes (change ∷ []) g.allowed (All-cons IsChange change [] (ranged line change e).1 (All-nil IsChange));
+    }
 
 put_keeps : (line : List ℕ) → Fits (parse line) → Keeps (put line)
 unfolding put
@@ -284,7 +289,7 @@ first_keep None w g = tt
 first_keep (Some d) w g = list_keeps (node_lines 15 (codes "3")) (nodes_keep 15 (codes "3")) (as_array d) w g
 
 nothing_asks : Asks []
-nothing_asks = record { lines = []; changes = []; text_is = refl; asked = refl; scenes = refl; in_range = refl; allowed = All-nil IsChange }
+nothing_asks = record { lines = []; changes = []; text_is = refl; asked = refl; script = refl; scenes = refl; in_range = refl; allowed = All-nil IsChange }
 
 scene_asks : (d : Data) → AsksOr (scene d)
 unfolding scene

@@ -5,7 +5,7 @@ use Rattle.scene_defs.specs.declared.Change.{Change}
 use Rattle.scene_defs.specs.declared.Change.TheVariants as change
 use Rattle.scene_defs.specs.Deeds.{is_in_range}
 use Rattle.scene_defs.specs.Valid.{IsChange}
-use Rattle.run_defs.specs.Script.{parse}
+use Rattle.run_defs.specs.Script.{parse, says, Whole}
 use Rattle.line_texts.specs.LineTexts.{ended_lines}
 use Rattle.line_texts.specs.Commands.{asks}
 use Rattle.scene_json.specs.Scenes.{scene_text}
@@ -26,6 +26,8 @@ pub record Asks (text : List ℕ) : Type 0 where
   pub changes : List Change
   pub text_is : text ≡ ended_lines lines
   pub asked : map (λ line. parse line) lines ≡ map asks changes
+  -- read as a script, the text asks for these changes and says nothing else
+  pub script : says Whole text ≡ map asks changes
   pub scenes : list_all is_scene_change changes ≡ true
   -- their numbers lie in their intervals, and a store may be asked for them
   pub in_range : list_all is_in_range changes ≡ true

@@ -2,8 +2,14 @@
 #![tactic(auto)]
 
 #[cfg(test)]
+mod checking;
+#[cfg(test)]
 mod list;
 #[cfg(test)]
 mod listing;
+#[cfg(test)]
+mod lit;
+#[cfg(test)]
+mod pump;
 #[cfg(test)]
 mod refresh;

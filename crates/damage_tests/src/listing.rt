@@ -1,26 +1,27 @@
-//! A panel that lists its flushes.
+//! A panel that lists what it is asked to start.
 ghost use Rattle.std.specs.Prelude.{◌≡◌};
 
 use arrayvec::ArrayVec;
-use gui_base::{Area, Rgb565};
-use gui_edge::{Failed, OpenFault, Panel};
+use gui_base::Area;
+use gui_color::DrawBuf;
+use gui_edge::{Failed, OpenFault, Panel, Polled};
 use std::alloc::Global;
 
-/// Lists the areas of the first flushes, and hands each call on to a panel.
+/// Lists the areas of the first buffers that it is asked to start, and hands each call on to a panel.
 #[derive(Drop)]
 pub struct Listing<P: Panel> {
     pub panel: P,
-    pub flushes: ArrayVec<Area, 16>,
+    pub starts: ArrayVec<Area, 16>,
 }
 
 impl<P: Panel> Listing<P> {
-    /// A panel to which nothing was flushed yet.
+    /// A panel that was asked to start nothing yet.
     pub fn new(panel: P) -> Listing<P>
         ensures { result.panel ≡ panel }
     {
         Listing {
             panel,
-            flushes: ArrayVec::new(),
+            starts: ArrayVec::new(),
         }
     }
 }
@@ -38,11 +39,15 @@ impl<P: Panel> Panel for Listing<P> {
         self.panel.open(alloc, width, height, limit)
     }
 
-    fn flush(&mut self, area: Area, pixels: &[Rgb565]) -> Result<(), Failed> {
-        if !self.flushes.is_full() {
-            self.flushes.push(area);
+    fn start(&mut self, buf: DrawBuf) -> Result<(), (Failed, DrawBuf)> {
+        if !self.starts.is_full() {
+            self.starts.push(buf.area());
         }
-        self.panel.flush(area, pixels)
+        self.panel.start(buf)
+    }
+
+    fn poll(&mut self) -> Polled {
+        self.panel.poll()
     }
 
     fn present(&mut self) -> Result<(), Failed> {
@@ -50,4 +55,6 @@ impl<P: Panel> Panel for Listing<P> {
     }
 
     ghost each = { λ p. P.each p.panel };
+
+    ghost flying = { λ p. P.flying p.panel };
 }

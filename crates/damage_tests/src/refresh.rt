@@ -1,13 +1,12 @@
-//! Refreshes over a panel that lists its flushes.
-ghost use Rattle.std.specs.Prelude.{◌≡◌, ◌<◌, IfOk};
+//! Refreshes over a panel that lists what it is asked to start.
+ghost use Rattle.std.specs.Prelude.{◌≡◌, ◌<◌, IfOk, None};
 ghost use Rattle.gui_edge.specs.Panel.{CanOpen};
 
 use crate::list::corners;
 use crate::listing::Listing;
+use crate::lit::Lit;
 use gui_base::{Area, Limits, Rgb565, Steps};
-use gui_color::DrawBuf;
 use gui_damage::Damage;
-use gui_draw::{Picture, fill};
 use gui_edge::{MemSink, Panel, SimPanel, SimPlan};
 use gui_refresh::{Refreshed, Refresher};
 use std::alloc::Global;
@@ -16,25 +15,7 @@ use std::process::Abort;
 use std::sync::ledger::{Blank, Ledger};
 use std::test::Fail;
 
-/// A picture that is white everywhere.
-struct White;
-
-impl Picture for White {
-    ghost use Rattle.gui_base.specs.Color.{white};
-
-    ghost color = { λ picture x y. white };
-
-    ghost per_pixel = { λ picture. 1 };
-
-    ghost per_slice = { λ picture. 0 };
-
-    fn slice<L: Ledger>(&self, buf: &mut DrawBuf, steps: &mut Steps<L>) {
-        let area = buf.area();
-        fill(buf, area, area, Rgb565::WHITE, 255, steps);
-    }
-}
-
-/// A panel that is opened with these sizes, of which the flush of a number fails.
+/// A panel that is opened with these sizes, of which the start of a number fails.
 fn open_panel(
     alloc: Global,
     width: u16,
@@ -44,11 +25,14 @@ fn open_panel(
 ) -> Result<Listing<SimPanel<MemSink>>, Fail>
     requires { CanOpen width height limit }
     ensures { IfOk result (λ panel.
-        (panel.panel.width ≡ width) × (panel.panel.height ≡ height) × (panel.panel.limit ≡ limit)) }
+        (panel.panel.width ≡ width) × (panel.panel.height ≡ height) × (panel.panel.limit ≡ limit)
+        × (panel.panel.coming ≡ None)) }
 {
     let plan = SimPlan {
         fail_open: false,
         fail_flush: vec![in alloc; fails]?,
+        fail_poll: Vec::new(alloc),
+        moves: Vec::new(alloc),
     };
     let frames = MemSink::with_capacity(alloc, 0, Vec::new(alloc))?;
     let mut panel = Listing::new(SimPanel::new(frames, plan));
@@ -58,15 +42,15 @@ fn open_panel(
     }
 }
 
-/// Whether these are the flushes of a panel, in order.
-fn check_flushes<P: Panel>(rt: &impl Abort, panel: &Listing<P>, want: &[[i32; 4]]) {
-    assert_eq!(rt; panel.flushes.len(), want.len());
-    for (area, corners_wanted) in panel.flushes.iter().zip(want) {
+/// Whether these are the areas that a panel was asked to start, in order.
+fn check_starts<P: Panel>(rt: &impl Abort, panel: &Listing<P>, want: &[[i32; 4]]) {
+    assert_eq!(rt; panel.starts.len(), want.len());
+    for (area, corners_wanted) in panel.starts.iter().zip(want) {
         assert_eq!(rt; corners(area), *corners_wanted);
     }
 }
 
-/// Refreshes a panel of four by three pixels in slices of a line, where the flush of a number fails, and then
+/// Refreshes a panel of four by three pixels in slices of a line, where the start of a number fails, and then
 /// once more.
 fn refresh_twice<L: Ledger>(
     rt: &impl Abort,
@@ -82,14 +66,16 @@ fn refresh_twice<L: Ledger>(
     let (book, all) = blank.open::<L>();
     let mut steps = Steps::new(book, all);
     let mut refresher = Refresher::open(alloc, &Limits::with_sizes(4, 3, 1))?;
-    let mut damage = Damage::new(Area::at(0, 0, 4, 3));
+    let whole = Area::at(0, 0, 4, 3);
+    let white = Lit { part: whole };
+    let mut damage = Damage::new(whole);
     let mut panel = open_panel(alloc, 4, 3, 4, fails)?;
-    let first = refresher.refresh(&White, &mut damage, &mut panel, &mut steps);
+    let first = refresher.refresh(&white, &mut damage, &mut panel, &mut steps);
     assert_eq!(rt; first, Refreshed::Fault);
-    assert_eq!(rt; panel.flushes.len() as u64, fails);
-    let second = refresher.refresh(&White, &mut damage, &mut panel, &mut steps);
+    assert_eq!(rt; panel.starts.len() as u64, fails);
+    let second = refresher.refresh(&white, &mut damage, &mut panel, &mut steps);
     assert_eq!(rt; second, Refreshed::Done);
-    check_flushes(rt, &panel, want);
+    check_starts(rt, &panel, want);
     assert_eq!(rt; panel.panel.sent(), 16);
     for y in 0..3 {
         for x in 0..4 {
@@ -117,25 +103,27 @@ fn refresh_changes<L: Ledger>(rt: &impl Abort, alloc: Global, blank: Blank) -> R
     let (book, all) = blank.open::<L>();
     let mut steps = Steps::new(book, all);
     let mut refresher = Refresher::open(alloc, &Limits::with_sizes(6, 4, 2))?;
-    let mut damage = Damage::new(Area::at(0, 0, 6, 4));
+    let whole = Area::at(0, 0, 6, 4);
+    let white = Lit { part: whole };
+    let mut damage = Damage::new(whole);
     let mut panel = open_panel(alloc, 6, 4, 12, 0)?;
-    let first = refresher.refresh(&White, &mut damage, &mut panel, &mut steps);
+    let first = refresher.refresh(&white, &mut damage, &mut panel, &mut steps);
     assert_eq!(rt; first, Refreshed::Done);
-    let second = refresher.refresh(&White, &mut damage, &mut panel, &mut steps);
+    let second = refresher.refresh(&white, &mut damage, &mut panel, &mut steps);
     assert_eq!(rt; second, Refreshed::Done);
-    check_flushes(rt, &panel, &[[0, 0, 5, 1], [0, 2, 5, 3]]);
+    check_starts(rt, &panel, &[[0, 0, 5, 1], [0, 2, 5, 3]]);
     damage.add(Area::at(1, 0, 2, 1));
     damage.add(Area::at(4, 3, 5, 5));
     damage.add(Area::at(2, 0, 3, 1));
-    let third = refresher.refresh(&White, &mut damage, &mut panel, &mut steps);
+    let third = refresher.refresh(&white, &mut damage, &mut panel, &mut steps);
     assert_eq!(rt; third, Refreshed::Done);
-    check_flushes(
+    check_starts(
         rt,
         &panel,
         &[[0, 0, 5, 1], [0, 2, 5, 3], [1, 0, 4, 0], [4, 3, 5, 3]],
     );
     assert_eq!(rt; panel.panel.sent(), 30);
-    assert_eq!(rt; refresher.sum_of(&White, &mut steps), 65_512);
+    assert_eq!(rt; refresher.sum_of(&white, &mut steps), 65_512);
     Ok(())
 }
 
@@ -154,7 +142,7 @@ fn add_dots(damage: &mut Damage)
 }
 
 /// Lists 32 areas of a panel of 66 by 3 pixels, the first of which has more lines than a slice. The first
-/// flush fails, and the list has no room for its slice.
+/// start fails, and the list has no room for its slice.
 fn refresh_full_list<L: Ledger>(rt: &impl Abort, alloc: Global, blank: Blank) -> Result<(), Fail>
     requires name { blank.name ≡ L.name }
     requires parts { blank.parts ≡ L.parts }
@@ -163,19 +151,21 @@ fn refresh_full_list<L: Ledger>(rt: &impl Abort, alloc: Global, blank: Blank) ->
     let (book, all) = blank.open::<L>();
     let mut steps = Steps::new(book, all);
     let mut refresher = Refresher::open(alloc, &Limits::with_sizes(66, 3, 1))?;
-    let mut damage = Damage::new(Area::at(0, 0, 66, 3));
+    let whole = Area::at(0, 0, 66, 3);
+    let white = Lit { part: whole };
+    let mut damage = Damage::new(whole);
     let mut panel = open_panel(alloc, 66, 3, 66, 1)?;
     assert!(rt; damage.take_slice(198).is_some());
     damage.add(Area::at(0, 0, 66, 2));
     add_dots(&mut damage);
     assert_eq!(rt; damage.areas().len(), 32);
-    let first = refresher.refresh(&White, &mut damage, &mut panel, &mut steps);
+    let first = refresher.refresh(&white, &mut damage, &mut panel, &mut steps);
     assert_eq!(rt; first, Refreshed::Fault);
     assert_eq!(rt; damage.areas().len(), 1);
-    let second = refresher.refresh(&White, &mut damage, &mut panel, &mut steps);
+    let second = refresher.refresh(&white, &mut damage, &mut panel, &mut steps);
     assert_eq!(rt; second, Refreshed::Done);
     let lines = [[0, 0, 65, 0], [0, 0, 65, 0], [0, 1, 65, 1], [0, 2, 65, 2]];
-    check_flushes(rt, &panel, &lines);
+    check_starts(rt, &panel, &lines);
     Ok(())
 }
 

@@ -4,7 +4,7 @@
 use std::alloc::Global;
 use std::process::Abort;
 use std::test::Fail;
-use test_runs::Fault::{self, Flush, Frames, Log, Open, Read};
+use test_runs::Fault::{self, Frames, Log, Open, Poll, Read, Start};
 use test_runs::{Outside, WHITE_FRAME, WORDS};
 
 /// Whether the bytes are `whole` white frames and, where `part` is set, the first bytes of a further one.
@@ -37,6 +37,9 @@ const SECOND: &str = "1 frame 1 fault\n2 frame 2 done\n";
 
 const NEITHER: &str = "1 frame 1 fault\n2 frame 2 fault\n";
 
+/// A script of three pumps and a frame.
+const PUMPED: &[u8] = b"pump\npump\npump\nframe\n";
+
 /// A script, how many bytes a read gives at most, and the calls that fail. Then what the run comes to: the
 /// number of its status, its log, how many frames are written whole, whether the first bytes of a further one
 /// are, and how many pixels are sent.
@@ -51,8 +54,21 @@ type Row = (
     u64,
 );
 
-/// The first frame is sent whole, in two flushes, and a later one sends what flushes that failed have left.
-/// Each is written in two puts.
+/// Each kind of call fails once. The first frame is sent whole, by two starts with a poll each, and a later one
+/// sends what has failed. Each is written in two puts.
+const ONE_FAULT: &[Row] = &[
+    (TWO, 1, &[Read(3)], 3, "", 0, false, 0),
+    (TWO, 1, &[Read(7)], 3, FIRST, 1, false, 8),
+    (TWO, 1, &[Read(13)], 3, BOTH, 2, false, 8),
+    (TWO, 1, &[Log(1)], 4, "1 frame", 1, false, 8),
+    (TWO, 1, &[Frames(1)], 4, "", 0, true, 8),
+    (TWO, 1, &[Start(1)], 1, SECOND, 1, false, 12),
+    (TWO, 1, &[Start(2)], 1, SECOND, 1, false, 12),
+    (TWO, 1, &[Poll(1)], 1, SECOND, 1, false, 12),
+    (TWO, 1, &[Poll(2)], 1, SECOND, 1, false, 12),
+    (TWO, 1, &[Open], 5, "", 0, false, 0),
+];
+
 const READS: &[Row] = &[
     (TWO, 64, &[], 0, BOTH, 2, false, 8),
     (MIXED, 1, &[], 1, MIXED_LOG, 3, false, 8),
@@ -60,15 +76,11 @@ const READS: &[Row] = &[
     (TWO, 64, &[Read(1)], 3, "", 0, false, 0),
     (TWO, 64, &[Read(2)], 3, BOTH, 2, false, 8),
     (TWO, 64, &[Read(3)], 0, BOTH, 2, false, 8),
-    (TWO, 1, &[Read(3)], 3, "", 0, false, 0),
-    (TWO, 1, &[Read(7)], 3, FIRST, 1, false, 8),
-    (TWO, 1, &[Read(13)], 3, BOTH, 2, false, 8),
     (TWO, 3, &[Read(4)], 3, FIRST, 1, false, 8),
     (MIXED, 3, &[Read(13)], 3, MIXED_UP_TO_5, 2, false, 8),
 ];
 
 const WRITES: &[Row] = &[
-    (TWO, 64, &[Log(1)], 4, "1 frame", 1, false, 8),
     (
         TWO,
         64,
@@ -99,7 +111,6 @@ const WRITES: &[Row] = &[
         false,
         8,
     ),
-    (TWO, 64, &[Frames(1)], 4, "", 0, true, 8),
     (TWO, 64, &[Frames(2)], 4, "", 0, true, 8),
     (TWO, 64, &[Frames(3)], 4, FIRST, 1, true, 8),
     (TWO, 64, &[Frames(4)], 4, FIRST, 1, true, 8),
@@ -117,25 +128,22 @@ const WRITES: &[Row] = &[
 ];
 
 const PANELS: &[Row] = &[
-    (TWO, 64, &[Open], 5, "", 0, false, 0),
     (
         TWO,
         64,
-        &[Open, Flush(1), Read(1), Log(1), Frames(1)],
+        &[Open, Start(1), Read(1), Log(1), Frames(1)],
         5,
         "",
         0,
         false,
         0,
     ),
-    (TWO, 64, &[Flush(1)], 1, SECOND, 1, false, 12),
-    (TWO, 64, &[Flush(2)], 1, SECOND, 1, false, 12),
-    (TWO, 64, &[Flush(1), Flush(2)], 1, NEITHER, 0, false, 8),
-    (TWO, 64, &[Flush(2), Flush(3)], 1, NEITHER, 0, false, 12),
+    (TWO, 64, &[Start(1), Start(2)], 1, NEITHER, 0, false, 8),
+    (TWO, 64, &[Poll(2), Start(3)], 1, NEITHER, 0, false, 12),
     (
         MIXED,
         3,
-        &[Flush(1), Flush(3)],
+        &[Start(1), Start(3)],
         1,
         "1 frame 1 fault\n3 refused syntax\n5 frame 2 fault\n6 frame 3 done\n",
         1,
@@ -145,23 +153,77 @@ const PANELS: &[Row] = &[
     (
         TWO,
         1,
-        &[Flush(1), Read(7)],
+        &[Start(1), Read(7)],
         3,
         "1 frame 1 fault\n",
         0,
         false,
         4,
     ),
-    (TWO, 64, &[Flush(2), Log(1)], 4, "1 frame ", 0, false, 8),
+    (TWO, 64, &[Start(2), Log(1)], 4, "1 frame ", 0, false, 8),
     (
         TWO,
         64,
-        &[Flush(1), Frames(1)],
+        &[Start(1), Frames(1)],
         4,
         "1 frame 1 fault\n",
         0,
         true,
         12,
+    ),
+];
+
+/// A pump that faults shows in the log alone. The line of a pump that was made may be missing there.
+const PUMPS: &[Row] = &[
+    (
+        PUMPED,
+        64,
+        &[Start(1)],
+        0,
+        "1 pump moved\n2 pump fault\n3 pump moved\n4 frame 1 done\n",
+        1,
+        false,
+        12,
+    ),
+    (
+        PUMPED,
+        64,
+        &[Poll(1)],
+        0,
+        "1 pump moved\n2 pump moved\n3 pump fault\n4 frame 1 done\n",
+        1,
+        false,
+        12,
+    ),
+    (
+        PUMPED,
+        64,
+        &[Poll(1), Poll(2)],
+        1,
+        "1 pump moved\n2 pump moved\n3 pump fault\n4 frame 1 fault\n",
+        0,
+        false,
+        8,
+    ),
+    (
+        PUMPED,
+        1,
+        &[Read(13)],
+        3,
+        "1 pump moved\n2 pump moved\n",
+        0,
+        false,
+        4,
+    ),
+    (
+        PUMPED,
+        64,
+        &[Log(2)],
+        4,
+        "1 pump moved\n2 pump",
+        0,
+        false,
+        4,
     ),
 ];
 
@@ -187,6 +249,11 @@ fn try_rows(rt: &impl Abort, alloc: Global, rows: &[Row]) -> Result<(), Fail> {
 }
 
 #[test]
+fn each_kind_of_call_fails_once(rt: HostRuntime) -> Result<(), Fail> {
+    try_rows(&rt, rt.alloc(), ONE_FAULT)
+}
+
+#[test]
 fn faults_of_reads_end_a_run(rt: HostRuntime) -> Result<(), Fail> {
     try_rows(&rt, rt.alloc(), READS)
 }
@@ -199,4 +266,9 @@ fn faults_of_writes_end_a_run(rt: HostRuntime) -> Result<(), Fail> {
 #[test]
 fn faults_of_panels_end_a_run_or_show_in_its_log(rt: HostRuntime) -> Result<(), Fail> {
     try_rows(&rt, rt.alloc(), PANELS)
+}
+
+#[test]
+fn a_pump_that_faults_shows_in_the_log_alone(rt: HostRuntime) -> Result<(), Fail> {
+    try_rows(&rt, rt.alloc(), PUMPS)
 }

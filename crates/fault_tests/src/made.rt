@@ -4,7 +4,7 @@
 use std::alloc::Global;
 use std::process::Abort;
 use std::test::Fail;
-use test_runs::Fault::{self, Flush, Frames, Log, Read};
+use test_runs::Fault::{self, Frames, Log, Read, Start};
 use test_runs::Outside;
 
 /// A made script on 4 by 2 pixels, in slices of one line.
@@ -20,7 +20,7 @@ const ROWS: &[Row] = &[
     (&[], 0, WHOLE, 385),
     (&[Read(1)], 0, WHOLE, 385),
     (
-        &[Flush(1), Flush(5)],
+        &[Start(1), Start(5)],
         1,
         "made 1 lines 1261 refused 0 frames 9 faults 2 sum 59587\n",
         315,

@@ -1,13 +1,18 @@
 //! The machine.
-ghost use Rattle.std.specs.Prelude.{◌≡◌, ◌∷◌, [], IfOk, OnOk, OnErr};
+ghost use Rattle.std.specs.Prelude.{◌≡◌, ◌↔◌, ◌<◌, ◌∷◌, [], IfOk, OnOk, OnErr, None, false};
 ghost use Rattle.gui_base.specs.declared.refusal.Refusal.{Refusal};
 ghost use Rattle.gui_edge.specs.Panel.{PanelState, HasSizes};
 ghost use Rattle.gui_store.specs.Views.{scene_of};
 ghost use Rattle.gui_layout.specs.Solved.{AreSolved};
-ghost use Rattle.gui_refresh.specs.Stages.{sizes_of};
+ghost use Rattle.gui_refresh.specs.Refreshes.{IsAtRest};
+ghost use Rattle.gui_refresh.specs.Stages.{sizes_of, progress_of};
 ghost use Rattle.gui_play.specs.Boards.{machine_of as machine_on};
-ghost use Rattle.gui_play.specs.Panels.{AgreesWith, DrawsScene, GoesOnAgreeing, Refreshes};
+ghost use Rattle.gui_play.specs.Panels.{AgreesWith, CanSend, DrawsPart, DrawsScene, GoesOnAgreeing};
+ghost use Rattle.gui_play.specs.Panels.{Pumps, Refreshes};
 ghost use Rattle.gui_play.specs.Steps.{Refuses};
+ghost use Rattle.owed_defs.specs.Happenings.{debt_of};
+ghost use Rattle.owed_defs.specs.Progress.{Changing};
+ghost use Rattle.owed_defs.specs.declared.Pumped.TheVariants.{Idle};
 ghost use Rattle.run_defs.specs.declared.Reply.TheVariants.{Refused};
 ghost use Rattle.run_laws.specs.Members.{AreJoined};
 
@@ -16,7 +21,7 @@ use gui_edge::{Failed, Panel, Sink};
 use gui_layout::Places;
 use gui_paint::Shown;
 use gui_play::Board;
-use gui_refresh::{Refreshed, Refresher};
+use gui_refresh::{Pumped, Refreshed, Refresher};
 use gui_store::Store;
 use run_defs::{Command, Reply};
 use std::alloc::Global;
@@ -25,8 +30,8 @@ use std::sync::ledger::Ledger;
 /// A scene with its places, handlers of events, focus groups, input devices, the time, the areas of the panel
 /// that are pending, and what sends their pixels of the scene's picture.
 ///
-/// From the opening on, and after each call, each pixel of the panel is pending, or the panel shows the
-/// scene's colour there.
+/// From the opening on, and after each call, each pixel of the panel is pending, or its newest copy has the
+/// scene's colour: the one that is drawn and waits, else the one in flight, else what the panel shows.
 #[derive(Drop)]
 pub struct Gui {
     board: Board,
@@ -45,7 +50,7 @@ impl Gui {
     ghost use Rattle.gui_damage.specs.Adding.{AddsAll};
     ghost use Rattle.gui_edge.specs.Causes.{HasCause};
     ghost use Rattle.gui_edge.specs.Sink.{AppendsPrefix};
-    ghost use Rattle.gui_core.specs.Machines.{machine_of, pending_in};
+    ghost use Rattle.gui_core.specs.Machines.{machine_of, pending_in, refresher_in, stage_of};
     ghost use Rattle.gui_core.specs.Sums.{picture_sum};
 
     /// A machine whose scene has the roots 1, 2 and 3, with screen 3 active, and no handlers, no groups and
@@ -56,7 +61,9 @@ impl Gui {
         ensures whole { IfOk result (λ gui. (pending_in gui).areas ≡ (pending_in gui).panel ∷ []) }
         ensures agrees { IfOk result (λ gui. (panel : PanelState) →
             HasSizes panel (machine_of gui).scene.limits →
-            AgreesWith panel (pending_in gui) (machine_of gui).scene) }
+            AgreesWith (stage_of gui panel) (machine_of gui).scene) }
+        ensures still { IfOk result (λ gui. refresher_in gui
+            ≡ record (refresher_in gui) { drawn = None; free = 2; started = false }) }
     {
         let board = Board::open(alloc, limits)?;
         let refresher = Refresher::open(alloc, limits)?;
@@ -84,6 +91,10 @@ impl Gui {
             (command_owes (machine_of self.old) command.now) }
         ensures agrees { GoesOnAgreeing (pending_in self.old) (pending_in self.new)
             (machine_of self.old).scene (machine_of self.new).scene }
+        ensures refresher { refresher_in self.new ≡ refresher_in self.old }
+        ensures progress { (panel : PanelState) →
+            Changing (debt_of (command_owes (machine_of self.old) command.now))
+            (progress_of (stage_of self.old panel)) (progress_of (stage_of self.new panel)) }
     {
         self.board.begin();
         self.board.apply(command, log)
@@ -112,8 +123,10 @@ impl Gui {
     }
 
     /// The sum of the numbers of the colours of all pixels of the scene's picture, modulo 65536. The picture
-    /// is painted in slices, which `steps` counts as in a refresh. Nothing is sent, and nothing changes.
+    /// is painted in slices into a free buffer, which `steps` counts as in a refresh. Nothing is sent, and
+    /// nothing changes.
     pub fn picture_sum<B: Ledger>(&mut self, steps: &mut Steps<B>) -> u16
+        requires { 0 < (refresher_in self.old).free }
         ensures same { self.new ≡ self.old }
         ensures sum { result ≡ picture_sum (machine_of self.old).scene }
     {
@@ -124,17 +137,31 @@ impl Gui {
         self.refresher.sum_of(&shown, steps)
     }
 
-    /// Sends what is pending of the scene's picture, in slices of at most the panel's limit, and stops at the
-    /// first fault. `steps` counts the pixels that are made black as each slice begins, each mix over a pixel,
+    /// Pumps until nothing of the scene's picture is pending, drawn or in flight, and stops at the first
+    /// fault. `steps` counts the pixels that are made black as each slice begins, each mix over a pixel,
     /// each object that is looked at, and the characters of texts as they are drawn.
     pub fn refresh<P: Panel, B: Ledger>(&mut self, panel: &mut P, steps: &mut Steps<B>) -> Refreshed
-        requires { HasSizes (P.state panel.old) (machine_of self.old).scene.limits }
+        requires { CanSend (stage_of self.old (P.state panel.old)) (machine_of self.old).scene }
         ensures machine { machine_of self.new ≡ machine_of self.old }
-        ensures refreshes { Refreshes (P.state panel.old) (P.state panel.new) (pending_in self.old)
-            (pending_in self.new) (machine_of self.old).scene result }
+        ensures refreshes { Refreshes (stage_of self.old (P.state panel.old))
+            (stage_of self.new (P.state panel.new)) (machine_of self.old).scene result }
         ensures draws { DrawsScene (P.state panel.old) (P.state panel.new) (machine_of self.old).scene
             steps.old steps.new }
     {
         self.board.refresh(&mut self.refresher, panel, steps)
+    }
+
+    /// Goes one step on to bring the scene's picture to the panel: a poll, a start, or a slice that is drawn.
+    /// It is idle exactly where nothing was pending, drawn or in flight. `steps` counts as in a refresh.
+    pub fn pump<P: Panel, B: Ledger>(&mut self, panel: &mut P, steps: &mut Steps<B>) -> Pumped
+        requires { CanSend (stage_of self.old (P.state panel.old)) (machine_of self.old).scene }
+        ensures machine { machine_of self.new ≡ machine_of self.old }
+        ensures pumps { Pumps (stage_of self.old (P.state panel.old)) (stage_of self.new (P.state panel.new))
+            (machine_of self.old).scene result }
+        ensures idle { (result ≡ Idle) ↔ IsAtRest (stage_of self.old (P.state panel.old)) }
+        ensures draws { DrawsPart (stage_of self.old (P.state panel.old))
+            (stage_of self.new (P.state panel.new)) (machine_of self.old).scene result steps.old steps.new }
+    {
+        self.board.pump(&mut self.refresher, panel, steps)
     }
 }

@@ -7,7 +7,7 @@ use std::marker::Model;
 /// The numbers of the calls that fail, and a count of the calls. The first call has the number 1, and calls
 /// past 2^64 - 1 have none.
 #[derive(Drop)]
-pub(crate) struct FaultPlan {
+pub struct FaultPlan {
     numbers: Vec<u64>,
     calls: u64,
     failed: u64,
@@ -26,7 +26,7 @@ impl Model for FaultPlan {
 
 impl FaultPlan {
     /// A plan before the first call.
-    pub(crate) fn new(numbers: Vec<u64>) -> FaultPlan
+    pub fn new(numbers: Vec<u64>) -> FaultPlan
         ensures { result ≡ plan_of numbers.items }
     {
         FaultPlan {
@@ -36,8 +36,15 @@ impl FaultPlan {
         }
     }
 
+    /// How many calls there were.
+    pub fn calls(&self) -> u64
+        ensures { result ≡ self.now.calls }
+    {
+        self.calls
+    }
+
     /// Counts a call, and tells whether it fails.
-    pub(crate) fn call_fails(&mut self) -> bool
+    pub fn call_fails(&mut self) -> bool
         ensures answer { result ≡ next_fails self.old }
         ensures plan { self.new ≡ after_call self.old }
     {

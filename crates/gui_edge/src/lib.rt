@@ -2,16 +2,17 @@
 //! and panels in memory can be told to fail, and adapters stand for readers and writers of std.
 #![tactic(auto)]
 
-mod fault_plan;
+pub mod fault_plan;
 pub mod panel;
 pub mod ppm;
-mod screen;
+pub mod screen;
 pub mod sim_panel;
 pub mod sink;
 pub mod source;
 pub mod text;
 
-pub use panel::{OpenFault, Panel};
+pub use fault_plan::FaultPlan;
+pub use panel::{OpenFault, Panel, Polled};
 pub use sim_panel::{SimPanel, SimPlan};
 pub use sink::{MemSink, Sink, StdSink};
 pub use source::{MemSource, Source, StdSource};

@@ -1,36 +1,45 @@
--- How a refresh comes to show a scene.
+-- How refreshes and pumps come to show a scene.
 use Rattle.std.proofs.Common.{◌≡◌, ◌∙◌, sym, ap, subst, ℕ, ◌+◌, ◌*◌, ◌<◌, ℤ, true, List, length, arith, refl}
 use Rattle.std.specs.Prelude.{Some, None, IfSome, pos}
 use Rattle.std.specs.declared.option.Option.{Option}
+use Rattle.std.proofs.lemmas.Bool.Decides.{nat_tests}
 use Rattle.std.proofs.lemmas.Int.{ints}
 use Rattle.gui_base.specs.declared.color.Rgb565.{Rgb565}
 use Rattle.gui_base.specs.Area.{Rect, has, width_of}
 use Rattle.gui_color.specs.Buffer.{color_at, place, distance}
 use Rattle.gui_edge.specs.Panel.{PanelState, area_of, TellsEach, HasSizes}
 use Rattle.gui_damage.specs.Pending.{Pending}
-use Rattle.gui_refresh.specs.Owing.{standing_of}
-use Rattle.gui_refresh.specs.Refreshes.{RefreshesAt}
-use Rattle.gui_refresh.specs.Stages.{Refreshing, Sizes, Stage, CanRefresh, ShowsPicture, sizes_of, stage}
+use Rattle.gui_refresh.specs.Owing.{standing_of, flight_of}
+use Rattle.gui_refresh.specs.Refreshes.{Keeps, Counts, RefreshesAt, PumpsAt, failures_in}
+use Rattle.gui_refresh.specs.Slicing.{DrawsOne}
+use Rattle.gui_refresh.specs.Stages.{Sizes, Stage, CanRefresh, ShowsPicture, sizes_of, progress_of}
 use Rattle.gui_refresh.specs.declared.Refreshed.{Refreshed}
-use Rattle.gui_refresh.proofs.Owing.{refresh_counts}
+use Rattle.gui_refresh.specs.declared.Refreshed.TheVariants.{Done, Fault}
+use Rattle.gui_refresh.proofs.Owing.{refresh_counts, pump_counts}
+use Rattle.cover_defs.specs.Cover.{items_shown}
+use Rattle.cover_defs.specs.Steps.{slice_extra}
+use Rattle.owed_defs.specs.Flights.{Flies}
 use Rattle.owed_defs.specs.Standings.{Refreshes as SendsPending}
-use Rattle.run_debts.specs.Owing.{slice_limit}
+use Rattle.owed_defs.specs.declared.Pumped.{Pumped}
+use Rattle.owed_defs.specs.declared.Pumped.TheVariants.{Idle, Moved, Waiting, Fault as Failed}
 use Rattle.scene_defs.specs.Scene.{Scene}
 use Rattle.scene_defs.specs.Place.{panel_of}
 use Rattle.scene_defs.specs.Picture.{paint, picture}
 use Rattle.scene_defs.proofs.Pictures.{picture_from_pixels}
-use Rattle.gui_play.specs.Panels.{ShowsScene, Refreshes, stage_of}
+use Rattle.gui_play.specs.Panels.{ShowsScene, CanSend, SendsScene, Refreshes, Leaves, Pumps, DrawsPart}
 
 pub panel_is : (scene : Scene) (p : PanelState) → HasSizes p scene.limits → area_of p ≡ panel_of scene
 panel_is scene p sizes = rw (sizes.width_is, sizes.height_is) refl
 
 -- a refresher and a panel of a scene's sizes
-pub can_refresh : (scene : Scene) (now : Stage) → HasSizes now.panel scene.limits → now.refresher.sizes ≡ sizes_of scene.limits → now.pending.panel ≡ panel_of scene → CanRefresh now
-can_refresh scene now has same panel = record {
-  width = has.width_is ∙ sym (ap (λ (s : Sizes). s.width) same);
-  height = has.height_is ∙ sym (ap (λ (s : Sizes). s.height) same);
-  limit = has.limit_is ∙ sym (ap (λ (s : Sizes). s.limit) same);
-  area = panel ∙ sym (panel_is scene now.panel has);
+pub can_refresh : (scene : Scene) (now : Stage) → CanSend now scene → now.refresher.sizes ≡ sizes_of scene.limits → now.pending.panel ≡ panel_of scene → CanRefresh now
+can_refresh scene now can same panel = record {
+  width = can.sizes.width_is ∙ sym (ap (λ (s : Sizes). s.width) same);
+  height = can.sizes.height_is ∙ sym (ap (λ (s : Sizes). s.height) same);
+  limit = can.sizes.limit_is ∙ sym (ap (λ (s : Sizes). s.limit) same);
+  area = panel ∙ sym (panel_is scene now.panel can.sizes);
+  started = can.started;
+  coming = λ buf is. can.coming buf is ∙ sym (ap (λ (s : Sizes). s.limit) same);
 }
 
 has_sizes : (scene : Scene) (p : PanelState) (now : Stage) → HasSizes p scene.limits → CanRefresh now → now.refresher.sizes ≡ sizes_of scene.limits → HasSizes now.panel scene.limits
@@ -69,43 +78,90 @@ shows_scene scene p sizes tells shows =
       go None len each = tt
       go (Some colors) len each = whole scene colors len each
 
--- the sends of a refresh, by the limits of a scene
-sends_by : (scene : Scene) (old new : Stage) (answer : Refreshed) → HasSizes new.panel scene.limits → old.refresher.sizes ≡ sizes_of scene.limits → RefreshesAt (paint scene) old new answer →
-    SendsPending (scene.limits.width * scene.limits.height) (slice_limit scene.limits) (standing_of old.panel old.pending) (standing_of new.panel new.pending)
-sends_by scene old new answer sizes same r =
-    rw (ap (λ (s : Sizes). s.limit) same, sizes.width_is, sizes.height_is) at (refresh_counts (paint scene) old new answer r)
-
 -- these areas of a scene's panel
 abbrev pub of_panel : Scene → List Rect → Pending
 of_panel scene areas = record { panel = panel_of scene; areas = areas }
 
--- the same refresh, by a refresher of the scene's sizes and areas of its panel
-by_scene : (scene : Scene) (before after : Refreshing) (old new : PanelState) (pending left : Pending) (answer : Refreshed) → before.sizes ≡ sizes_of scene.limits → after.sizes ≡ sizes_of scene.limits → pending.panel ≡ panel_of scene → left.panel ≡ panel_of scene →
-    RefreshesAt (paint scene) (stage before old pending) (stage after new left) answer →
-    RefreshesAt (paint scene) (stage_of scene old (of_panel scene pending.areas)) (stage_of scene new (of_panel scene left.areas)) answer
-by_scene scene before after old new pending left answer same kept panel stays r =
-    subst (λ (s : Sizes). RefreshesAt (paint scene) (stage (record { sizes = s }) old (of_panel scene pending.areas)) (stage_of scene new (of_panel scene left.areas)) answer) same
-    (subst (λ (s : Sizes). RefreshesAt (paint scene) (stage before old (of_panel scene pending.areas)) (stage (record { sizes = s }) new (of_panel scene left.areas)) answer) kept
-    (subst (λ (a : Rect). RefreshesAt (paint scene) (stage before old (record { panel = a; areas = pending.areas })) (stage after new (of_panel scene left.areas)) answer) panel
-    (subst (λ (a : Rect). RefreshesAt (paint scene) (stage before old pending) (stage after new (record { panel = a; areas = left.areas })) answer) stays r)))
+-- the same stage, with areas of the scene's panel
+abbrev pub scened : Scene → Stage → Stage
+scened scene now = record now { pending = of_panel scene now.pending.areas }
 
--- a refresh with the scene's picture is one of the scene
-pub refreshes_scene : (scene : Scene) (before after : Refreshing) (old new : PanelState) (pending left : Pending) (answer : Refreshed) → HasSizes old scene.limits → before.sizes ≡ sizes_of scene.limits → after ≡ before → pending.panel ≡ panel_of scene → TellsEach new →
-    RefreshesAt (paint scene) (stage before old pending) (stage after new left) answer →
-    Refreshes old new (of_panel scene pending.areas) (of_panel scene left.areas) scene answer
-refreshes_scene scene before after old new pending left answer has same kept panel tells r =
-    let kept_sizes = ap (λ (s : Refreshing). s.sizes) kept ∙ same in
-    let sizes = has_sizes scene old (stage after new left) has r.can kept_sizes in
-    let by = by_scene scene before after old new pending left answer same kept_sizes panel (r.can.area ∙ panel_is scene new sizes) r in
-    record {
-      keeps = r.keeps;
-      sizes = sizes;
-      agrees = r.agrees;
-      sends = by.sends;
-      counts = sends_by scene (stage before old pending) (stage after new left) answer sizes same r;
-      flawless = λ e. (r.done e).faults;
-      clear = λ e. (r.done e).none_pending;
-      done = λ e agrees. shows_scene scene new sizes tells ((r.done e).shows agrees);
-      fault = λ e. let stops = r.fault e in let failed = stops.failed.count in let faults = stops.faults in omega arith;
-      stops = by.fault;
-    }
+scened_is : (scene : Scene) (now : Stage) → now.pending.panel ≡ panel_of scene → now ≡ scened scene now
+scened_is scene now panel = ap (λ (a : Rect). record now { pending = record { panel = a; areas = now.pending.areas } }) panel
+
+of_scene : (P : Stage → Stage → Type 0) (scene : Scene) (old new : Stage) → old.pending.panel ≡ panel_of scene → new.pending.panel ≡ panel_of scene → P old new → P (scened scene old) (scened scene new)
+of_scene P scene old new before after h = subst (λ (s : Stage). P s (scened scene new)) (scened_is scene old before) (subst (P old) (scened_is scene new after) h)
+
+panel_on : (scene : Scene) (old new : Stage) → HasSizes old.panel scene.limits → CanRefresh new → new.refresher.sizes ≡ sizes_of scene.limits → new.pending.panel ≡ panel_of scene
+panel_on scene old new has can same = can.area ∙ panel_is scene new.panel (has_sizes scene old.panel new has can same)
+
+module _ (scene : Scene) (old new : Stage) (has : HasSizes old.panel scene.limits) (same : old.refresher.sizes ≡ sizes_of scene.limits) where
+  -- what each step leads to, by the limits of the scene
+  sends_scene : (failed : ℕ) → Keeps (paint scene) old new failed → SendsPending (new.panel.width * new.panel.height) old.refresher.sizes.limit (standing_of old) (standing_of new) → SendsScene old new scene failed
+  sends_scene failed k counts =
+      let now = k.sizes ∙ same in
+      let sizes = has_sizes scene old.panel new has k.can now in
+      record {
+        keeps = k.panel;
+        can = record { sizes = sizes; started = k.can.started; coming = λ buf is. k.can.coming buf is ∙ ap (λ (s : Sizes). s.limit) now };
+        agrees = k.agrees;
+        sends = k.sends;
+        counts = rw (ap (λ (s : Sizes). s.limit) same, sizes.width_is, sizes.height_is) at counts;
+      }
+
+  shows_now : (failed : ℕ) → Keeps (paint scene) old new failed → TellsEach new.panel → ShowsPicture (paint scene) new.panel → ShowsScene new.panel scene
+  shows_now failed k tells shows = shows_scene scene new.panel (has_sizes scene old.panel new has k.can (k.sizes ∙ same)) tells shows
+
+  flies_of : (moves waits : ℕ) → Counts old new moves waits → Flies (flight_of old) (flight_of new) moves waits
+  flies_of moves waits k = record { asked = k.asked; sent = k.sent; waited = k.waited; moved = k.moved }
+
+  free_after : (answer : Refreshed) → RefreshesAt (paint scene) old new answer → 0 < new.refresher.free
+  free_after Done r = (r.done refl).free
+  free_after Fault r = (r.fault refl).free
+
+  some_pending : 0 < length new.pending.areas → (progress_of new).pending ≡ true
+  some_pending some = grind (arith, nat_tests)
+
+  refreshes_by : (answer : Refreshed) → TellsEach new.panel → RefreshesAt (paint scene) old new answer → Refreshes old new scene answer
+  refreshes_by answer tells r = record {
+    sends = sends_scene _ r.keeps (refresh_counts (paint scene) old new answer r);
+    flies = flies_of 0 0 r.counts;
+    free = free_after answer r;
+    flawless = λ e. (r.done e).faults;
+    clear = λ e. (r.done e).rest;
+    done = λ e agrees. shows_now _ r.keeps tells ((r.done e).shows agrees);
+    fault = λ e. let s = r.fault e in let faults = s.faults in let rose = s.rose in omega arith;
+    stops = r.fault;
+    again = λ e. some_pending (r.fault e).pending;
+  }
+
+  leaves_by : (answer : Pumped) → TellsEach new.panel → PumpsAt (paint scene) old new answer → Leaves old new scene answer
+  leaves_by Idle tells r = λ agrees. shows_now _ r.keeps tells (r.leaves.shows agrees)
+  leaves_by Moved tells r = r.leaves
+  leaves_by Waiting tells r = r.leaves
+  leaves_by Failed tells r = r.leaves
+
+  pumps_by : (answer : Pumped) → TellsEach new.panel → PumpsAt (paint scene) old new answer → Pumps old new scene answer
+  pumps_by answer tells r = record {
+    step = r.step;
+    sends = sends_scene _ r.keeps (pump_counts (paint scene) old new answer r);
+    pumping = r.pumping;
+    flies = flies_of _ _ r.counts;
+    leaves = leaves_by answer tells r;
+  }
+
+-- a refresh and a pump with the scene's picture are those of the scene
+pub refreshes_scene : (scene : Scene) (old new : Stage) (answer : Refreshed) → HasSizes old.panel scene.limits → old.refresher.sizes ≡ sizes_of scene.limits → old.pending.panel ≡ panel_of scene → TellsEach new.panel →
+    RefreshesAt (paint scene) old new answer → Refreshes (scened scene old) (scened scene new) scene answer
+refreshes_scene scene old new answer has same panel tells r =
+    of_scene (λ a b. Refreshes a b scene answer) scene old new panel (panel_on scene old new has r.keeps.can (r.keeps.sizes ∙ same)) (refreshes_by scene old new has same answer tells r)
+
+pub pumps_scene : (scene : Scene) (old new : Stage) (answer : Pumped) → HasSizes old.panel scene.limits → old.refresher.sizes ≡ sizes_of scene.limits → old.pending.panel ≡ panel_of scene → TellsEach new.panel →
+    PumpsAt (paint scene) old new answer → Pumps (scened scene old) (scened scene new) scene answer
+pumps_scene scene old new answer has same panel tells r =
+    of_scene (λ a b. Pumps a b scene answer) scene old new panel (panel_on scene old new has r.keeps.can (r.keeps.sizes ∙ same)) (pumps_by scene old new has same answer tells r)
+
+pub draws_part : (scene : Scene) (old new : Stage) (answer : Pumped) (from to : ℕ) → HasSizes old.panel scene.limits → old.refresher.sizes ≡ sizes_of scene.limits → old.pending.panel ≡ panel_of scene → Keeps (paint scene) old new (failures_in answer) →
+    DrawsOne (items_shown scene) (slice_extra scene) old new (failures_in answer) from to → DrawsPart (scened scene old) (scened scene new) scene answer from to
+draws_part scene old new answer from to has same panel k draws =
+    of_scene (λ a b. DrawsOne (items_shown scene) (slice_extra scene) a b (failures_in answer) from to) scene old new panel (panel_on scene old new has k.can (k.sizes ∙ same)) draws

@@ -6,10 +6,9 @@ ghost use Rattle.gui_base.specs.Corners.{rect_of};
 ghost use Rattle.gui_base.specs.Refusing.{result_of};
 ghost use Rattle.gui_change.specs.Canvas.{scene_in, removed_in};
 ghost use Rattle.gui_damage.specs.Pending.{IsPending};
-ghost use Rattle.gui_edge.specs.Panel.{HasSizes};
 ghost use Rattle.gui_edge.specs.Sink.{SinkState};
 ghost use Rattle.gui_layout.specs.Solved.{AreSolved};
-ghost use Rattle.gui_refresh.specs.Stages.{sizes_of};
+ghost use Rattle.gui_refresh.specs.Stages.{sizes_of, stage as sending};
 ghost use Rattle.gui_store.specs.Removed.{removed_by};
 ghost use Rattle.gui_store.specs.Views.{scene_of};
 ghost use Rattle.run_defs.specs.Machine.{first_machine};
@@ -18,7 +17,7 @@ ghost use Rattle.scene_defs.specs.Change.{answer_of};
 ghost use Rattle.scene_defs.specs.Place.{panel_of};
 ghost use Rattle.scene_defs.specs.Scene.{is_there};
 ghost use Rattle.scene_defs.specs.Valid.{IsChange, IsValid};
-ghost use Rattle.gui_play.specs.Panels.{DrawsScene, Refreshes};
+ghost use Rattle.gui_play.specs.Panels.{CanSend, DrawsPart, DrawsScene, Pumps, Refreshes};
 ghost use Rattle.gui_play.specs.Sizes.{AreSized};
 
 use crate::inputs::Inputs;
@@ -30,7 +29,7 @@ use gui_damage::Damage;
 use gui_edge::{Failed, Panel};
 use gui_event::{Groups, Handlers};
 use gui_layout::Places;
-use gui_refresh::{Refreshed, Refresher};
+use gui_refresh::{Pumped, Refreshed, Refresher};
 use gui_store::Store;
 use gui_view::View;
 use run_defs::Reply;
@@ -154,8 +153,8 @@ impl Board {
         self.canvas.change(change, &mut self.damage)
     }
 
-    /// Sends what is pending of the scene's picture, in slices of at most the panel's limit, and stops at the
-    /// first fault. `steps` counts the pixels that are made black as each slice begins, each mix over a pixel,
+    /// Pumps until nothing of the scene's picture is pending, drawn or in flight, and stops at the first
+    /// fault. `steps` counts the pixels that are made black as each slice begins, each mix over a pixel,
     /// each object that is looked at, and the characters of texts as they are drawn.
     pub fn refresh<P: Panel, B: Ledger>(
         &mut self,
@@ -163,11 +162,13 @@ impl Board {
         panel: &mut P,
         steps: &mut Steps<B>,
     ) -> Refreshed
-        requires sizes { HasSizes (P.state panel.old) (machine_of self.old).scene.limits }
+        requires can { CanSend (sending refresher.old (P.state panel.old) (pending_of self.old))
+            (machine_of self.old).scene }
         requires refresher { refresher.old.sizes ≡ sizes_of (machine_of self.old).scene.limits }
         ensures machine { machine_of self.new ≡ machine_of self.old }
-        ensures refreshes { Refreshes (P.state panel.old) (P.state panel.new) (pending_of self.old)
-            (pending_of self.new) (machine_of self.old).scene result }
+        ensures refreshes { Refreshes (sending refresher.old (P.state panel.old) (pending_of self.old))
+            (sending refresher.new (P.state panel.new) (pending_of self.new))
+            (machine_of self.old).scene result }
         ensures refresher { refresher.new.sizes ≡ refresher.old.sizes }
         ensures draws { DrawsScene (P.state panel.old) (P.state panel.new) (machine_of self.old).scene
             steps.old steps.new }
@@ -176,6 +177,32 @@ impl Board {
             canvas: &self.canvas,
         };
         refresher.refresh(&view, &mut self.damage, panel, steps)
+    }
+
+    /// Goes one step on to bring the scene's picture to the panel: a poll, a start, or a slice that is drawn.
+    /// `steps` counts as in a refresh.
+    pub fn pump<P: Panel, B: Ledger>(
+        &mut self,
+        refresher: &mut Refresher,
+        panel: &mut P,
+        steps: &mut Steps<B>,
+    ) -> Pumped
+        requires can { CanSend (sending refresher.old (P.state panel.old) (pending_of self.old))
+            (machine_of self.old).scene }
+        requires refresher { refresher.old.sizes ≡ sizes_of (machine_of self.old).scene.limits }
+        ensures machine { machine_of self.new ≡ machine_of self.old }
+        ensures pumps { Pumps (sending refresher.old (P.state panel.old) (pending_of self.old))
+            (sending refresher.new (P.state panel.new) (pending_of self.new))
+            (machine_of self.old).scene result }
+        ensures refresher { refresher.new.sizes ≡ refresher.old.sizes }
+        ensures draws { DrawsPart (sending refresher.old (P.state panel.old) (pending_of self.old))
+            (sending refresher.new (P.state panel.new) (pending_of self.new))
+            (machine_of self.old).scene result steps.old steps.new }
+    {
+        let view = View {
+            canvas: &self.canvas,
+        };
+        refresher.pump(&view, &mut self.damage, panel, steps)
     }
 }
 

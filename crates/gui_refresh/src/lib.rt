@@ -1,16 +1,19 @@
-//! How a picture comes to a panel: what is pending is painted and sent, slice by slice.
+//! How a picture comes to a panel: what is pending is painted and sent, slice by slice, by two buffers, of
+//! which one may be drawn while the other is in flight.
 #![tactic(auto)]
 
 pub mod laws;
 mod refresher;
+mod spares;
 
+pub use owed_defs::Pumped;
 pub use refresher::Refresher;
 
 /// How a refresh ended.
 #[derive(Clone, Copy, Debug, PartialEq, Eq)]
 pub enum Refreshed {
-    /// Nothing is pending, and the panel shows the picture.
+    /// Nothing is pending, drawn or in flight, and the panel shows the picture.
     Done,
-    /// A flush failed. Its slice is pending again, and what came after it was not sent.
+    /// A start or a transfer failed. Its slice is pending again, and what came after it was not sent.
     Fault,
 }

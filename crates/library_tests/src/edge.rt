@@ -1,14 +1,21 @@
 //! What no clause says: what the adapters make of a reader's and a writer's answers, and the numbers of
 //! faults and colours from outside.
-ghost use Rattle.std.specs.Prelude.{◌≤◌, IfOk};
+ghost use Rattle.std.specs.Prelude.{◌≡◌, ◌≤◌, ◌<◌, None, false, IfOk};
+ghost use Rattle.gui_base.specs.Area.{is_empty, size_of};
+ghost use Rattle.gui_base.specs.Corners.{rect_of};
 
-use gui_base::{Area, Rgb565};
+use gui_base::{Area, Rgb565, Steps};
+use gui_color::DrawBuf;
 use gui_edge::{
-    Failed, MemSink, MemSource, OpenFault, Panel, SimPanel, SimPlan, Sink, Source, StdSink,
+    Failed, MemSink, MemSource, OpenFault, Panel, Polled, SimPanel, SimPlan, Sink, Source, StdSink,
     StdSource,
 };
+use std::alloc::Global;
 use std::io;
 use std::io::{ErrorKind, Read, Write};
+use std::marker::Brand;
+use std::process::Abort;
+use std::sync::ledger::{Blank, Ledger};
 use std::test::Fail;
 
 /// Moves so many bytes at each call, or fails where none is said, and after the last turn moves none.
@@ -93,42 +100,83 @@ fn memory_gives_and_takes(rt: HostRuntime) -> Result<(), Fail> {
     Ok(())
 }
 
-#[test]
-fn a_panel_shows_and_presents(rt: HostRuntime) -> Result<(), Fail> {
-    let alloc = rt.alloc();
-    let frames = MemSink::with_capacity(alloc, 64, Vec::new(alloc))?;
+/// A buffer of two pixels that is black in an area.
+fn black_buffer<L: Ledger>(alloc: Global, area: Area, blank: Blank) -> Result<DrawBuf, Fail>
+    requires name { blank.name ≡ L.name }
+    requires parts { blank.parts ≡ L.parts }
+    requires share { 0 < blank.parts }
+    requires some { is_empty (rect_of area) ≡ false }
+    requires two { size_of (rect_of area) ≡ 2 }
+    ensures { IfOk result (λ buf. buf.area ≡ rect_of area) }
+{
+    let (book, all) = blank.open::<L>();
+    let mut steps = Steps::new(book, all);
+    let mut buf = DrawBuf::open(alloc, 2)?;
+    buf.begin(area, &mut steps);
+    Ok(buf)
+}
+
+/// A panel of two by two pixels, of which the first opening, the second start and the third poll fail. Its
+/// first poll moves one pixel.
+fn small_panel(alloc: Global) -> Result<SimPanel<MemSink>, Fail>
+    ensures sizes { IfOk result (λ it. (it.width ≡ 2) × (it.height ≡ 2) × (it.limit ≡ 4)) }
+    ensures still { IfOk result (λ it. it.coming ≡ None) }
+{
     let plan = SimPlan {
         fail_open: true,
         fail_flush: vec![in alloc; 2]?,
+        fail_poll: vec![in alloc; 3]?,
+        moves: vec![in alloc; 1]?,
     };
+    let frames = MemSink::with_capacity(alloc, 64, Vec::new(alloc))?;
     let mut panel = SimPanel::new(frames, plan);
-    assert_eq!(rt; panel.open(alloc, 2, 2, 4), Err(OpenFault::Failed));
+    match panel.open(alloc, 2, 2, 4) {
+        Err(OpenFault::Failed) => {}
+        _ => return Err(Fail::from("the first opening does not fail")),
+    }
     panel.open(alloc, 2, 2, 4)?;
-    let white = [Rgb565::WHITE, Rgb565::WHITE];
-    let line = Area {
-        x1: 0,
-        y1: 1,
-        x2: 1,
-        y2: 1,
+    Ok(panel)
+}
+
+/// Whether the panel shows these colours.
+fn shows(panel: &SimPanel<MemSink>, colors: [u16; 4]) -> bool
+    requires { (panel.now.width ≡ 2) × (panel.now.height ≡ 2) }
+{
+    [
+        panel.shown(0, 0).0,
+        panel.shown(1, 0).0,
+        panel.shown(0, 1).0,
+        panel.shown(1, 1).0,
+    ] == colors
+}
+
+#[test]
+fn a_panel_shows_and_presents(rt: HostRuntime) -> Result<(), Fail> {
+    let alloc = rt.alloc();
+    let mut panel = small_panel(alloc)?;
+    let line = black_buffer::<Brand>(alloc, Area::at(0, 1, 2, 1), Blank::new(1))?;
+    assert!(rt; panel.start(line).is_ok());
+    assert!(rt; matches!(panel.poll(), Polled::NotYet));
+    assert!(rt; matches!(panel.poll(), Polled::Ready(_)));
+    assert!(rt; shows(&panel, [0xA5A5, 0xA5A5, 0, 0]));
+    let column = black_buffer::<Brand>(alloc, Area::at(1, 0, 1, 2), Blank::new(1))?;
+    let Err((Failed, column)) = panel.start(column) else {
+        return Err(Fail::from("the second start does not fail"));
     };
-    let column = Area {
-        x1: 1,
-        y1: 0,
-        x2: 1,
-        y2: 1,
+    assert!(rt; shows(&panel, [0xA5A5, 0x5A5A, 0, 0x5A5A]));
+    assert!(rt; panel.start(column).is_ok());
+    let Polled::Failed(column) = panel.poll() else {
+        return Err(Fail::from("the third poll does not fail"));
     };
-    assert_eq!(rt; panel.flush(line, &white), Ok(()));
-    assert_eq!(rt; panel.flush(column, &white), Err(Failed));
-    assert_eq!(rt; panel.shown(0, 0), Rgb565(0xA5A5));
-    assert_eq!(rt; panel.shown(1, 0), Rgb565(0x5A5A));
-    assert_eq!(rt; panel.shown(0, 1), Rgb565(0xFFFF));
-    assert_eq!(rt; panel.flush(column, &white), Ok(()));
-    assert_eq!(rt; panel.sent(), 6);
+    assert!(rt; shows(&panel, [0xA5A5, 0x5A5A, 0, 0x5A5A]));
+    assert!(rt; panel.start(column).is_ok());
+    assert!(rt; matches!(panel.poll(), Polled::Ready(_)));
+    assert_eq!(rt; panel.sent(), 8);
     assert_eq!(rt; panel.present(), Ok(()));
     let frames = panel.into_frames();
     assert_eq!(rt;
         frames.bytes(),
-        &b"P6\n2 2\n255\n\xA5\xB6\x29\xFF\xFF\xFF\xFF\xFF\xFF\xFF\xFF\xFF"[..]
+        &b"P6\n2 2\n255\n\xA5\xB6\x29\0\0\0\0\0\0\0\0\0"[..]
     );
     Ok(())
 }

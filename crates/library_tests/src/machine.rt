@@ -1,13 +1,14 @@
 //! What no clause says: that a machine opens where memory is ample, and that a whole refresh comes to a
 //! panel in its slices.
-ghost use Rattle.std.specs.Prelude.{◌≡◌, ◌<◌, IfOk};
+ghost use Rattle.std.specs.Prelude.{◌≡◌, ◌<◌, None, IfOk};
 ghost use Rattle.gui_base.specs.Limits.{with_sizes};
-ghost use Rattle.gui_core.specs.Machines.{machine_of};
+ghost use Rattle.gui_core.specs.Machines.{machine_of, stage_of};
 ghost use Rattle.gui_edge.specs.Panel.{HasSizes};
+ghost use Rattle.gui_play.specs.Panels.{CanSend};
 ghost use Rattle.scene_defs.specs.Valid.{IsChange};
 
 use gui_base::{Handle, Kind, Limits, Refusal, Rgb565, Steps};
-use gui_core::{Gui, Refreshed, Reply};
+use gui_core::{Gui, Pumped, Refreshed, Reply};
 use gui_edge::{MemSink, Panel, SimPanel, SimPlan};
 use run_defs::Command;
 use scene_defs::Change;
@@ -19,12 +20,16 @@ use std::test::Fail;
 
 /// A panel of five by three pixels that takes slices of two lines.
 fn opened_panel(alloc: Global) -> Result<SimPanel<MemSink>, Fail>
-    ensures { IfOk result (λ it. HasSizes (⟦<SimPanel<MemSink> as Panel>⟧.state it) (with_sizes 5 3 2)) }
+    ensures sizes { IfOk result (λ it.
+        HasSizes (⟦<SimPanel<MemSink> as Panel>⟧.state it) (with_sizes 5 3 2)) }
+    ensures still { IfOk result (λ it. it.coming ≡ None) }
 {
     let frames = MemSink::with_capacity(alloc, 0, Vec::new(alloc))?;
     let plan = SimPlan {
         fail_open: false,
         fail_flush: Vec::new(alloc),
+        fail_poll: Vec::new(alloc),
+        moves: Vec::new(alloc),
     };
     let mut panel = SimPanel::new(frames, plan);
     match panel.open(alloc, 5, 3, 10) {
@@ -33,7 +38,8 @@ fn opened_panel(alloc: Global) -> Result<SimPanel<MemSink>, Fail>
     }
 }
 
-/// Refreshes a white panel of five by three pixels in slices of two lines.
+/// Pumps a slice of a white panel of five by three pixels, refreshes the rest in slices of two lines, and finds
+/// nothing left to pump.
 fn refresh_white<L: Ledger>(
     rt: &impl Abort,
     gui: &mut Gui,
@@ -44,11 +50,20 @@ fn refresh_white<L: Ledger>(
     requires parts { blank.parts ≡ L.parts }
     requires some { 0 < blank.parts }
     requires limits { (machine_of gui.old).scene.limits ≡ with_sizes 5 3 2 }
-    requires sizes { HasSizes (⟦<SimPanel<MemSink> as Panel>⟧.state panel.old) (with_sizes 5 3 2) }
+    requires can { CanSend (stage_of gui.old (⟦<SimPanel<MemSink> as Panel>⟧.state panel.old))
+        (machine_of gui.old).scene }
 {
     let (book, all) = blank.open::<L>();
     let mut steps = Steps::new(book, all);
+    for step in ["is drawn", "is started", "arrives"] {
+        assert_eq!(rt;
+            gui.pump(panel, &mut steps),
+            Pumped::Moved,
+            "a slice {step}"
+        );
+    }
     assert_eq!(rt; gui.refresh(panel, &mut steps), Refreshed::Done);
+    assert_eq!(rt; gui.pump(panel, &mut steps), Pumped::Idle);
     assert_eq!(rt; panel.sent(), 15);
     for y in 0..3 {
         for x in 0..5 {

@@ -2,14 +2,14 @@
 use Rattle.std.proofs.Common.{◌≡◌, sym, subst, ℕ, zero, suc, ◌+◌, ◌*◌, ◌<◌, ◌≤◌, List, [], ◌∷◌, ◌++◌, sum_by, ap, map, fold, inl, inr, arith}
 use Rattle.std.proofs.Math.Nat.{mul-le-mul_left, mul-le-mul_right}
 use Rattle.std.proofs.lemmas.List.Sums.{sum_by-cons}
-use Rattle.owed_defs.specs.Happenings.{Happening, Debt, Owes, Finished, Faulted}
+use Rattle.owed_defs.specs.Happenings.{Happening, Debt, Owes, Finished, Faulted, Pumps}
 use Rattle.owed_defs.specs.Windows.{Window, owing, after, windows, overflows, allowed}
 use Rattle.owed_defs.specs.Standings.{Standing, IsOpening, Refreshes}
 use Rattle.std.proofs.lemmas.List.Sums.{fold-append}
-use Rattle.owed_defs.specs.Runs.{Run, opened, changed, done, faulted, IsWithin, SendsAsOwed, LaterDebtsRaise}
-use Rattle.owed_defs.specs.Accounts.{InWindow, IsAccounted, OpensAccounts, ChangeKeepsAccounts, DoneEndsWindow, FaultKeepsWindow}
+use Rattle.owed_defs.specs.Runs.{Run, opened, changed, done, faulted, pumped, IsWithin, SendsAsOwed, LaterDebtsRaise}
+use Rattle.owed_defs.specs.Accounts.{InWindow, IsAccounted, OpensAccounts, ChangeKeepsAccounts, DoneEndsWindow, FaultKeepsWindow, PumpKeepsWindow}
 
--- a list that overflowed so often was given areas enough for it, but for one failed flush each
+-- a list that overflowed so often was given areas enough for it, but for one each that failed to be sent
 few_overflows : (o count failed : ℕ) → (0 < o → 32 * o < count + failed) → o ≤ overflows count + failed
 few_overflows zero count failed h = omega arith
 few_overflows (suc o) count failed h = let k = h (omega arith) in omega (arith, k)
@@ -64,6 +64,10 @@ pub accounted_fault : FaultKeepsWindow
 accounted_fault panel limit [] start old new r h = h
 accounted_fault panel limit (w ∷ ended) start old new r h = accounted_refresh panel limit (w ∷ ended) start old new r h
 
+pub accounted_pump : PumpKeepsWindow
+accounted_pump panel limit [] start old new answer r h = h
+accounted_pump panel limit (w ∷ ended) start old new answer r h = accounted_refresh panel limit (w ∷ ended) start old new r h
+
 -- what was sent in the windows so far
 within_window : (panel limit : ℕ) (w : Window) (ended : ℕ) (start now : Standing) (h : InWindow panel limit w ended start now) →
     now.sent ≤ start.sent + (ended + allowed panel w) + (h.earlier + h.failed) * (limit + panel)
@@ -116,6 +120,9 @@ accounted panel limit start now hs opening (done {before = before} {old = old} r
 accounted panel limit start now hs opening (faulted {before = before} {old = old} run refresh) =
     subst (λ (ws : List Window). IsAccounted panel limit ws start now) (sym (one_more panel before Faulted))
     (accounted_fault panel limit (windows panel before) start old now refresh (accounted panel limit start old before opening run))
+accounted panel limit start now hs opening (pumped {before = before} {old = old} answer run refresh) =
+    subst (λ (ws : List Window). IsAccounted panel limit ws start now) (sym (one_more panel before (Pumps answer)))
+    (accounted_pump panel limit (windows panel before) start old now answer refresh (accounted panel limit start old before opening run))
 
 pub sends_as_owed : SendsAsOwed
 sends_as_owed = record {

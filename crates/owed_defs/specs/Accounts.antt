@@ -1,11 +1,12 @@
 -- What was sent against what was owed.
 use Rattle.std.specs.Prelude.{ℕ, ◌+◌, ◌*◌, ◌<◌, ◌≤◌, List, [], ◌∷◌, sum_by}
-use Rattle.owed_defs.specs.Happenings.{Debt, Owes, Finished, Faulted}
+use Rattle.owed_defs.specs.Happenings.{Debt, Owes, Finished, Faulted, Pumps}
+use Rattle.owed_defs.specs.declared.Pumped.{Pumped}
 use Rattle.owed_defs.specs.Windows.{Window, after, windows, allowed}
 use Rattle.owed_defs.specs.Standings.{Standing, IsOpening, Changes, Refreshes, IsClear}
 
--- How the list has stood in the open window: how often it overflowed, how many flushes failed in it, and how
--- many before it. `ended` is what may be sent for the windows before it.
+-- How the list has stood in the open window: how often it overflowed, how many starts and transfers failed in
+-- it, and how many before it. `ended` is what may be sent for the windows before it.
 pub record InWindow (panel limit : ℕ) (window : Window) (ended : ℕ) (start now : Standing) : Type 0 where
   pub overflowed : ℕ
   pub failed : ℕ
@@ -42,3 +43,8 @@ abbrev pub FaultKeepsWindow : Type 0
 FaultKeepsWindow = (panel limit : ℕ) (run : List Window) (start old new : Standing) →
     Refreshes panel limit old new → IsAccounted panel limit run start old →
     IsAccounted panel limit (after run Faulted) start new
+
+abbrev pub PumpKeepsWindow : Type 0
+PumpKeepsWindow = (panel limit : ℕ) (run : List Window) (start old new : Standing) (answer : Pumped) →
+    Refreshes panel limit old new → IsAccounted panel limit run start old →
+    IsAccounted panel limit (after run (Pumps answer)) start new

@@ -1,6 +1,7 @@
 -- Whole runs, by what each happening does to the panel and to the list of its pending areas.
 use Rattle.std.specs.Prelude.{ℕ, ◌+◌, ◌≤◌, List, [], ◌∷◌, ◌++◌, map}
-use Rattle.owed_defs.specs.Happenings.{Happening, Debt, Owes, Finished, Faulted}
+use Rattle.owed_defs.specs.Happenings.{Happening, Debt, Owes, Finished, Faulted, Pumps}
+use Rattle.owed_defs.specs.declared.Pumped.{Pumped}
 use Rattle.owed_defs.specs.Windows.{Window, windows, allowance}
 use Rattle.owed_defs.specs.Standings.{Standing, IsOpening, Changes, Refreshes, IsClear}
 use Rattle.owed_defs.specs.Accounts.{IsAccounted}
@@ -17,12 +18,15 @@ pub data Run (panel limit : ℕ) (start : Standing) : List Happening → Standin
   faulted : {before : List Happening} {old new : Standing} →
       Run panel limit start before old → Refreshes panel limit old new →
       Run panel limit start (before ++ Faulted ∷ []) new
+  pumped : {before : List Happening} {old new : Standing} (answer : Pumped) →
+      Run panel limit start before old → Refreshes panel limit old new →
+      Run panel limit start (before ++ Pumps answer ∷ []) new
 
 -- no more was sent than may be
 abbrev pub IsWithin : ℕ → ℕ → List Window → Standing → Standing → ℕ → Type 0
 IsWithin panel limit run start now faults = now.sent ≤ start.sent + allowance panel limit run faults
 
--- a run sends no more than its windows owe, and what its failed flushes cost
+-- a run sends no more than its windows owe, and what its failed starts and transfers cost
 pub record SendsAsOwed : Type 0 where
   pub runs : (panel limit : ℕ) (start now : Standing) (hs : List Happening) (faults : ℕ) →
       IsOpening panel start → now.faults ≤ start.faults + faults → Run panel limit start hs now →

@@ -5,11 +5,11 @@ use Rattle.owed_defs.specs.Happenings.{Debt}
 pub record Standing : Type 0 where
   -- how many pixels were sent
   pub sent : ℕ
-  -- how many are pending
+  -- how many are pending, or drawn and wait
   pub pending : ℕ
   -- how many areas are listed
   pub listed : ℕ
-  -- how many flushes failed
+  -- how many starts and transfers failed
   pub faults : ℕ
 
 -- a change lists its debt
@@ -17,9 +17,9 @@ pub record Lists (old new : Standing) (debt : Debt) : Type 0 where
   pub sizes : new.pending ≤ old.pending + debt.size
   pub counts : new.listed ≤ old.listed + debt.count
 
--- or the list overflows to the whole panel
+-- or the list overflows to the whole panel; what is drawn and waits stays
 pub record ListsWhole (panel : ℕ) (old new : Standing) (debt : Debt) : Type 0 where
-  pub whole : (new.pending ≤ panel) × (new.listed ≤ 1)
+  pub whole : (new.pending ≤ old.pending + panel) × (new.listed ≤ 1)
   pub full : 32 < old.listed + debt.count
 
 pub record Changes (panel : ℕ) (old new : Standing) (debt : Debt) : Type 0 where
@@ -27,7 +27,8 @@ pub record Changes (panel : ℕ) (old new : Standing) (debt : Debt) : Type 0 whe
   pub faults : new.faults ≡ old.faults
   pub lists : Lists old new debt ⊎ ListsWhole panel old new debt
 
--- a refresh in which so many flushes failed sends what was pending, and what failed is pending again
+-- a refresh or a pump in which so many starts and transfers failed sends what was pending or drawn, and what
+-- failed is pending again
 pub record Sends (limit : ℕ) (old new : Standing) (failed : ℕ) : Type 0 where
   pub sizes : new.sent + new.pending ≤ old.sent + old.pending + failed * limit
   pub counts : new.listed ≤ old.listed + failed

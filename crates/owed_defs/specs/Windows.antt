@@ -1,6 +1,6 @@
 -- Windows: the parts of a run between two frames that were done.
 use Rattle.std.specs.Prelude.{ℕ, ◌+◌, ◌-◌, ◌*◌, ◌/◌, List, [], ◌∷◌, fold, sum_by}
-use Rattle.owed_defs.specs.Happenings.{Debt, Happening, Owes, Finished, Faulted}
+use Rattle.owed_defs.specs.Happenings.{Debt, Happening, Owes, Finished, Faulted, Pumps}
 
 -- what is owed in a window: pixels, and areas
 pub record Window : Type 0 where
@@ -21,6 +21,7 @@ after [] happening = []
 after (window ∷ ended) (Owes debt) = owing window debt ∷ ended
 after (window ∷ ended) Finished = new_window ∷ (window ∷ ended)
 after (window ∷ ended) Faulted = window ∷ ended
+after (window ∷ ended) (Pumps answer) = window ∷ ended
 
 -- the windows of a run, the last first; in the first one the whole panel is owed besides, as one area
 abbrev pub windows : ℕ → List Happening → List Window
@@ -35,6 +36,6 @@ overflows count = (count - 1) / 32
 abbrev pub allowed : ℕ → Window → ℕ
 allowed panel window = window.size + panel * overflows window.count
 
--- what may be sent in a run of these windows in which so many flushes failed
+-- what may be sent in a run of these windows in which so many starts and transfers failed
 abbrev pub allowance : ℕ → ℕ → List Window → ℕ → ℕ
 allowance panel limit run faults = sum_by (allowed panel) run + faults * (limit + panel)

@@ -1,5 +1,6 @@
 //! Lines that are given to a machine, and what is seen of its scene.
 ghost use Rattle.std.specs.Prelude.{◌≡◌, ◌<◌, IfSome};
+ghost use Rattle.gui_core.specs.Machines.{refresher_in};
 ghost use Rattle.run_defs.specs.Step.{IsCommand};
 
 use arrayvec::ArrayVec;
@@ -25,7 +26,9 @@ fn command_of(line: &str) -> Option<Command<'_>>
 }
 
 /// Whether a line is a command that is done.
-fn is_done(gui: &mut Gui, log: &mut MemSink, line: &str) -> bool {
+fn is_done(gui: &mut Gui, log: &mut MemSink, line: &str) -> bool
+    ensures { refresher_in gui.new ≡ refresher_in gui.old }
+{
     match command_of(line) {
         Some(command) => gui
             .apply(&command, log)
@@ -35,7 +38,9 @@ fn is_done(gui: &mut Gui, log: &mut MemSink, line: &str) -> bool {
 }
 
 /// Gives the lines of a script to the machine, of which each must be done.
-fn play(gui: &mut Gui, log: &mut MemSink, script: &str) -> Result<(), &'static str> {
+fn play(gui: &mut Gui, log: &mut MemSink, script: &str) -> Result<(), &'static str>
+    ensures { refresher_in gui.new ≡ refresher_in gui.old }
+{
     let mut rest = script;
     for _ in 0..script.len() {
         let Some((line, after)) = rest.split_once('\n') else {
@@ -120,6 +125,8 @@ fn sum<L: Ledger>(gui: &mut Gui, blank: Blank) -> u16
     requires name { blank.name ≡ L.name }
     requires parts { blank.parts ≡ L.parts }
     requires some { 0 < blank.parts }
+    requires free { 0 < (refresher_in gui.old).free }
+    ensures { gui.new ≡ gui.old }
 {
     let (book, all) = blank.open::<L>();
     let mut steps = Steps::new(book, all);
@@ -127,7 +134,10 @@ fn sum<L: Ledger>(gui: &mut Gui, blank: Blank) -> u16
 }
 
 /// Whether the colours of the picture have this sum.
-fn has_sum(gui: &mut Gui, wanted: u16) -> bool {
+fn has_sum(gui: &mut Gui, wanted: u16) -> bool
+    requires { 0 < (refresher_in gui.old).free }
+    ensures { gui.new ≡ gui.old }
+{
     sum::<Brand>(gui, Blank::new(1)) == wanted
 }
 
@@ -153,7 +163,10 @@ pub(crate) enum Want {
 }
 
 /// Whether a machine is so.
-fn is_so(gui: &mut Gui, want: Want) -> bool {
+fn is_so(gui: &mut Gui, want: Want) -> bool
+    requires { 0 < (refresher_in gui.old).free }
+    ensures { gui.new ≡ gui.old }
+{
     match want {
         Want::Place(h, at) => stands(gui, h, at),
         Want::Seen(h, at) => is_seen(gui, h, at),
@@ -167,12 +180,9 @@ fn is_so(gui: &mut Gui, want: Want) -> bool {
 }
 
 /// Whether the machine is so after a script, of which each line must be done.
-fn is_so_with(
-    gui: &mut Gui,
-    log: &mut MemSink,
-    script: &str,
-    wanted: &[Want],
-) -> Result<bool, Fail> {
+fn is_so_with(gui: &mut Gui, log: &mut MemSink, script: &str, wanted: &[Want]) -> Result<bool, Fail>
+    requires { 0 < (refresher_in gui.old).free }
+{
     play(gui, log, script)?;
     for want in wanted {
         if !is_so(gui, *want) {

@@ -1,12 +1,12 @@
 -- Laws on scripts and runs.
-use Rattle.std.specs.Prelude.{◌≡◌, ◌≤◌, ◌<◌, true, false, ℕ, List, ◌++◌, length, codes, Ok, Err, None, ⊤}
+use Rattle.std.specs.Prelude.{◌≡◌, ◌≤◌, ◌<◌, true, false, ℕ, List, ◌++◌, length, replicate, codes, Ok, Err, None, ⊤}
 use Rattle.std.specs.List.{flat_map, list_any, AllByRecursion}
 use Rattle.gui_base.specs.declared.refusal.Refusal.{Refusal}
 use Rattle.gui_base.specs.Limits.{Bounds}
 use Rattle.scene_defs.specs.Valid.{IsChange}
 use Rattle.run_defs.specs.declared.Command.{Command}
 use Rattle.run_defs.specs.declared.Outcome.{Outcome}
-use Rattle.run_defs.specs.declared.Line.TheVariants.{Blank, Frame, Make}
+use Rattle.run_defs.specs.declared.Line.TheVariants.{Blank, Frame, Pump, Make}
 use Rattle.run_defs.specs.declared.Reply.TheVariants.{Refused}
 use Rattle.run_defs.specs.Language.{words_of, is_comment, is_control}
 use Rattle.run_defs.specs.Made.{made_says}
@@ -15,20 +15,21 @@ use Rattle.run_defs.specs.Machine.{Machine}
 use Rattle.run_defs.specs.Play.{after_changes}
 use Rattle.run_defs.specs.Step.{is_command_in_range, IsCommand, step, refused}
 use Rattle.run_defs.specs.Script.{Said, parse, max_line, is_newline, without_return, says_cut}
-use Rattle.run_defs.specs.Run.{Moment, Entry, entries, frame_count, told, log_text}
+use Rattle.run_defs.specs.Run.{Moment, Entry, entries, FrameKind, kinds_asked, Fits, told, log_text}
 
--- the log shows the outcomes: two lists with one outcome for each frame that give the same log are the same
--- list
+-- the log shows the outcomes: two lists with one outcome for each frame and each pump that give the same log
+-- are the same list
 abbrev pub ShowsOutcomes : Type 0
 ShowsOutcomes =
     (es : List Entry) (first second : List Outcome) →
-    length first ≡ frame_count es → length second ≡ frame_count es →
+    Fits es first → Fits es second →
     log_text (told es first) ≡ log_text (told es second) → first ≡ second
 
 -- the numbers of what a line says lie in their intervals, and a command is one that may be asked for
 abbrev pub IsInRange : Said → Type 0
 IsInRange (Ok Blank) = ⊤
 IsInRange (Ok Frame) = ⊤
+IsInRange (Ok Pump) = ⊤
 IsInRange (Ok (Make command)) = (is_command_in_range command ≡ true) × IsCommand command
 IsInRange (Err fault) = ⊤
 
@@ -98,6 +99,7 @@ RefusedStepIsNone =
 abbrev pub MadeHasLines : Type 0
 MadeHasLines = (k : ℕ) (limits : Bounds) → length (made_says k limits) ≡ 1261
 
--- eleven of them ask for a frame, whatever its numbers are drawn to be
+-- eleven of them ask for a frame, and none for a pump, whatever its numbers are drawn to be
 abbrev pub MadeHasFrames : Type 0
-MadeHasFrames = (k : ℕ) (limits : Bounds) (now : Moment) → frame_count (entries now (made_says k limits)) ≡ 11
+MadeHasFrames = (k : ℕ) (limits : Bounds) (now : Moment) →
+    flat_map kinds_asked (entries now (made_says k limits)) ≡ replicate 11 FrameKind

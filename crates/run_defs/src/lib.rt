@@ -19,6 +19,7 @@ pub use names::{
     ACTIONS, ActionName, AnimName, AssetName, COMMANDS, DeviceName, Name, PlayName, RowName,
     StyleName, TreeName,
 };
+pub use owed_defs::Pumped;
 use play_defs::AnimSpec;
 pub use refusals::why;
 use scene_defs::Change;
@@ -90,6 +91,8 @@ pub enum Line<'a> {
     Blank,
     /// A frame is refreshed and presented.
     Frame,
+    /// One step is made to bring what is pending to the panel.
+    Pump,
     /// A command is carried out.
     Make(Command<'a>),
 }
@@ -123,16 +126,25 @@ impl From<LineFault> for Refusal {
     }
 }
 
-/// How a frame line ended.
+/// How a frame line or a pump line ended.
 #[derive(Clone, Copy, Debug, PartialEq, Eq)]
 pub enum Outcome {
+    /// A frame line.
+    Frame(FrameEnd),
+    /// A pump line.
+    Pump(Pumped),
+}
+
+/// How a frame line ended.
+#[derive(Clone, Copy, Debug, PartialEq, Eq)]
+pub enum FrameEnd {
     /// The panel shows the picture, and the frame was presented.
     Done,
-    /// A flush failed, and nothing was presented.
+    /// A start or a transfer failed, and nothing was presented.
     Fault,
 }
 
-/// A log shows the outcomes of its frames.
+/// A log shows the outcomes of its frames and pumps.
 #[tactic(auto, using(crate::proofs::Readings::shows_outcomes))]
 pub fn log_shows_outcomes()
     ensures { ShowsOutcomes }

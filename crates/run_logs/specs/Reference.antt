@@ -5,8 +5,9 @@ use Rattle.std.specs.declared.option.Option.{Option}
 use Rattle.gui_base.specs.Limits.{Bounds}
 use Rattle.style_defs.specs.Book.{Book}
 use Rattle.scene_defs.specs.Scene.{first_scene}
+use Rattle.run_defs.specs.declared.FrameEnd.TheVariants.{Done}
 use Rattle.run_defs.specs.declared.Outcome.{Outcome}
-use Rattle.run_defs.specs.declared.Outcome.TheVariants.{Done}
+use Rattle.run_defs.specs.declared.Outcome.TheVariants.{Frame as OfFrame}
 use Rattle.run_defs.specs.Language.{words_of}
 use Rattle.run_defs.specs.Machine.{Machine, first_machine}
 use Rattle.run_defs.specs.Run.{entries, first_moment, told, log_text}
@@ -42,7 +43,7 @@ machine_below n limits = record (first_machine limits) {
 abbrev small_machine : Bounds → Machine
 small_machine = machine_below 32
 
--- the log of a script whose frames have these outcomes
+-- the log of a script whose frames and pumps have these outcomes
 abbrev log_from : List Outcome → List ℕ → Machine → List ℕ
 log_from outcomes script machine =
     log_text (told (entries (first_moment machine) (says Whole script)) outcomes)
@@ -55,7 +56,7 @@ log_of machine outcomes words script =
 abbrev IsLogWith : List Outcome → (Bounds → Machine) → Sample → Type 0
 IsLogWith outcomes machine sample = log_of machine outcomes sample.words sample.script ≡ Some sample.log
 
--- the same of a script that asks for no frame
+-- the same of a script that asks for no frame and no pump
 abbrev IsItsLog : (Bounds → Machine) → Sample → Type 0
 IsItsLog machine sample = IsLogWith [] machine sample
 
@@ -137,4 +138,4 @@ pub record AnimationCornerLogs : Type 0 where
 
 -- a settings screen, whose two frames are done
 abbrev pub SettingsLog : Type 0
-SettingsLog = IsLogWith (Done ∷ Done ∷ []) (machine_below 48) settings
+SettingsLog = IsLogWith (OfFrame Done ∷ OfFrame Done ∷ []) (machine_below 48) settings

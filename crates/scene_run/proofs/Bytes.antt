@@ -3,8 +3,8 @@ use Rattle.std.proofs.Common.{◌≡◌, ◌∙◌, sym, ap, subst, ℕ, ◌+◌
 use Rattle.run_defs.specs.Script.{says_cut}
 use Rattle.run_defs.proofs.Lines.{says_cut-longer}
 use Rattle.scene_script.specs.Cutting.{Cutting, Takes, Finishes, cut_says}
-use Rattle.scene_run.specs.Effects.{Output}
-use Rattle.scene_run.specs.Running.{Running, Reading, Answered, HasRead, GoesOn, Reads, Stops, Ends}
+use Rattle.scene_run.specs.Effects.{Output, Halted}
+use Rattle.scene_run.specs.Running.{Running, Reading, Answered, HasRead, GoesOn, Halts, Reads, Stops, Ends}
 use Rattle.scene_run.proofs.Going.{ready_less, halted_on}
 
 pub reads_none : (now : Reading) → Reads now now []
@@ -18,6 +18,9 @@ reads_byte old new cutter byte takes same goes = record {
   };
   ready = λ room h. goes.ready room h;
 }
+
+pub stops_byte : (old : Reading) (new : Output) (cutter : Cutting) (byte : ℕ) → Takes old.cutter cutter byte → Halts old.run new (cut_says cutter) → Stops old new (byte ∷ [])
+stops_byte old new cutter byte takes halts = record { from = λ first start before h. subst (Halted first start new) (takes.says before h.line) (halts.from first start _ h.answered) }
 
 pub reads_more : (a b c : Reading) (xs ys all : List ℕ) → all ≡ xs ++ ys → Reads a b xs → Reads b c ys → Reads a c all
 reads_more a b c xs ys all e h k = record {

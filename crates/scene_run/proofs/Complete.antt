@@ -1,20 +1,24 @@
 -- A run that nothing fails comes to its end.
-use Rattle.std.proofs.Common.{◌≡◌, ◌∙◌, ◌≤◌, ◌+◌, ap, sym, subst, refl, ℕ, Bool, true, false, cond, ◌||◌, Option, Some, None, List, [], ◌∷◌, length, length-append, replicate, arith, inl, inr}
+use Rattle.std.proofs.Common.{◌≡◌, ◌∙◌, ◌≤◌, ◌+◌, ap, sym, refl, ℕ, zero, suc, Bool, true, false, cond, ◌||◌, Option, Some, None, List, [], ◌∷◌, length, length-append, map, replicate, arith, inl, inr}
 use Rattle.std.specs.Prelude.{nat_lt, if◌then◌else◌}
+use Rattle.std.specs.List.{list_any}
 use Rattle.std.specs.Io.KnownBytes.{Consumes, IsAtEnd}
 use Rattle.std.proofs.KnownBytes.{Consumes-whole}
 use Rattle.std.proofs.lemmas.List.Sums.{sum_by-cons}
 use Rattle.run_defs.specs.declared.Outcome.{Outcome}
-use Rattle.run_defs.specs.declared.Outcome.TheVariants.{Done as FrameDone, Fault as FrameFault}
+use Rattle.owed_defs.specs.declared.Pumped.TheVariants.{Idle, Moved, Waiting, Fault as PumpFault}
+use Rattle.run_defs.specs.declared.FrameEnd.TheVariants.{Done as FrameDone, Fault as FrameFault}
+use Rattle.run_defs.specs.declared.Outcome.TheVariants.{Frame as OfFrame, Pump as OfPump}
 use Rattle.run_defs.specs.Machine.{Machine, first_machine}
 use Rattle.run_defs.specs.Made.{made_says}
-use Rattle.run_defs.specs.Run.{Entry, Silent, Replies, Frames, Told, Replied, Framed, first_moment, entries, frame_count, told, fault_count, is_fault, noted}
+use Rattle.run_defs.specs.Run.{Entry, Silent, Replies, Frames, Pumps, Told, Replied, Framed, Pumped, first_moment, entries, FrameKind, kind_of, Fits, told, fault_count, is_fault, noted}
 use Rattle.run_defs.specs.Script.{Said, Whole, says}
 use Rattle.run_defs.specs.Step.{is_noted}
-use Rattle.run_defs.proofs.Runs.{frame_count-cons}
+use Rattle.run_defs.proofs.MadeFrames.{made_frames}
+use Rattle.run_defs.proofs.Runs.{fits_rest}
 use Rattle.scene_run.specs.Effects.{Output, Answers, WriteFailed}
 use Rattle.scene_run.specs.Headline.{Outside, AnswersScript, RunsAs}
-use Rattle.scene_run.specs.Laws.{NothingFailed, ScriptFits, all_done, told_done, some_refused, CompletesScript, CompletesMade, Completes, RunsAreComplete}
+use Rattle.scene_run.specs.Laws.{NothingFailed, ScriptFits, is_failed, all_done, told_done, some_refused, CompletesScript, CompletesMade, Completes, RunsAreComplete}
 use Rattle.scene_run.specs.Making.{AnswersMade, panel_alone, refused_count}
 use Rattle.scene_run.specs.declared.status.Status.{Status}
 use Rattle.scene_run.specs.declared.status.Status.TheVariants.{Done, Noted, Usage, ReadFault, WriteFault, PanelFault, NoMemory, TooLong}
@@ -22,17 +26,31 @@ use Rattle.scene_run.specs.declared.status.Status.TheVariants.{Done, Noted, Usag
 fault_count-cons : (t : Told) (ts : List Told) → fault_count (t ∷ ts) ≡ cond (is_fault t) 1 0 + fault_count ts
 fault_count-cons t ts = sum_by-cons (λ (t : Told). cond (is_fault t) 1 0) t ts
 
--- outcomes of which none is a fault are all done
-none_faulted : (es : List Entry) (o : List Outcome) → length o ≡ frame_count es → fault_count (told es o) ≡ 0 → o ≡ replicate (length o) FrameDone
-none_faulted [] [] each none = refl
-none_faulted [] (x ∷ o) each none = absurd (omega arith)
-none_faulted (Silent ∷ es) o each none = none_faulted es o (omega (arith, frame_count-cons Silent es)) none
-none_faulted (Replies n lines reply ∷ es) o each none =
-    none_faulted es o (omega (arith, frame_count-cons (Replies n lines reply) es)) (omega (arith, fault_count-cons (Replied n lines reply) (told es o)))
-none_faulted (Frames n k scene ∷ es) [] each none = refl
-none_faulted (Frames n k scene ∷ es) (FrameDone ∷ o) each none =
-    ap (λ (os : List Outcome). FrameDone ∷ os) (none_faulted es o (omega (arith, frame_count-cons (Frames n k scene) es)) (omega (arith, fault_count-cons (Framed n k scene FrameDone) (told es o))))
-none_faulted (Frames n k scene ∷ es) (FrameFault ∷ o) each none = absurd (omega (arith, fault_count-cons (Framed n k scene FrameFault) (told es o)))
+-- where none of the frames and pumps that are told faulted, none of their outcomes failed
+none_failed : (es : List Entry) (o : List Outcome) → Fits es o → fault_count (told es o) ≡ 0 → list_any is_failed o ≡ false
+none_failed [] [] fits none = refl
+none_failed [] (x ∷ o) fits none = cc
+none_failed (Silent ∷ es) o fits none = none_failed es o fits none
+none_failed (Replies n lines reply ∷ es) o fits none = none_failed es o fits (omega (arith, fault_count-cons (Replied n lines reply) (told es o)))
+none_failed (Frames n k scene ∷ es) [] fits none = cc
+none_failed (Frames n k scene ∷ es) (OfFrame FrameDone ∷ o) fits none = none_failed es o (fits_rest _ _ _ _ fits) (omega (arith, fault_count-cons (Framed n k scene FrameDone) (told es o)))
+none_failed (Frames n k scene ∷ es) (OfFrame FrameFault ∷ o) fits none = absurd (omega (arith, fault_count-cons (Framed n k scene FrameFault) (told es o)))
+none_failed (Frames n k scene ∷ es) (OfPump answer ∷ o) fits none = cc
+none_failed (Pumps n ∷ es) [] fits none = cc
+none_failed (Pumps n ∷ es) (OfFrame end ∷ o) fits none = cc
+none_failed (Pumps n ∷ es) (OfPump Idle ∷ o) fits none = none_failed es o (fits_rest _ _ _ _ fits) (omega (arith, fault_count-cons (Pumped n Idle) (told es o)))
+none_failed (Pumps n ∷ es) (OfPump Moved ∷ o) fits none = none_failed es o (fits_rest _ _ _ _ fits) (omega (arith, fault_count-cons (Pumped n Moved) (told es o)))
+none_failed (Pumps n ∷ es) (OfPump Waiting ∷ o) fits none = none_failed es o (fits_rest _ _ _ _ fits) (omega (arith, fault_count-cons (Pumped n Waiting) (told es o)))
+none_failed (Pumps n ∷ es) (OfPump PumpFault ∷ o) fits none = absurd (omega (arith, fault_count-cons (Pumped n PumpFault) (told es o)))
+
+-- frames of which none failed are all done
+frames_done : (n : ℕ) (o : List Outcome) → map kind_of o ≡ replicate n FrameKind → list_any is_failed o ≡ false → o ≡ replicate n (OfFrame FrameDone)
+frames_done zero [] kinds well = refl
+frames_done zero (x ∷ o) kinds well = cc
+frames_done (suc n) [] kinds well = cc
+frames_done (suc n) (OfFrame FrameDone ∷ o) kinds well = ap (λ (os : List Outcome). OfFrame FrameDone ∷ os) (frames_done n o (fits_rest _ _ _ _ kinds) well)
+frames_done (suc n) (OfFrame FrameFault ∷ o) kinds well = cc
+frames_done (suc n) (OfPump answer ∷ o) kinds well = cc
 
 -- then only replies are noted
 refused_alone : (ts : List Told) → fault_count ts ≡ 0 → noted ts ≡ some_refused ts
@@ -40,15 +58,11 @@ refused_alone [] none = refl
 refused_alone (Replied n lines reply ∷ ts) none = ap (λ (b : Bool). is_noted reply || b) (refused_alone ts (omega (arith, fault_count-cons (Replied n lines reply) ts)))
 refused_alone (Framed n k scene FrameDone ∷ ts) none = refused_alone ts (omega (arith, fault_count-cons (Framed n k scene FrameDone) ts))
 refused_alone (Framed n k scene FrameFault ∷ ts) none = absurd (omega (arith, fault_count-cons (Framed n k scene FrameFault) ts))
+refused_alone (Pumped n answer ∷ ts) none = refused_alone ts (omega (arith, fault_count-cons (Pumped n answer) ts))
 
--- where no flush failed, each frame of lines that were answered was done
-done_all : (first : Machine) (old new : Output) (lines : List Said) (h : Answers first old new lines) → new.panel.flush_faults ≤ old.panel.flush_faults →
-    (h.outcomes ≡ all_done first lines) × (fault_count (told (entries (first_moment first) lines) (all_done first lines)) ≡ 0)
-done_all first old new lines h few =
-    let es = entries (first_moment first) lines in
-    let none : fault_count (told es h.outcomes) ≡ 0 = omega (arith, h.effects.panel.faults) in
-    let done : h.outcomes ≡ all_done first lines = none_faulted es h.outcomes h.each none ∙ ap (λ (n : ℕ). replicate n FrameDone) h.each in
-    (done, subst (λ (o : List Outcome). fault_count (told es o) ≡ 0) done none)
+-- where no start and no transfer failed, no line that was answered faulted
+none_told : (first : Machine) (old new : Output) (lines : List Said) (h : Answers first old new lines) → new.panel.flush_faults ≤ old.panel.flush_faults → fault_count (told (entries (first_moment first) lines) h.outcomes) ≡ 0
+none_told first old new lines h few = omega (arith, h.effects.panel.faults)
 
 nothing_left : (bytes taken : List ℕ) (left : Option (List ℕ)) → Consumes (Some bytes) left taken → IsAtEnd left → left ≡ Some []
 nothing_left bytes taken None h end = absurd h
@@ -59,13 +73,15 @@ script_completes : (first : Machine) (bytes taken : List ℕ) (old new : Outside
 script_completes first bytes taken old new status notes told_bytes nothing consumes h is =
     let source = rw told_bytes at consumes in
     let same : taken ≡ bytes = Consumes-whole (Some bytes) new.source.left taken (λ (xs : List ℕ). taken ≡ xs) source h.end refl in
-    let done = done_all first old.output new.output (says Whole taken) h.answers nothing.flushes in
-    let effects = rw done.0 at h.answers.effects in
-    let notes_is = rw done.0 at h.notes_is in
+    let es = entries (first_moment first) (says Whole taken) in
+    let none = none_told first old.output new.output (says Whole taken) h.answers nothing.flushes in
     rw (← same) (record {
       read = nothing_left bytes taken new.source.left source h.end;
-      effects = effects;
-      status_is = is ∙ ap (λ (b : Bool). if b then Noted else Done) (sym notes_is ∙ refused_alone (told_done first (says Whole taken)) done.1);
+      outcomes = h.answers.outcomes;
+      fits = h.answers.fits;
+      well = none_failed es h.answers.outcomes h.answers.fits none;
+      effects = h.answers.effects;
+      status_is = is ∙ ap (λ (b : Bool). if b then Noted else Done) (sym h.notes_is ∙ refused_alone (told es h.answers.outcomes) none);
     })
 
 or_false : (b : Bool) → (b || false) ≡ b
@@ -76,12 +92,16 @@ made_completes : (k : ℕ) (first : Machine) (old new : Output) (status : Status
     CompletesMade k first old new status
 made_completes k first old new status notes few h is =
     let lines = made_says k first.scene.limits in
-    let done = done_all first (panel_alone old.panel) (panel_alone new.panel) lines h.answers few in
-    let notes_is = rw done.0 at h.notes_is in
+    let es = entries (first_moment first) lines in
+    let o = h.answers.outcomes in
+    let none = none_told first (panel_alone old.panel) (panel_alone new.panel) lines h.answers few in
+    let done : o ≡ all_done = frames_done 11 o (h.answers.fits ∙ made_frames k first.scene.limits (first_moment first)) (none_failed es o h.answers.fits none) in
+    let zero_faults = rw done at none in
+    let notes_is = rw done at h.notes_is in
     record {
-      panel = rw done.0 at h.answers.effects.panel;
-      log = rw done.0 at h.log;
-      status_is = is ∙ ap (λ (b : Bool). if b then Noted else Done) (sym notes_is ∙ rw done.1 (or_false (nat_lt 0 (refused_count (told_done first lines)))));
+      panel = rw done at h.answers.effects.panel;
+      log = rw done at h.log;
+      status_is = is ∙ ap (λ (b : Bool). if b then Noted else Done) (sym notes_is ∙ rw zero_faults (or_false (nat_lt 0 (refused_count (told_done first lines)))));
     }
 
 -- what ended by itself is complete

@@ -5,10 +5,10 @@ use Rattle.std.proofs.lemmas.Grind.{flat_map-append}
 use Rattle.std.proofs.lemmas.List.Elements.{filter_map-append}
 use Rattle.std.proofs.lemmas.List.Sums.{fold-append}
 use Rattle.scene_defs.specs.Scene.{Scene}
-use Rattle.run_defs.specs.declared.Line.TheVariants.{Blank, Frame, Make}
+use Rattle.run_defs.specs.declared.Line.TheVariants.{Blank, Frame, Pump, Make}
 use Rattle.run_defs.specs.declared.Outcome.{Outcome}
 use Rattle.run_defs.specs.declared.Reply.{Reply}
-use Rattle.run_defs.specs.Run.{Moment, Entry, Silent, Replies, Frames, entry, Told, Replied, log_lines, done_scene, done_scenes, frame_file, last_done}
+use Rattle.run_defs.specs.Run.{Moment, Entry, Silent, Replies, Frames, Pumps, entry, Told, Replied, log_lines, done_scene, done_scenes, frame_file, last_done}
 use Rattle.run_defs.specs.Script.{Said}
 use Rattle.run_defs.proofs.Runs.{fault_count-append}
 use Rattle.gui_edge.specs.Causes.{Rose}
@@ -34,11 +34,11 @@ Effects-more a b c seen ts us h k = record {
 }
 
 -- the log did not take the lines of a reply whole
-pub breaks_reply : (a b : SinkState) (p : PanelState) (n : ℕ) (lines : List ℕ) (reply : Reply) → AppendsPrefix a.held b.held (log_lines (Replied n lines reply)) → Rose a.faults b.faults →
+unfoldable pub breaks_reply : (a b : SinkState) (p : PanelState) (n : ℕ) (lines : List ℕ) (reply : Reply) → AppendsPrefix a.held b.held (log_lines (Replied n lines reply)) → Rose a.faults b.faults →
     Breaks (output a p) (output b p) (Replies n lines reply)
 breaks_reply a b p n lines reply prefix rose = record {
   last = [];
-  one = omega arith;
+  one = inl refl;
   log = rw (append-nil (log_lines (Replied n lines reply))) prefix;
   frames = λ t. AppendsPrefix-nothing p.frames [];
   shown = tt;
@@ -52,11 +52,15 @@ break_cause a b Silent last h = absurd h
 break_cause a b (Replies number lines reply) last h = inl h
 break_cause a b (Frames number frame scene) [] h = inr h.panel
 break_cause a b (Frames number frame scene) (outcome ∷ outcomes) h = inl h
+break_cause a b (Pumps number) [] h = absurd h
+break_cause a b (Pumps number) (outcome ∷ outcomes) h = inl h
 
 -- where nobody reads the log, only a frame can fail: one that could not be presented
 pub fails_at_frame : (mid : Output) (after : PanelState) (now : Moment) (said : Said) (last : List Outcome) → BreakCause mid (panel_alone after) (entry now said) last → (said ≡ Ok Frame) × (last ≡ [])
 fails_at_frame mid after now (Ok Blank) last h = absurd h
 fails_at_frame mid after now (Ok Frame) [] h = (refl, refl)
 fails_at_frame mid after now (Ok Frame) (outcome ∷ outcomes) h = absurd (omega arith)
+fails_at_frame mid after now (Ok Pump) [] h = absurd h
+fails_at_frame mid after now (Ok Pump) (outcome ∷ outcomes) h = absurd (omega arith)
 fails_at_frame mid after now (Ok (Make command)) last h = absurd (omega arith)
 fails_at_frame mid after now (Err fault) last h = absurd (omega arith)

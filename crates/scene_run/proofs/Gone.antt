@@ -1,6 +1,6 @@
 -- How a script was read so far, and how its reading ends.
-use Rattle.std.proofs.Common.{◌≡◌, sym, ℕ, ◌+◌, ◌-◌, ◌≤◌, ◌<◌, min, Bool, true, false, List, [], ◌∷◌, ◌++◌, length, length-append, length-take, take, append-nil, arith, rules, refl, Option}
-use Rattle.std.specs.Prelude.{Some, None, IfSome, nat_lt, if◌then◌else◌}
+use Rattle.std.proofs.Common.{◌≡◌, ◌∙◌, sym, ap, ℕ, ◌+◌, ◌-◌, ◌≤◌, ◌<◌, min, Bool, true, false, List, [], ◌∷◌, ◌++◌, length, length-append, length-take, take, append-nil, arith, rules, refl, Option}
+use Rattle.std.specs.Prelude.{Some, None, IfSome, is_some, nat_lt, if◌then◌else◌}
 use Rattle.std.proofs.KnownBytes.{Consumes-nil, Appends-nil, Consumes-trans, Consumes-kept}
 use Rattle.std.proofs.lemmas.Bool.Decides.{nat_tests}
 use Rattle.std.proofs.lemmas.List.{places, same_lists, take_all}
@@ -12,15 +12,17 @@ use Rattle.gui_edge.specs.Source.{SourceState}
 use Rattle.gui_edge.specs.Sink.{SinkState}
 use Rattle.gui_edge.specs.Panel.{PanelState, HasSizes}
 use Rattle.scene_defs.specs.Place.{panel_of}
-use Rattle.gui_core.specs.Machines.{machine_of, pending_in}
+use Rattle.gui_core.specs.Machines.{machine_of, pending_in, refresher_in, stage_of}
+use Rattle.gui_core.specs.declared.gui.Gui.{Gui}
+use Rattle.gui_play.specs.Panels.{CanSend}
 use Rattle.scene_script.specs.Cutting.{HasTaken}
 use Rattle.scene_run.specs.Effects.{Output, output, SinceOpening, Halted}
-use Rattle.scene_run.specs.Running.{Running, Reading, Answered, running, reading, Reads, Stops, Ends, StopsAtEnd, Gone}
+use Rattle.scene_run.specs.Running.{Running, Reading, Answered, IsStill, stage_at, running, reading, Reads, Stops, Ends, StopsAtEnd, Gone}
 use Rattle.scene_run.specs.Headline.{Outside, outside, AnswersScript, end_of, end_reached, Ended, Runs}
 use Rattle.scene_run.specs.declared.runner.Runner.{Runner}
 use Rattle.scene_run.specs.declared.status.Status.TheVariants.{Done, Noted, ReadFault, WriteFault, TooLong}
 use Rattle.scene_run.proofs.Going.{halted_on}
-use Rattle.scene_run.proofs.Owing.{accounted_start, sends_as_owed}
+use Rattle.scene_run.proofs.Owing.{accounted_start, flown_start, sends_as_owed, pumps_as_allowed}
 
 abbrev at : SourceState → Output → Outside
 at source output = record { source = source; output = output }
@@ -30,30 +32,41 @@ pub since_none : (p : PanelState) → SinceOpening p p
 since_none p = search (rules, Appends-nil)
 
 -- no line is answered yet, and nothing came to the panel since it was `before`
-pub answered_none : (first : Machine) (before : PanelState) (now : Running) → now.moment ≡ first_moment first → IfSome now.noted (λ m. m ≡ false) → now.pending.areas ≡ panel_of first.scene ∷ [] → HasSizes now.output.panel first.scene.limits →
+pub answered_none : (first : Machine) (before : PanelState) (now : Running) → now.moment ≡ first_moment first → IfSome now.noted (λ m. m ≡ false) → now.pending.areas ≡ panel_of first.scene ∷ [] → IsStill now.refresher → CanSend (stage_at now) first.scene →
     SinceOpening before now.output.panel → Answered first (output now.output.log before) now []
-answered_none first before now is noted whole sizes since =
-    let account = accounted_start first before now.output.panel now.pending whole since in record {
+answered_none first before now is noted whole still can since =
+    let account = accounted_start first before (stage_at now) whole still since in
+    let flown = flown_start first before (stage_at now) whole still (sym can.started ∙ still.started) since in record {
       answers = record {
         outcomes = [];
-        each = refl;
+        fits = refl;
         effects = record { panel = since.effects; log = Appends-nil now.output.log.held; log_faults = omega arith };
-        slices = sizes;
-        owed = sends_as_owed first before now.output.panel now.pending [] [] (omega arith) account;
+        slices = can.sizes;
+        owed = sends_as_owed first before (stage_at now) [] [] (omega arith) account;
+        pumps = pumps_as_allowed first before (stage_at now) [] [] refl flown;
       };
       moment = is;
       noted_is = noted;
       accounted = account;
+      flown = flown;
     }
+
+-- a machine and a panel that begin
+pub can_begin : (gui : Gui) (panel : PanelState) → HasSizes panel (machine_of gui).scene.limits → panel.coming ≡ None → IsStill (refresher_in gui) → CanSend (stage_of gui panel) (machine_of gui).scene
+can_begin gui panel sizes unstarted still = record {
+  sizes = sizes;
+  started = still.started ∙ sym (ap is_some unstarted);
+  coming = λ buf is. let none : Some buf ≡ None = sym is ∙ unstarted in cc;
+}
 
 -- nothing is read yet
 pub gone_start : (first : Machine) (source : SourceState) (log : SinkState) (before panel : PanelState) (runner : Runner) → machine_of runner.gui ≡ first → HasTaken runner.cutter [] → runner.number ≡ 1 → runner.frame ≡ 1 → runner.noted ≡ false →
-    (pending_in runner.gui).areas ≡ panel_of first.scene ∷ [] → HasSizes panel first.scene.limits → SinceOpening before panel → Gone first (outside source log before) source (reading runner log panel) 16777216
-gone_start first source log before panel runner is line number frame noted whole sizes since = record {
+    (pending_in runner.gui).areas ≡ panel_of first.scene ∷ [] → IsStill (refresher_in runner.gui) → CanSend (stage_of runner.gui panel) first.scene → SinceOpening before panel → Gone first (outside source log before) source (reading runner log panel) 16777216
+gone_start first source log before panel runner is line number frame noted whole still can since = record {
   taken = [];
   source_is = Consumes-nil source.left;
   many = refl;
-  read = record { answered = answered_none first before (running runner log panel) (cc) noted whole sizes since; line = line };
+  read = record { answered = answered_none first before (running runner log panel) (cc) noted whole still can since; line = line };
 }
 
 longer : (first : Machine) (start now : Output) (taken : List ℕ) (left : Option (List ℕ)) → Halted first start now (says_cut taken) → Halted first start now (says (end_of left) taken)

@@ -1,15 +1,20 @@
 -- The headline from the reading.
-use Rattle.std.proofs.Common.{◌≡◌, ◌<◌, ◌⊎◌, ap, subst, sym, rules, arith, refl, inl, inr, Option, Some, None, ℕ}
+use Rattle.std.proofs.Common.{◌≡◌, ◌∙◌, ◌<◌, ◌⊎◌, ap, subst, sym, false, rules, arith, refl, inl, inr, Option, Some, None, ℕ}
+use Rattle.std.specs.Option.{ForSome}
 use Rattle.std.proofs.KnownBytes.{Appends-nil}
 use Rattle.gui_base.specs.Limits.{Bounds}
 use Rattle.run_defs.specs.Machine.{Machine, first_machine}
 use Rattle.gui_edge.specs.Causes.{Rose}
-use Rattle.gui_edge.specs.Panel.{PanelState, Opens, StaysClosed}
+use Rattle.gui_color.specs.Buffer.{Buffer}
+use Rattle.gui_edge.specs.Panel.{PanelState, CanStart, Opens, StaysClosed}
+use Rattle.gui_edge.proofs.Flying.{none_started}
+use Rattle.gui_refresh.specs.Stages.{Refreshing}
 use Rattle.gui_edge.specs.Sink.{SinkState}
 use Rattle.gui_edge.specs.Source.{SourceState}
 use Rattle.gui_edge.proofs.Telling.{keeps_telling-some}
 use Rattle.scene_run.specs.Effects.{SinceOpening, WriteFailed}
 use Rattle.scene_run.specs.Headline.{Outside, outside, RunsAs, Headline, IfUnstarted}
+use Rattle.scene_run.specs.Running.{IsStill}
 use Rattle.scene_run.specs.Top.{RunsScene}
 use Rattle.scene_run.specs.declared.status.Status.{Status}
 use Rattle.scene_run.specs.declared.status.Status.TheVariants.{Usage, ReadFault, WriteFault, PanelFault, NoMemory}
@@ -29,6 +34,19 @@ headline_by : (limits : Bounds) (old new : Outside) (status : Status) → RunsAs
 headline_by limits old new PanelFault h = tt
 headline_by limits old new NoMemory h = tt
 headline_by limits old new status h = h
+
+none_of : (o : Option Buffer) → ((buf : Buffer) → o ≡ Some buf → ⊥) → o ≡ None
+none_of None h = refl
+none_of (Some buf) h = absurd (h buf refl)
+
+-- nothing is in flight on a panel that was just opened
+pub unstarted : (closed opened : PanelState) (width height limit : ℕ) → closed.limit ≡ 0 → ForSome closed.coming (CanStart closed) → Opens closed opened width height limit → opened.coming ≡ None
+unstarted closed opened width height limit none flying opens =
+    ap (λ (p : PanelState). p.coming) opens.is ∙ none_of closed.coming (λ buf is. none_started closed buf none (flying buf is))
+
+-- the buffers of a machine that was just opened
+pub still_of : (r : Refreshing) → r ≡ record r { drawn = None; free = 2; started = false } → IsStill r
+still_of r e = record { drawn = ap (λ (s : Refreshing). s.drawn) e; free = ap (λ (s : Refreshing). s.free) e; started = ap (λ (s : Refreshing). s.started) e }
 
 -- a panel that is not asked stays closed
 pub not_asked : (p : PanelState) → p.limit ≡ 0 → StaysClosed p p

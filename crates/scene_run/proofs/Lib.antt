@@ -7,3 +7,4 @@ pub mod Gone
 pub mod Headlines
 pub mod MadeRuns
 pub mod Owing
+pub mod Pumping

@@ -1,24 +1,29 @@
 -- How a run of the made script begins, and how it ends.
-use Rattle.std.proofs.Common.{◌≡◌, ap, refl, ℕ, suc, Bool, true, false, List, [], ◌∷◌, length, arith, rules, inl, inr, if◌then◌else◌}
-use Rattle.gui_core.specs.Machines.{machine_of, pending_in}
+use Rattle.std.proofs.Common.{◌≡◌, ap, refl, ℕ, zero, suc, Bool, true, false, List, [], ◌∷◌, length, replicate, arith, rules, inl, inr, if◌then◌else◌}
+use Rattle.std.specs.Prelude.{Ok, Err, ◌<◌}
+use Rattle.std.specs.List.{flat_map, list_all}
+use Rattle.gui_core.specs.Machines.{machine_of, pending_in, refresher_in, stage_of}
 use Rattle.gui_core.specs.declared.gui.Gui.{Gui}
 use Rattle.gui_edge.specs.Causes.{Rose}
-use Rattle.gui_edge.specs.Panel.{PanelState, HasSizes}
-use Rattle.gui_play.specs.Panels.{AgreesWith}
+use Rattle.gui_edge.specs.Panel.{PanelState}
+use Rattle.gui_play.specs.Panels.{AgreesWith, CanSend}
 use Rattle.run_defs.specs.Machine.{Machine}
 use Rattle.gui_base.specs.Limits.{Bounds}
 use Rattle.run_defs.specs.declared.made.MadeLine.{MadeLine}
 use Rattle.run_defs.specs.Made.{made_script, made_says, made_lines, texts_drawn, line_drawn}
-use Rattle.run_defs.specs.Run.{first_moment, after_all}
+use Rattle.run_defs.specs.declared.Line.TheVariants.{Blank, Frame, Pump, Make}
+use Rattle.run_defs.specs.Run.{Moment, first_moment, after, after_all, entries, FrameKind, kinds_asked}
+use Rattle.run_defs.proofs.MadeFrames.{made_frames}
+use Rattle.run_defs.proofs.Runs.{fits_rest}
 use Rattle.run_defs.specs.Script.{Said}
 use Rattle.scene_defs.specs.Place.{panel_of}
-use Rattle.scene_run.specs.Counting.{making, HasMade}
+use Rattle.scene_run.specs.Counting.{all_say, is_no_pump, making, HasMade}
 use Rattle.scene_run.specs.Effects.{Output, output, SinceOpening, WriteFailed, Halted}
 use Rattle.scene_run.specs.Headline.{MadeEnded}
 use Rattle.scene_run.specs.Making.{AnswersMade, MadeHalted, panel_alone}
 use Rattle.scene_run.specs.declared.made.Making.{Making}
 use Rattle.scene_run.specs.declared.status.Status.TheVariants.{Done, Noted}
-use Rattle.scene_run.specs.Running.{IsReady}
+use Rattle.scene_run.specs.Running.{IsReady, IsStill}
 use Rattle.scene_run.proofs.Effects.{fails_at_frame}
 use Rattle.scene_run.proofs.Going.{halted_cause}
 use Rattle.scene_run.proofs.Gone.{answered_none}
@@ -53,9 +58,29 @@ made_count k limits = drawn_length limits.width limits.height made_lines k
 abbrev pub fresh : Gui → Making
 fresh gui = record { gui = gui; lines = 0; refused = 0; frames = 0; faults = 0 }
 
-pub made_new : (gui : Gui) (before panel : PanelState) → (pending_in gui).areas ≡ panel_of (machine_of gui).scene ∷ [] → HasSizes panel (machine_of gui).scene.limits → SinceOpening before panel → HasMade (machine_of gui) before (fresh gui) panel []
-made_new gui before panel whole sizes since = record { answered = answered_none (machine_of gui) before (making (fresh gui) panel) refl tt whole sizes since; counts = search rules }
+pub made_new : (gui : Gui) (before panel : PanelState) → (pending_in gui).areas ≡ panel_of (machine_of gui).scene ∷ [] → IsStill (refresher_in gui) → CanSend (stage_of gui panel) (machine_of gui).scene → SinceOpening before panel →
+    HasMade (machine_of gui) before (fresh gui) panel []
+made_new gui before panel whole still can since = record {
+  answered = answered_none (machine_of gui) before (making (fresh gui) panel) refl tt whole still can since;
+  counts = search rules;
+  free = let two = still.free in omega arith;
+}
 
-pub made_ready : (gui : Gui) (panel : PanelState) (k : ℕ) (limits : Bounds) → HasSizes panel (machine_of gui).scene.limits → AgreesWith panel (pending_in gui) (machine_of gui).scene →
+pub made_ready : (gui : Gui) (panel : PanelState) (k : ℕ) (limits : Bounds) → CanSend (stage_of gui panel) (machine_of gui).scene → AgreesWith (stage_of gui panel) (machine_of gui).scene →
     IsReady (making (fresh gui) panel) (length (made_script k limits))
-made_ready gui panel k limits sizes agrees = record { sizes = sizes; agrees = agrees; number = omega (arith, made_count k limits); frame = omega (arith, made_count k limits) }
+made_ready gui panel k limits can agrees = record { can = can; agrees = agrees; number = omega (arith, made_count k limits); frame = omega (arith, made_count k limits) }
+
+-- lines that ask for frames alone have no pump
+frames_alone : (now : Moment) (lines : List Said) (n : ℕ) → flat_map kinds_asked (entries now lines) ≡ replicate n FrameKind → list_all is_no_pump lines ≡ true
+frames_alone now [] n h = refl
+frames_alone now (Ok Blank ∷ lines) n h = frames_alone (after now (Ok Blank)) lines n h
+frames_alone now (Ok Frame ∷ lines) zero h = cc
+frames_alone now (Ok Frame ∷ lines) (suc n) h = frames_alone (after now (Ok Frame)) lines n (fits_rest _ _ _ _ h)
+frames_alone now (Ok Pump ∷ lines) zero h = cc
+frames_alone now (Ok Pump ∷ lines) (suc n) h = cc
+frames_alone now (Ok (Make command) ∷ lines) n h = frames_alone (after now (Ok (Make command))) lines n h
+frames_alone now (Err fault ∷ lines) n h = frames_alone (after now (Err fault)) lines n h
+
+-- as the made script does
+pub made_no_pump : (first : Machine) (k : ℕ) (limits : Bounds) → list_all is_no_pump (all_say (made_script k limits)) ≡ true
+made_no_pump first k limits = frames_alone (first_moment first) (made_says k limits) 11 (made_frames k limits (first_moment first))

@@ -1,10 +1,14 @@
 -- A run of the made script under way.
-use Rattle.std.specs.Prelude.{◌≡◌, ℕ, ◌+◌, ◌^◌, ◌<◌, List, [], ◌∷◌, ◌++◌, length, map, Some, None}
+use Rattle.std.specs.Prelude.{◌≡◌, ℕ, Bool, true, false, ◌+◌, ◌^◌, ◌<◌, List, [], ◌∷◌, ◌++◌, length, map}
+use Rattle.std.specs.Prelude.{Some, None, Ok, Err}
+use Rattle.std.specs.List.{list_all}
 use Rattle.std.specs.declared.option.Option.{Option}
 use Rattle.gui_edge.specs.Panel.{PanelState}
-use Rattle.gui_core.specs.Machines.{machine_of, pending_in}
+use Rattle.gui_core.specs.Machines.{machine_of, pending_in, refresher_in}
+use Rattle.run_defs.specs.declared.FrameEnd.TheVariants.{Done, Fault}
+use Rattle.run_defs.specs.declared.Line.TheVariants.{Blank, Frame, Pump, Make}
 use Rattle.run_defs.specs.declared.Outcome.{Outcome}
-use Rattle.run_defs.specs.declared.Outcome.TheVariants.{Done, Fault}
+use Rattle.run_defs.specs.declared.Outcome.TheVariants.{Frame as OfFrame, Pump as OfPump}
 use Rattle.run_defs.specs.Machine.{Machine}
 use Rattle.run_defs.specs.Run.{Told, moment, first_moment, entries, told, done_scenes, fault_count}
 use Rattle.run_defs.specs.Script.{Said, parse}
@@ -18,18 +22,34 @@ making made panel = record {
   noted = None;
   output = panel_alone panel;
   pending = pending_in made.gui;
+  refresher = refresher_in made.gui;
 }
 
--- how many of these frames were done, and how many faulted
+-- how many frames these are, how many of them were done, and how many faulted
+abbrev pub frames_in : Option Outcome → ℕ
+frames_in None = 0
+frames_in (Some (OfFrame end)) = 1
+frames_in (Some (OfPump answer)) = 0
+
 abbrev pub done_in : Option Outcome → ℕ
 done_in None = 0
-done_in (Some Done) = 1
-done_in (Some Fault) = 0
+done_in (Some (OfFrame Done)) = 1
+done_in (Some (OfFrame Fault)) = 0
+done_in (Some (OfPump answer)) = 0
 
 abbrev pub faults_in : Option Outcome → ℕ
 faults_in None = 0
-faults_in (Some Done) = 0
-faults_in (Some Fault) = 1
+faults_in (Some (OfFrame Done)) = 0
+faults_in (Some (OfFrame Fault)) = 1
+faults_in (Some (OfPump answer)) = 0
+
+-- a line that is no pump
+abbrev pub is_no_pump : Said → Bool
+is_no_pump (Ok Blank) = true
+is_no_pump (Ok Frame) = true
+is_no_pump (Ok Pump) = false
+is_no_pump (Ok (Make command)) = true
+is_no_pump (Err fault) = true
 
 -- what was counted of lines of which this is told
 pub record Counts (made : Making) (lines : List Said) (ts : List Told) : Type 0 where
@@ -43,6 +63,8 @@ pub record HasMade (first : Machine) (start : PanelState) (made : Making) (panel
     (lines : List Said) : Type 0 where
   pub answered : Answered first (panel_alone start) (making made panel) lines
   pub counts : Counts made lines (told (entries (first_moment first) lines) answered.answers.outcomes)
+  -- a buffer is free, as after each frame
+  pub free : 0 < (refresher_in made.gui).free
 
 -- A line more was answered, whatever was answered before.
 pub record MakesOn (old new : Making) (before after : PanelState) (said : Said) : Type 0 where
@@ -64,3 +86,4 @@ pub record HasMadeSome (old : Making) (before : PanelState) (all : List (List �
       HasMade first start old before lines → HasMade first start now after (lines ++ all_say taken)
   pub ready : IsReady (making now after) (length left)
   pub few : now.refused + length left < 2 ^ 32
+  pub none : list_all is_no_pump (all_say left) ≡ true

@@ -10,7 +10,7 @@ use Rattle.run_defs.specs.declared.Reply.{Reply}
 use Rattle.run_defs.specs.declared.Reply.TheVariants.{Ok as Fine, Refused}
 use Rattle.run_defs.specs.Machine.{Machine}
 use Rattle.run_defs.specs.Made.{made_says}
-use Rattle.run_defs.specs.Run.{Told, Replied, Framed, first_moment, after_all, entries, told}
+use Rattle.run_defs.specs.Run.{Told, Replied, Framed, Pumped, first_moment, after_all, entries, told}
 use Rattle.run_defs.specs.Run.{done_scenes, fault_count}
 use Rattle.run_defs.specs.Script.{Said}
 use Rattle.gui_edge.specs.Causes.{Rose}
@@ -27,7 +27,8 @@ is_refusal (Refused refusal) = true
 
 abbrev pub is_refused : Told → Bool
 is_refused (Replied number lines reply) = is_refusal reply
-is_refused (Framed number frame scene outcome) = false
+is_refused (Framed number frame scene end) = false
+is_refused (Pumped number answer) = false
 
 -- how many lines were refused
 abbrev pub refused_count : List Told → ℕ

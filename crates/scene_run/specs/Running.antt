@@ -1,21 +1,24 @@
 -- A run under way.
-use Rattle.std.specs.Prelude.{◌≡◌, ℕ, Bool, ◌+◌, ◌^◌, ◌<◌, List, ◌++◌, length, Some, IfSome}
+use Rattle.std.specs.Prelude.{◌≡◌, ℕ, Bool, ◌+◌, ◌^◌, ◌<◌, List, ◌++◌, length, Some, None, IfSome, false}
 use Rattle.std.specs.declared.option.Option.{Option}
 use Rattle.std.specs.Io.KnownBytes.{Consumes}
 use Rattle.run_defs.specs.Machine.{Machine}
 use Rattle.run_defs.specs.Script.{Said, Whole, says, says_cut, max_script}
 use Rattle.run_defs.specs.Run.{Moment, moment, first_moment, after_all, entries, told, noted}
-use Rattle.gui_edge.specs.Panel.{PanelState, HasSizes}
+use Rattle.gui_edge.specs.Panel.{PanelState}
 use Rattle.gui_edge.specs.Sink.{SinkState}
 use Rattle.gui_edge.specs.Source.{SourceState}
 use Rattle.gui_base.specs.Limits.{Bounds}
 use Rattle.gui_damage.specs.Pending.{Pending}
-use Rattle.gui_refresh.specs.Owing.{standing_of}
-use Rattle.gui_core.specs.Machines.{machine_of, pending_in}
-use Rattle.gui_play.specs.Panels.{AgreesWith}
+use Rattle.gui_refresh.specs.Owing.{standing_of, flight_of}
+use Rattle.gui_refresh.specs.Stages.{Refreshing, Stage, stage}
+use Rattle.gui_core.specs.Machines.{machine_of, pending_in, refresher_in}
+use Rattle.gui_play.specs.Panels.{AgreesWith, CanSend}
+use Rattle.owed_defs.specs.Flights.{opening_flight}
 use Rattle.owed_defs.specs.Standings.{Standing}
 use Rattle.run_debts.specs.Accounts.{IsRunAccounted}
 use Rattle.run_debts.specs.Owing.{panel_size}
+use Rattle.run_debts.specs.Pumping.{IsRunFlown}
 use Rattle.scene_script.specs.Cutting.{Cutting, HasTaken}
 use Rattle.scene_run.specs.Effects.{Output, output, Answers, Halted}
 use Rattle.scene_run.specs.Headline.{Outside}
@@ -27,8 +30,13 @@ pub record Running : Type 0 where
   -- whether a line or an action was refused or a frame faulted, where the run keeps that
   pub noted : Option Bool
   pub output : Output
-  -- the areas that are pending
+  -- the areas that are pending, and the refresher's buffers
   pub pending : Pending
+  pub refresher : Refreshing
+
+-- how its panel, its refresher and what is pending stand
+abbrev pub stage_at : Running → Stage
+stage_at now = stage now.refresher now.output.panel now.pending
 
 abbrev pub running : Runner → SinkState → PanelState → Running
 running runner log panel = record {
@@ -36,6 +44,7 @@ running runner log panel = record {
   noted = Some runner.noted;
   output = output log panel;
   pending = pending_in runner.gui;
+  refresher = refresher_in runner.gui;
 }
 
 -- the same with the line that is read
@@ -46,13 +55,19 @@ pub record Reading : Type 0 where
 abbrev pub reading : Runner → SinkState → PanelState → Reading
 reading runner log panel = record { run = running runner log panel; cutter = runner.cutter }
 
--- The panel has the machine's sizes, each of its pixels is pending or right, and there are numbers for so
--- many lines more.
+-- The panel has the machine's sizes and what the machine started, each of its pixels is pending or its newest
+-- copy is right, and there are numbers for so many lines more.
 pub record IsReady (now : Running) (room : ℕ) : Type 0 where
-  pub sizes : HasSizes now.output.panel now.moment.machine.scene.limits
-  pub agrees : AgreesWith now.output.panel now.pending now.moment.machine.scene
+  pub can : CanSend (stage_at now) now.moment.machine.scene
+  pub agrees : AgreesWith (stage_at now) now.moment.machine.scene
   pub number : now.moment.number + room < 2 ^ 32
   pub frame : now.moment.frame + room < 2 ^ 32
+
+-- no buffer is drawn or started, and both are free
+pub record IsStill (refresher : Refreshing) : Type 0 where
+  pub drawn : refresher.drawn ≡ None
+  pub free : refresher.free ≡ 2
+  pub started : refresher.started ≡ false
 
 -- how a panel stands at the opening: the whole of it is pending
 abbrev pub opening : Bounds → PanelState → Standing
@@ -71,7 +86,10 @@ pub record Answered (first : Machine) (start : Output) (now : Running) (lines : 
       (λ m. m ≡ noted (told (entries (first_moment first) lines) answers.outcomes))
   -- what was sent and what is pending is within what the lines owe
   pub accounted : IsRunAccounted first lines answers.outcomes (opening first.scene.limits start.panel)
-      (standing_of now.output.panel now.pending)
+      (standing_of (stage_at now))
+  -- and the pumps answered as they may
+  pub flown : IsRunFlown first lines answers.outcomes
+      (opening_flight start.panel.sent start.panel.waits) (flight_of (stage_at now))
 
 -- These bytes were read from the start on, and the lines that they make whole were answered.
 pub record HasRead (first : Machine) (start : Output) (now : Reading) (bytes : List ℕ) : Type 0 where

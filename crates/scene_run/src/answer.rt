@@ -1,5 +1,5 @@
 //! Answers one line of the script.
-ghost use Rattle.std.specs.Prelude.{◌≡◌, ◌<◌, ◌∷◌, [], ℕ, length, if◌then◌else◌};
+ghost use Rattle.std.specs.Prelude.{◌≡◌, ◌<◌, ◌∷◌, [], ℕ, true, if◌then◌else◌};
 ghost use Rattle.std.specs.Prelude.{IfOk, IfSome, OnOk, OnErr};
 ghost use Rattle.std.specs.declared.option.Option.{Option};
 ghost use Rattle.std.specs.Io.KnownBytes.{Appends};
@@ -7,26 +7,33 @@ ghost use Rattle.std.specs.Option.{option_to_list};
 ghost use Rattle.scene_defs.specs.Scene.{Scene};
 ghost use Rattle.run_defs.specs.Laws.{IsInRange};
 ghost use Rattle.run_defs.specs.Step.{step, is_noted, IsCommand};
-ghost use Rattle.run_defs.specs.Run.{moment, entry, told, machine_after, frames_asked, noted};
-ghost use Rattle.run_defs.specs.Run.{Replied, Framed, reply_line, frame_line, log_lines};
+ghost use Rattle.run_defs.specs.Run.{moment, entry, told, machine_after, Fits, noted};
+ghost use Rattle.run_defs.specs.Run.{Replied, Framed, reply_line, frame_line, pump_line, log_lines};
+ghost use Rattle.run_defs.specs.declared.Outcome.TheVariants.{Frame as OfFrame};
 ghost use Rattle.gui_edge.specs.Causes.{HasCause};
-ghost use Rattle.gui_edge.specs.Panel.{HasSizes};
+ghost use Rattle.gui_edge.specs.Panel.{PanelState};
 ghost use Rattle.gui_edge.specs.Sink.{AppendsPrefix};
 ghost use Rattle.gui_damage.specs.Adding.{AddsAll};
-ghost use Rattle.gui_refresh.specs.Owing.{standing_of};
-ghost use Rattle.gui_core.specs.Machines.{machine_of, pending_in};
-ghost use Rattle.gui_play.specs.Panels.{ShowsScene, AgreesWith, GoesOnAgreeing, Refreshes};
+ghost use Rattle.gui_refresh.specs.Owing.{standing_of, flight_of};
+ghost use Rattle.gui_refresh.specs.Stages.{progress_of};
+ghost use Rattle.gui_core.specs.Machines.{machine_of, pending_in, refresher_in, stage_of};
+ghost use Rattle.gui_play.specs.Panels.{ShowsScene, AgreesWith, CanSend, GoesOnAgreeing, Pumps, Refreshes};
+ghost use Rattle.owed_defs.specs.Happenings.{debt_of};
+ghost use Rattle.owed_defs.specs.Progress.{Changing};
 ghost use Rattle.run_debts.specs.Accounts.{FrameCounts, LineCounts};
 ghost use Rattle.run_debts.specs.Owing.{command_owes};
-ghost use Rattle.scene_run.specs.Effects.{output, PanelEffects, Effects, LineBreaks, FrameBroke};
+ghost use Rattle.run_debts.specs.Pumping.{LineFlies};
+ghost use Rattle.scene_run.specs.Counting.{is_no_pump};
+ghost use Rattle.scene_run.specs.Effects.{output, PanelEffects, Effects, FrameFlies};
+ghost use Rattle.scene_run.specs.Effects.{LineBreaks, FrameBroke};
 ghost use Rattle.scene_run.specs.Making.{is_refusal, refused_count};
 
 use arrayvec::ArrayVec;
 use gui_base::{Refusal, Steps};
-use gui_core::{Gui, Refreshed, Reply};
+use gui_core::{Gui, Pumped, Refreshed, Reply};
 use gui_edge::text::{push_bytes, push_number};
 use gui_edge::{Failed, Panel, Sink};
-use run_defs::Outcome;
+use run_defs::{FrameEnd, Outcome};
 use scene_script::{Command, Line, LineFault, why};
 use std::marker::Brand;
 use std::sync::ledger::{Blank, Ledger};
@@ -35,16 +42,32 @@ use std::sync::ledger::{Blank, Ledger};
 type LogLine = ArrayVec<u8, 64>;
 
 /// The line of the log for a frame.
-fn frame_text(number: u32, frame: u32, outcome: Outcome) -> LogLine
-    ensures { result.items ≡ frame_line number frame outcome }
+fn frame_text(number: u32, frame: u32, end: FrameEnd) -> LogLine
+    ensures { result.items ≡ frame_line number frame end }
 {
     let mut text = ArrayVec::new();
     push_number(&mut text, number);
     push_bytes(&mut text, b" frame ");
     push_number(&mut text, frame);
-    match outcome {
-        Outcome::Done => push_bytes(&mut text, b" done\n"),
-        Outcome::Fault => push_bytes(&mut text, b" fault\n"),
+    match end {
+        FrameEnd::Done => push_bytes(&mut text, b" done\n"),
+        FrameEnd::Fault => push_bytes(&mut text, b" fault\n"),
+    }
+    text
+}
+
+/// The line of the log for a pump.
+fn pump_text(number: u32, answer: Pumped) -> LogLine
+    ensures { result.items ≡ pump_line number answer }
+{
+    let mut text = ArrayVec::new();
+    push_number(&mut text, number);
+    push_bytes(&mut text, b" pump ");
+    match answer {
+        Pumped::Idle => push_bytes(&mut text, b"idle\n"),
+        Pumped::Moved => push_bytes(&mut text, b"moved\n"),
+        Pumped::Waiting => push_bytes(&mut text, b"waiting\n"),
+        Pumped::Fault => push_bytes(&mut text, b"fault\n"),
     }
     text
 }
@@ -104,6 +127,10 @@ fn make<L: Sink>(
         (command_owes (machine_of gui.old) command.now) }
     ensures agrees { GoesOnAgreeing (pending_in gui.old) (pending_in gui.new) (machine_of gui.old).scene
         (machine_of gui.new).scene }
+    ensures refresher { refresher_in gui.new ≡ refresher_in gui.old }
+    ensures progress { (panel : PanelState) →
+        Changing (debt_of (command_owes (machine_of gui.old) command.now))
+        (progress_of (stage_of gui.old panel)) (progress_of (stage_of gui.new panel)) }
 {
     let reply = gui.apply(command, log)?;
     log.put(reply_text(number, reply).as_slice())?;
@@ -115,47 +142,66 @@ fn refresh_counted<P: Panel, B: Ledger>(gui: &mut Gui, panel: &mut P, blank: Bla
     requires name { blank.name ≡ B.name }
     requires parts { blank.parts ≡ B.parts }
     requires some { 0 < blank.parts }
-    requires sizes { HasSizes (P.state panel.old) (machine_of gui.old).scene.limits }
+    requires can { CanSend (stage_of gui.old (P.state panel.old)) (machine_of gui.old).scene }
     ensures machine { machine_of gui.new ≡ machine_of gui.old }
-    ensures refreshes { Refreshes (P.state panel.old) (P.state panel.new) (pending_in gui.old)
-        (pending_in gui.new) (machine_of gui.old).scene result }
+    ensures refreshes { Refreshes (stage_of gui.old (P.state panel.old))
+        (stage_of gui.new (P.state panel.new)) (machine_of gui.old).scene result }
 {
     let (book, all) = blank.open::<B>();
     let mut steps = Steps::new(book, all);
     gui.refresh(panel, &mut steps)
 }
 
-/// Sends what is pending of the picture, and presents the frame where all of it arrived.
-fn show<P: Panel>(gui: &mut Gui, panel: &mut P) -> Result<Outcome, Failed>
-    requires sizes { HasSizes (P.state panel.old) (machine_of gui.old).scene.limits }
-    requires agrees { AgreesWith (P.state panel.old) (pending_in gui.old) (machine_of gui.old).scene }
+/// Goes one step on to bring the picture to the panel, with such a count too.
+fn pump_counted<P: Panel, B: Ledger>(gui: &mut Gui, panel: &mut P, blank: Blank) -> Pumped
+    requires name { blank.name ≡ B.name }
+    requires parts { blank.parts ≡ B.parts }
+    requires some { 0 < blank.parts }
+    requires can { CanSend (stage_of gui.old (P.state panel.old)) (machine_of gui.old).scene }
     ensures machine { machine_of gui.new ≡ machine_of gui.old }
-    ensures sizes { HasSizes (P.state panel.new) (machine_of gui.old).scene.limits }
-    ensures ok { IfOk result (λ outcome. (number frame : ℕ) (seen : Option Scene) →
+    ensures pumps { Pumps (stage_of gui.old (P.state panel.old)) (stage_of gui.new (P.state panel.new))
+        (machine_of gui.old).scene result }
+{
+    let (book, all) = blank.open::<B>();
+    let mut steps = Steps::new(book, all);
+    gui.pump(panel, &mut steps)
+}
+
+/// Sends what is pending of the picture, and presents the frame where all of it arrived.
+fn show<P: Panel>(gui: &mut Gui, panel: &mut P) -> Result<FrameEnd, Failed>
+    requires can { CanSend (stage_of gui.old (P.state panel.old)) (machine_of gui.old).scene }
+    requires agrees { AgreesWith (stage_of gui.old (P.state panel.old)) (machine_of gui.old).scene }
+    ensures machine { machine_of gui.new ≡ machine_of gui.old }
+    ensures can { CanSend (stage_of gui.new (P.state panel.new)) (machine_of gui.old).scene }
+    ensures ok { IfOk result (λ end. (number frame : ℕ) (seen : Option Scene) →
         PanelEffects (P.state panel.old) (P.state panel.new) seen
-        (Framed number frame (machine_of gui.old).scene outcome ∷ [])) }
-    ensures counts { IfOk result (λ outcome. FrameCounts (machine_of gui.old).scene.limits (outcome ∷ [])
-        (standing_of (P.state panel.old) (pending_in gui.old))
-        (standing_of (P.state panel.new) (pending_in gui.new))) }
-    ensures agrees { IfOk result (λ outcome.
-        AgreesWith (P.state panel.new) (pending_in gui.new) (machine_of gui.old).scene) }
+        (Framed number frame (machine_of gui.old).scene end ∷ [])) }
+    ensures counts { IfOk result (λ end. FrameCounts (machine_of gui.old).scene.limits (OfFrame end ∷ [])
+        (standing_of (stage_of gui.old (P.state panel.old)))
+        (standing_of (stage_of gui.new (P.state panel.new)))) }
+    ensures flies { IfOk result (λ end. FrameFlies (machine_of gui.old) end
+        (flight_of (stage_of gui.old (P.state panel.old)))
+        (flight_of (stage_of gui.new (P.state panel.new)))) }
+    ensures agrees { IfOk result (λ end.
+        AgreesWith (stage_of gui.new (P.state panel.new)) (machine_of gui.old).scene) }
+    ensures free { IfOk result (λ end. 0 < (refresher_in gui.new).free) }
     ensures err { OnErr result
         (FrameBroke (P.state panel.old) (P.state panel.new) (machine_of gui.old).scene) }
     ensures err_counts { OnErr result (FrameCounts (machine_of gui.old).scene.limits []
-        (standing_of (P.state panel.old) (pending_in gui.old))
-        (standing_of (P.state panel.new) (pending_in gui.new))) }
+        (standing_of (stage_of gui.old (P.state panel.old)))
+        (standing_of (stage_of gui.new (P.state panel.new)))) }
 {
     match refresh_counted::<P, Brand>(gui, panel, Blank::new(1)) {
         Refreshed::Done => {
             panel.present()?;
-            Ok(Outcome::Done)
+            Ok(FrameEnd::Done)
         }
-        Refreshed::Fault => Ok(Outcome::Fault),
+        Refreshed::Fault => Ok(FrameEnd::Fault),
     }
 }
 
-/// What became of a line: the outcome of a frame, whether the line was refused, and whether it or an action
-/// was refused or the frame faulted.
+/// What became of a line: the outcome of a frame or a pump, whether the line was refused, and whether it or
+/// an action was refused or the frame faulted.
 #[derive(Clone, Copy)]
 pub struct LineEnd {
     pub outcome: Option<Outcome>,
@@ -172,16 +218,17 @@ pub fn answer<L: Sink, P: Panel>(
     log: &mut L,
     panel: &mut P,
 ) -> Result<LineEnd, Failed>
-    requires sizes { HasSizes (P.state panel.old) (machine_of gui.old).scene.limits }
-    requires agrees { AgreesWith (P.state panel.old) (pending_in gui.old) (machine_of gui.old).scene }
+    requires can { CanSend (stage_of gui.old (P.state panel.old)) (machine_of gui.old).scene }
+    requires agrees { AgreesWith (stage_of gui.old (P.state panel.old)) (machine_of gui.old).scene }
     requires in_range { IsInRange said.now }
     ensures machine { machine_of gui.new ≡ machine_after (machine_of gui.old) said.now }
-    ensures sizes { HasSizes (P.state panel.new) (machine_of gui.old).scene.limits }
+    ensures can { CanSend (stage_of gui.new (P.state panel.new)) (machine_of gui.old).scene }
     ensures ok { IfOk result (λ end. (seen : Option Scene) → IfSome seen (ShowsScene (P.state panel.old)) →
         Effects (output (L.state log.old) (P.state panel.old)) (output (L.state log.new) (P.state panel.new))
         seen (told (entry (moment (machine_of gui.old) number frame) said.now ∷ [])
         (option_to_list end.outcome))) }
-    ensures asked { IfOk result (λ end. length (option_to_list end.outcome) ≡ frames_asked said.now) }
+    ensures fits { IfOk result (λ end. Fits
+        (entry (moment (machine_of gui.old) number frame) said.now ∷ []) (option_to_list end.outcome)) }
     ensures noted { IfOk result (λ end. end.noted ≡ noted
         (told (entry (moment (machine_of gui.old) number frame) said.now ∷ [])
         (option_to_list end.outcome))) }
@@ -189,13 +236,18 @@ pub fn answer<L: Sink, P: Panel>(
         (told (entry (moment (machine_of gui.old) number frame) said.now ∷ [])
         (option_to_list end.outcome)) ≡ (if end.refused then 1 else 0)) }
     ensures counts { IfOk result (λ end. LineCounts (machine_of gui.old).scene.limits (machine_of gui.old)
-        said.now (option_to_list end.outcome) (standing_of (P.state panel.old) (pending_in gui.old))
-        (standing_of (P.state panel.new) (pending_in gui.new))) }
+        said.now (option_to_list end.outcome) (standing_of (stage_of gui.old (P.state panel.old)))
+        (standing_of (stage_of gui.new (P.state panel.new)))) }
+    ensures flies { IfOk result (λ end. LineFlies (machine_of gui.old) said.now
+        (option_to_list end.outcome) (flight_of (stage_of gui.old (P.state panel.old)))
+        (flight_of (stage_of gui.new (P.state panel.new)))) }
     ensures agrees { IfOk result (λ end.
-        AgreesWith (P.state panel.new) (pending_in gui.new) (machine_of gui.new).scene) }
+        AgreesWith (stage_of gui.new (P.state panel.new)) (machine_of gui.new).scene) }
+    ensures free { IfOk result (λ end. is_no_pump said.now ≡ true →
+        0 < (refresher_in gui.old).free → 0 < (refresher_in gui.new).free) }
     ensures err { OnErr result (LineBreaks (machine_of gui.old) number frame said.now
         (output (L.state log.old) (P.state panel.old)) (output (L.state log.new) (P.state panel.new))
-        (pending_in gui.old) (pending_in gui.new)) }
+        (stage_of gui.old (P.state panel.old)) (stage_of gui.new (P.state panel.new))) }
 {
     let mut end = LineEnd {
         outcome: None,
@@ -212,10 +264,16 @@ pub fn answer<L: Sink, P: Panel>(
                 Ok(end)
             }
             Line::Frame => {
-                let outcome = show(gui, panel)?;
-                log.put(frame_text(number, frame, outcome).as_slice())?;
-                end.outcome = Some(outcome);
-                end.noted = outcome == Outcome::Fault;
+                let shown = show(gui, panel)?;
+                log.put(frame_text(number, frame, shown).as_slice())?;
+                end.outcome = Some(Outcome::Frame(shown));
+                end.noted = shown == FrameEnd::Fault;
+                Ok(end)
+            }
+            Line::Pump => {
+                let pumped = pump_counted::<P, Brand>(gui, panel, Blank::new(1));
+                log.put(pump_text(number, pumped).as_slice())?;
+                end.outcome = Some(Outcome::Pump(pumped));
                 Ok(end)
             }
         },

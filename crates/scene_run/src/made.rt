@@ -1,10 +1,11 @@
 //! Runs the made script.
 ghost use Rattle.std.specs.Prelude.{◌≡◌, ◌⊎◌, ◌+◌, ◌≤◌, ◌<◌, ◌^◌, ◌∷◌, ◌++◌, [], ◌||◌, length, if◌then◌else◌};
 ghost use Rattle.std.specs.Io.KnownBytes.{Appends};
-ghost use Rattle.std.specs.Prelude.{OnOk, OnErr, ℕ, List, decimal, nat_lt};
+ghost use Rattle.std.specs.Prelude.{OnOk, OnErr, ℕ, List, decimal, nat_lt, true, None};
+ghost use Rattle.std.specs.List.{list_all};
 ghost use Rattle.arrayvec.specs.ArrayVec.{array_vec_len};
 ghost use Rattle.gui_base.specs.Bounded.{bounds_of};
-ghost use Rattle.gui_core.specs.Machines.{machine_of, pending_in};
+ghost use Rattle.gui_core.specs.Machines.{machine_of, pending_in, refresher_in, stage_of};
 ghost use Rattle.gui_core.specs.Sums.{picture_sum};
 ghost use Rattle.gui_edge.specs.Causes.{HasCause, Rose};
 ghost use Rattle.gui_edge.specs.Panel.{PanelState, HasSizes};
@@ -16,11 +17,12 @@ ghost use Rattle.run_defs.specs.Made.{made_says, made_script};
 ghost use Rattle.run_defs.specs.Run.{Told};
 ghost use Rattle.run_defs.specs.Script.{Said};
 ghost use Rattle.scene_defs.specs.Place.{panel_of};
-ghost use Rattle.scene_run.specs.Counting.{all_say, making, done_in, faults_in, Counts, HasMade, MakesOn};
+ghost use Rattle.scene_run.specs.Counting.{all_say, is_no_pump, making, done_in, faults_in, Counts, HasMade};
+ghost use Rattle.scene_run.specs.Counting.{MakesOn};
 ghost use Rattle.scene_run.specs.Effects.{output, Halted, SinceOpening};
 ghost use Rattle.scene_run.specs.Headline.{MadeEnded, IfUnstarted};
 ghost use Rattle.scene_run.specs.Making.{panel_alone, summary, unheard};
-ghost use Rattle.scene_run.specs.Running.{IsReady, Halts};
+ghost use Rattle.scene_run.specs.Running.{IsReady, IsStill, Halts};
 
 use crate::answer::{LineEnd, answer};
 use crate::status::Status;
@@ -29,7 +31,7 @@ use gui_base::{Limits, Steps};
 use gui_core::Gui;
 use gui_edge::text::{push_bytes, push_number};
 use gui_edge::{Failed, Panel, Sink};
-use run_defs::Outcome;
+use run_defs::{FrameEnd, Outcome};
 use scene_script::{Line, LineFault, Maker, parse_line};
 use std::marker::Brand;
 use std::sync::ledger::{Blank, Ledger};
@@ -101,19 +103,20 @@ impl Making {
             self.refused += 1;
         }
         match end.outcome {
-            None => {}
-            Some(Outcome::Done) => self.frames += 1,
-            Some(Outcome::Fault) => self.faults += 1,
+            Some(Outcome::Frame(FrameEnd::Done)) => self.frames += 1,
+            Some(Outcome::Frame(FrameEnd::Fault)) => self.faults += 1,
+            Some(Outcome::Pump(_)) | None => {}
         }
     }
 
-    /// Answers a line. Nobody reads its reply.
+    /// Answers a line that is no pump. Nobody reads its reply.
     fn take_line<P: Panel>(
         &mut self,
         said: &Result<Line, LineFault>,
         panel: &mut P,
     ) -> Result<(), Failed>
         requires in_range { IsInRange said.now }
+        requires no_pump { is_no_pump said.now ≡ true }
         requires ready { IsReady (making self.old (P.state panel.old)) 1 }
         requires refused { self.old.refused + 1 < 2 ^ 32 }
         ensures ok { OnOk result
@@ -134,6 +137,7 @@ impl Making {
         requires name { blank.name ≡ B.name }
         requires parts { blank.parts ≡ B.parts }
         requires some { 0 < blank.parts }
+        requires free { 0 < (refresher_in self.old.gui).free }
         ensures same { self.new ≡ self.old }
         ensures sum { result ≡ picture_sum (machine_of self.old.gui).scene }
     {
@@ -171,10 +175,11 @@ impl Making {
     }
 }
 
-/// Answers the lines that a maker gives.
+/// Answers the lines that a maker gives, of which none is a pump.
 fn take_lines<P: Panel>(run: &mut Making, maker: &mut Maker, panel: &mut P) -> Result<(), Failed>
     requires ready { IsReady (making run.old (P.state panel.old)) (length maker.old) }
     requires refused { run.old.refused + length maker.old < 2 ^ 32 }
+    requires no_pump { list_all is_no_pump (all_say maker.old) ≡ true }
     ensures ok { OnOk result ((first : Machine) (start : PanelState) (lines : List Said) →
         HasMade first start run.old (P.state panel.old) lines →
         HasMade first start run.new (P.state panel.new) (lines ++ all_say maker.old)) }
@@ -192,6 +197,7 @@ fn take_lines<P: Panel>(run: &mut Making, maker: &mut Maker, panel: &mut P) -> R
 
 /// Writes the summary of lines that were answered and counted.
 fn tell<L: Sink>(run: &mut Making, k: u16, log: &mut L) -> Result<(), Failed>
+    requires free { 0 < (refresher_in run.old.gui).free }
     ensures same { run.new ≡ run.old }
     ensures ok { OnOk result ((lines : List Said) (ts : List Told) → Counts run.old lines ts →
         Appends (L.state log.old).held (L.state log.new).held
@@ -209,6 +215,7 @@ fn tell<L: Sink>(run: &mut Making, k: u16, log: &mut L) -> Result<(), Failed>
 /// Writes the summary of the made script of a number, whose lines were all answered, and tells how the run
 /// ended.
 fn finish<L: Sink>(run: &mut Making, k: u16, log: &mut L) -> Status
+    requires free { 0 < (refresher_in run.old.gui).free }
     ensures runs { (first : Machine) (start panel : PanelState) →
         HasMade first start run.old panel (made_says k first.scene.limits) →
         MadeEnded k first (output (L.state log.old) start) (output (L.state log.new) panel) result }
@@ -261,8 +268,10 @@ pub(crate) fn run_made<L: Sink, P: Panel>(
     requires most { k ≤ 1000 }
     requires limits { bounds_of limits.now ≡ (machine_of gui).scene.limits }
     requires sizes { HasSizes (P.state panel.old) (machine_of gui).scene.limits }
+    requires unstarted { (P.state panel.old).coming ≡ None }
     requires whole { (pending_in gui).areas ≡ panel_of (machine_of gui).scene ∷ [] }
-    requires agrees { AgreesWith (P.state panel.old) (pending_in gui) (machine_of gui).scene }
+    requires still { IsStill (refresher_in gui) }
+    requires agrees { AgreesWith (stage_of gui (P.state panel.old)) (machine_of gui).scene }
     ensures runs { (before : PanelState) → SinceOpening before (P.state panel.old) →
         MadeEnded k (machine_of gui) (output (L.state log.old) before)
         (output (L.state log.new) (P.state panel.new)) result }

@@ -1,15 +1,15 @@
 //! Reads the script in pieces.
-ghost use Rattle.std.specs.Prelude.{◌≡◌, ◌⊎◌, ◌+◌, ◌∷◌, []};
+ghost use Rattle.std.specs.Prelude.{◌≡◌, ◌⊎◌, ◌+◌, ◌∷◌, [], None};
 ghost use Rattle.scene_defs.specs.Place.{panel_of};
 ghost use Rattle.run_defs.specs.Machine.{Machine};
 ghost use Rattle.run_defs.specs.Script.{max_script};
 ghost use Rattle.gui_edge.specs.Causes.{Rose};
-ghost use Rattle.gui_core.specs.Machines.{machine_of, pending_in};
+ghost use Rattle.gui_core.specs.Machines.{machine_of, pending_in, refresher_in, stage_of};
 ghost use Rattle.gui_play.specs.Panels.{AgreesWith};
 ghost use Rattle.gui_edge.specs.Panel.{PanelState, HasSizes};
 ghost use Rattle.scene_run.specs.Effects.{SinceOpening};
 ghost use Rattle.scene_run.specs.Headline.{Outside, outside, Runs, IfUnstarted};
-ghost use Rattle.scene_run.specs.Running.{running, reading, IsReady, Gone};
+ghost use Rattle.scene_run.specs.Running.{running, reading, IsReady, IsStill, Gone};
 
 use crate::runner::Runner;
 use crate::status::Status;
@@ -28,8 +28,10 @@ pub fn read_script<S: Source, L: Sink, P: Panel>(
     panel: &mut P,
 ) -> Status
     requires sizes { HasSizes (P.state panel.old) (machine_of gui).scene.limits }
+    requires unstarted { (P.state panel.old).coming ≡ None }
     requires whole { (pending_in gui).areas ≡ panel_of (machine_of gui).scene ∷ [] }
-    requires agrees { AgreesWith (P.state panel.old) (pending_in gui) (machine_of gui).scene }
+    requires still { IsStill (refresher_in gui) }
+    requires agrees { AgreesWith (stage_of gui (P.state panel.old)) (machine_of gui).scene }
     ensures runs { (before : PanelState) → SinceOpening before (P.state panel.old) →
         Runs (machine_of gui) (outside (S.state source.old) (L.state log.old) before)
         (outside (S.state source.new) (L.state log.new) (P.state panel.new)) result }

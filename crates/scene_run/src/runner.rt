@@ -4,6 +4,7 @@ ghost use Rattle.std.specs.Prelude.{OnOk, OnErr, IfSome, false};
 ghost use Rattle.std.specs.Option.{option_to_list};
 ghost use Rattle.run_defs.specs.Laws.{IsInRange};
 ghost use Rattle.scene_script.specs.Cutting.{HasTaken, cut_says};
+ghost use Rattle.scene_run.specs.Counting.{frames_in};
 ghost use Rattle.scene_run.specs.Effects.{output};
 ghost use Rattle.scene_run.specs.Running.{running, reading, IsReady, GoesOn, Halts, Reads, Stops, Ends};
 ghost use Rattle.scene_run.specs.Running.{StopsAtEnd};
@@ -12,6 +13,7 @@ use crate::answer::{LineEnd, answer};
 use crate::status::Status;
 use gui_core::Gui;
 use gui_edge::{Failed, Panel, Sink};
+use run_defs::Outcome;
 use scene_script::{Cut, Cutter, Line, LineFault, parse_line};
 
 /// The machine, the line that is read, the numbers of the next line and the next frame, and whether a line
@@ -50,11 +52,11 @@ impl Runner {
         ensures gui { self.new.gui ≡ self.old.gui }
         ensures line { self.new.cutter ≡ self.old.cutter }
         ensures number { self.new.number ≡ self.old.number + 1 }
-        ensures frame { self.new.frame ≡ self.old.frame + length (option_to_list end.outcome) }
+        ensures frame { self.new.frame ≡ self.old.frame + frames_in end.outcome }
         ensures noted { self.new.noted ≡ (self.old.noted || end.noted) }
     {
         self.number += 1;
-        if end.outcome.is_some() {
+        if let Some(Outcome::Frame(_)) = end.outcome {
             self.frame += 1;
         }
         self.noted = self.noted || end.noted;

@@ -39,6 +39,7 @@ fn line<'a>(name: Name, fields: &mut Fields<'a>) -> Line<'a>
 {
     match name {
         Name::Frame => Line::Frame,
+        Name::Pump => Line::Pump,
         Name::Tree(name) => Line::Make(Command::Change(tree_change(name, fields))),
         Name::Row(name) => Line::Make(Command::Change(row_change(name, fields))),
         Name::Style(name) => Line::Make(Command::Change(style_change(name, fields))),

@@ -1,16 +1,20 @@
-//! Frames of objects after a flush that failed.
+//! Frames of objects after a start or a transfer that failed, and after changes of what is in flight. The logs
+//! that are expected come from a second implementation.
 
 use scene_run::Status;
 use std::alloc::{AllocError, Global};
 use std::process::Abort;
 use std::test::Fail;
-use test_runs::Fault::{self, Flush};
+use test_runs::Fault::{self, Poll, Start};
 use test_runs::{Outside, WORDS};
 
 /// A run of 4 by 2 pixels over objects in memory.
 struct Case {
     name: &'static str,
     faults: &'static [Fault],
+    /// How many pixels each of the first polls moves.
+    moves: &'static [u32],
+    status: Status,
     script: &'static str,
     log: &'static str,
     /// The presented frames, row by row, with a letter for a pixel: W is white, R red, G green.
@@ -43,20 +47,23 @@ fn try_case(rt: &impl Abort, alloc: Global, case: &Case) -> Result<(), Fail> {
     let name = case.name;
     let script = Vec::from_slice(alloc, case.script.as_bytes())?;
     let frames = frame_bytes(alloc, case.frames)?;
-    let mut outside = Outside::new(alloc, script, 64, case.faults)?;
+    let moves = Vec::from_slice(alloc, case.moves)?;
+    let mut outside = Outside::with_moves(alloc, script, 64, case.faults, moves)?;
     let status = outside.run(alloc, &WORDS);
     assert_eq!(rt; outside.log.bytes(), case.log.as_bytes(), "{name}");
     assert!(rt;
         outside.panel.into_frames().bytes() == frames.as_slice(),
         "{name}"
     );
-    assert!(rt; status == Status::Noted, "{name}");
+    assert!(rt; status == case.status, "{name}");
     Ok(())
 }
 
 const FIRST_FRAME: Case = Case {
-    name: "a flush of the first frame fails",
-    faults: &[Flush(2)],
+    name: "the second start of the first frame fails",
+    faults: &[Start(2)],
+    moves: &[],
+    status: Status::Noted,
     script: "new 10 3 obj\npos 10 1 0\nsize 10 2 2\nlocal 10 main bg_color #FF0000\n\
         local 10 main bg_opa 255\nframe\nframe\n",
     log: "1 ok\n2 ok\n3 ok\n4 ok\n5 ok\n6 frame 1 fault\n7 frame 2 done\n",
@@ -64,8 +71,10 @@ const FIRST_FRAME: Case = Case {
 };
 
 const AFTER_CHANGE: Case = Case {
-    name: "a flush after a change fails",
-    faults: &[Flush(3)],
+    name: "a start after a change fails",
+    faults: &[Start(3)],
+    moves: &[],
+    status: Status::Noted,
     script: "new 10 3 obj\npos 10 1 0\nsize 10 2 1\nlocal 10 main bg_color #FF0000\n\
         local 10 main bg_opa 255\nframe\npos 10 2 1\nframe\nframe\ndelete 10\nframe\n",
     log: "1 ok\n2 ok\n3 ok\n4 ok\n5 ok\n6 frame 1 done\n7 ok\n8 frame 2 fault\n9 frame 3 done\n\
@@ -74,8 +83,10 @@ const AFTER_CHANGE: Case = Case {
 };
 
 const TWO_FRAMES: Case = Case {
-    name: "flushes of two frames fail",
-    faults: &[Flush(3), Flush(4)],
+    name: "a start and a transfer of two frames fail",
+    faults: &[Start(3), Poll(3)],
+    moves: &[],
+    status: Status::Noted,
     script: "new 10 3 obj\npos 10 1 0\nsize 10 2 2\nlocal 10 main bg_color #FF0000\n\
         local 10 main bg_opa 255\nframe\nlocal 10 main bg_color #00FF00\nframe\n\
         pos 10 2 0\nframe\nframe\n",
@@ -85,8 +96,10 @@ const TWO_FRAMES: Case = Case {
 };
 
 const NEW_VALUE: Case = Case {
-    name: "a flush after a new value fails",
-    faults: &[Flush(3)],
+    name: "a transfer after a new value fails",
+    faults: &[Poll(3)],
+    moves: &[],
+    status: Status::Noted,
     script: "new 10 3 bar\nsize 10 4 1\nlocal 10 main bg_opa 0\n\
         local 10 indicator bg_color #FF0000\nvalue 10 25\nframe\nvalue 10 75\nframe\nframe\n",
     log: "1 ok\n2 ok\n3 ok\n4 ok\n5 ok\n6 frame 1 done\n7 ok\n8 frame 2 fault\n9 frame 3 done\n",
@@ -94,12 +107,41 @@ const NEW_VALUE: Case = Case {
 };
 
 const NEW_PICTURE: Case = Case {
-    name: "a flush after a new picture fails",
-    faults: &[Flush(3)],
+    name: "a start after a new picture fails",
+    faults: &[Start(3)],
+    moves: &[],
+    status: Status::Noted,
     script: "image 1 565 2 1\nrow 1 0 F80007E0\nnew 10 3 image\nframe\nsource 10 1\npos 10 1 1\n\
         frame\nframe\n",
     log: "1 ok\n2 ok\n3 ok\n4 frame 1 done\n5 ok\n6 ok\n7 frame 2 fault\n8 frame 3 done\n",
     frames: &["WWWWWWWW", "WWWWWRGW"],
+};
+
+/// A poll that moves one pixel, each of the first 32 times.
+const SLOWLY: &[u32] = &[1; 32];
+
+const IN_FLIGHT: Case = Case {
+    name: "pixels change that are in flight",
+    faults: &[],
+    moves: SLOWLY,
+    status: Status::Done,
+    script: "new 10 3 obj\nsize 10 4 1\nlocal 10 main bg_opa 255\nlocal 10 main bg_color #FF0000\n\
+        pump\npump\nlocal 10 main bg_color #00FF00\npump\npump\nframe\n",
+    log: "1 ok\n2 ok\n3 ok\n4 ok\n5 pump moved\n6 pump moved\n7 ok\n8 pump moved\n\
+        9 pump waiting\n10 frame 1 done\n",
+    frames: &["GGGGWWWW"],
+};
+
+const LOST_IN_FLIGHT: Case = Case {
+    name: "pixels change that are in flight, whose transfer fails, and a frame leaves nothing to be done",
+    faults: &[Poll(2)],
+    moves: SLOWLY,
+    status: Status::Done,
+    script: "new 10 3 obj\nsize 10 4 1\nlocal 10 main bg_opa 255\nlocal 10 main bg_color #FF0000\n\
+        pump\npump\npump\nlocal 10 main bg_color #00FF00\npump\npump\nframe\npump\n",
+    log: "1 ok\n2 ok\n3 ok\n4 ok\n5 pump moved\n6 pump moved\n7 pump moved\n8 ok\n\
+        9 pump fault\n10 pump moved\n11 frame 1 done\n12 pump idle\n",
+    frames: &["GGGGWWWW"],
 };
 
 #[test]
@@ -117,4 +159,10 @@ fn frames_after_changes_that_failed_are_whole(rt: HostRuntime) -> Result<(), Fai
 fn frames_after_values_and_pictures_that_failed_are_whole(rt: HostRuntime) -> Result<(), Fail> {
     try_case(&rt, rt.alloc(), &NEW_VALUE)?;
     try_case(&rt, rt.alloc(), &NEW_PICTURE)
+}
+
+#[test]
+fn frames_after_changes_of_what_is_in_flight_are_whole(rt: HostRuntime) -> Result<(), Fail> {
+    try_case(&rt, rt.alloc(), &IN_FLIGHT)?;
+    try_case(&rt, rt.alloc(), &LOST_IN_FLIGHT)
 }

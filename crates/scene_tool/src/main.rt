@@ -36,6 +36,8 @@ fn run_script(rt: &HostRuntime, words: &[&str]) -> Status {
     let plan = SimPlan {
         fail_open: false,
         fail_flush: Vec::new(alloc),
+        fail_poll: Vec::new(alloc),
+        moves: Vec::new(alloc),
     };
     let mut source = StdSource::new(rt.stdin());
     let mut log = StdSink::new(rt.stderr());

@@ -1,4 +1,4 @@
-//! Tests of whole runs over a panel that lists its flushes, and of the laws of the language.
+//! Tests of whole runs over a panel that lists what it is asked to start, and of the laws of the language.
 #![tactic(auto)]
 
 #[cfg(test)]

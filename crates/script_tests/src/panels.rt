@@ -2,16 +2,18 @@
 ghost use Rattle.std.specs.Prelude.{◌≡◌, ◌≤◌};
 
 use arrayvec::ArrayVec;
-use gui_base::{Area, Rgb565};
-use gui_edge::{Failed, MemSink, OpenFault, Panel, SimPanel};
+use gui_base::Rgb565;
+use gui_color::DrawBuf;
+use gui_edge::{Failed, MemSink, OpenFault, Panel, Polled, SimPanel};
 use scene_run::Status;
 use std::alloc::Global;
 use std::process::Abort;
 use std::test::Fail;
+use test_runs::Fault::{self, Start};
 use test_runs::{Outside, WHITE_FRAME, WORDS, run_over};
 
-/// A panel in memory that lists the corners of the areas of its flushes, and knows the sizes that it was
-/// opened with.
+/// A panel in memory that lists the corners of the areas of the buffers that it is asked to start, and knows
+/// the sizes that it was opened with.
 #[derive(Drop)]
 struct ListingPanel {
     corners: ArrayVec<[i32; 4], 8>,
@@ -56,9 +58,14 @@ impl Panel for ListingPanel {
         Ok(())
     }
 
-    fn flush(&mut self, area: Area, pixels: &[Rgb565]) -> Result<(), Failed> {
+    fn start(&mut self, buf: DrawBuf) -> Result<(), (Failed, DrawBuf)> {
+        let area = buf.area();
         let _ = self.corners.try_push([area.x1, area.y1, area.x2, area.y2]);
-        self.panel.flush(area, pixels)
+        self.panel.start(buf)
+    }
+
+    fn poll(&mut self) -> Polled {
+        self.panel.poll()
     }
 
     fn present(&mut self) -> Result<(), Failed> {
@@ -66,13 +73,21 @@ impl Panel for ListingPanel {
     }
 
     ghost each = { λ p. p.panel.each };
+
+    ghost flying = { λ p. ⟦<SimPanel<MemSink> as Panel>⟧.flying p.panel };
 }
 
-#[test]
-fn two_slices_of_a_white_frame(rt: HostRuntime) -> Result<(), Fail> {
-    let alloc = rt.alloc();
-    let script = Vec::from_slice(alloc, b"frame")?;
-    let mut outside = Outside::new(alloc, script, 4096, &[])?;
+/// Whether a script of which a frame is done starts these areas, has this log, and presents one white frame.
+fn starts(
+    rt: &impl Abort,
+    alloc: Global,
+    script: &[u8],
+    faults: &[Fault],
+    log: &str,
+    corners: &[[i32; 4]],
+) -> Result<(), Fail> {
+    let script = Vec::from_slice(alloc, script)?;
+    let mut outside = Outside::new(alloc, script, 4096, faults)?;
     let mut panel = ListingPanel::new(outside.panel);
     let status = run_over(
         alloc,
@@ -81,14 +96,43 @@ fn two_slices_of_a_white_frame(rt: HostRuntime) -> Result<(), Fail> {
         &mut outside.log,
         &mut panel,
     );
-    assert_eq!(rt; status, Status::Done);
-    assert_eq!(rt; outside.log.bytes(), &b"1 frame 1 done\n"[..]);
+    let flawless = faults.is_empty();
     assert_eq!(rt;
-        panel.corners.as_slice(),
-        [[0, 0, 3, 0], [0, 1, 3, 1]].as_slice()
+        status,
+        if flawless {
+            Status::Done
+        } else {
+            Status::Noted
+        }
     );
+    assert_eq!(rt; outside.log.bytes(), log.as_bytes());
+    assert_eq!(rt; panel.corners.as_slice(), corners);
     assert_eq!(rt; panel.panel.into_frames().bytes(), WHITE_FRAME);
     Ok(())
+}
+
+#[test]
+fn two_slices_of_a_white_frame(rt: HostRuntime) -> Result<(), Fail> {
+    starts(
+        &rt,
+        rt.alloc(),
+        b"frame",
+        &[],
+        "1 frame 1 done\n",
+        &[[0, 0, 3, 0], [0, 1, 3, 1]],
+    )
+}
+
+#[test]
+fn a_slice_whose_start_failed_is_started_again(rt: HostRuntime) -> Result<(), Fail> {
+    starts(
+        &rt,
+        rt.alloc(),
+        b"frame\nframe\n",
+        &[Start(2)],
+        "1 frame 1 fault\n2 frame 2 done\n",
+        &[[0, 0, 3, 0], [0, 1, 3, 1], [0, 1, 3, 1]],
+    )
 }
 
 #[test]

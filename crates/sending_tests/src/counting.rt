@@ -2,8 +2,8 @@
 ghost use Rattle.std.specs.Prelude.{◌≡◌, IfOk};
 
 use arrayvec::ArrayVec;
-use gui_base::{Area, Rgb565};
-use gui_edge::{Failed, MemSink, MemSource, OpenFault, Panel, SimPanel, SimPlan};
+use gui_color::DrawBuf;
+use gui_edge::{Failed, MemSink, MemSource, OpenFault, Panel, Polled, SimPanel, SimPlan};
 use scene_run::{Status, run_scene};
 use std::alloc::Global;
 use std::test::Fail;
@@ -46,9 +46,13 @@ impl Panel for CountingPanel {
         self.panel.open(alloc, width, height, limit)
     }
 
-    fn flush(&mut self, area: Area, pixels: &[Rgb565]) -> Result<(), Failed> {
-        self.since = self.since.saturating_add(area.size());
-        self.panel.flush(area, pixels)
+    fn start(&mut self, buf: DrawBuf) -> Result<(), (Failed, DrawBuf)> {
+        self.since = self.since.saturating_add(buf.area().size());
+        self.panel.start(buf)
+    }
+
+    fn poll(&mut self) -> Polled {
+        self.panel.poll()
     }
 
     fn present(&mut self) -> Result<(), Failed> {
@@ -58,6 +62,8 @@ impl Panel for CountingPanel {
     }
 
     ghost each = { λ p. p.panel.each };
+
+    ghost flying = { λ p. ⟦<SimPanel<MemSink> as Panel>⟧.flying p.panel };
 }
 
 /// What a run came to.
@@ -71,7 +77,7 @@ pub(crate) struct Ran {
     pub(crate) sent: u64,
 }
 
-/// Runs a script with these words, over a panel of which the flushes of these numbers fail, from 1.
+/// Runs a script with these words, over a panel of which the starts of these numbers fail, from 1.
 pub(crate) fn run(
     alloc: Global,
     words: &[&str],
@@ -83,6 +89,8 @@ pub(crate) fn run(
     let plan = SimPlan {
         fail_open: false,
         fail_flush: Vec::from_slice(alloc, faults)?,
+        fail_poll: Vec::new(alloc),
+        moves: Vec::new(alloc),
     };
     let frames = MemSink::with_capacity(alloc, 4096, Vec::new(alloc))?;
     let mut panel = CountingPanel::new(SimPanel::new(frames, plan));

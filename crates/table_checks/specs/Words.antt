@@ -31,7 +31,7 @@ use Rattle.gui_base.specs.declared.words.TheConstants.{PLACINGS, CROSS_PLACINGS,
 use Rattle.scene_defs.specs.declared.Change.{Change}
 use Rattle.scene_defs.specs.declared.Change.TheVariants as change
 use Rattle.run_defs.specs.declared.Command.TheVariants.{Change as CommandOf}
-use Rattle.run_defs.specs.declared.Line.TheVariants.{Make}
+use Rattle.run_defs.specs.declared.Line.TheVariants.{Pump, Make}
 use Rattle.run_defs.specs.declared.names.ActionName.{ActionName}
 use Rattle.run_defs.specs.declared.names.Name.{Name}
 use Rattle.run_defs.specs.declared.names.TheConstants.{COMMANDS, ACTIONS}
@@ -134,7 +134,7 @@ pub record CommandsAreThese : Type 0 where
   pub commands :
       names (table {A = Name} COMMANDS)
       ≡ words_of
-      (codes "frame screen new delete parent index front back load flag state pos align size "
+      (codes "frame pump screen new delete parent index front back load flag state pos align size "
       ++ codes "flex places grow text value range source style set unset use unuse local "
       ++ codes "unlocal font glyph endfont image row on off send group join leave focus keypad "
       ++ codes "encoder touch release key turn push tick anim stop")
@@ -151,7 +151,8 @@ h n = record { 0 = n }
 abbrev pub LinesAreThese : Type 0
 LinesAreThese =
     map (λ line. parse line) (
-    codes "screen 10"
+    codes "pump"
+    ∷ codes "screen 10"
     ∷ codes "new 9999 1 list"
     ∷ codes "delete 9999"
     ∷ codes "parent 10 1"
@@ -165,7 +166,8 @@ LinesAreThese =
     ∷ codes "unlocal 10 indicator:user1 img_opa"
     ∷ codes "endfont 1"
     ∷ [])
-    ≡ asks (change.Screen (h 10))
+    ≡ Ok Pump
+    ∷ asks (change.Screen (h 10))
     ∷ asks (change.New (h 9999) (h 1) kind.List)
     ∷ asks (change.Delete (h 9999))
     ∷ asks (change.Parent (h 10) (h 1))

@@ -3,7 +3,7 @@
 
 ghost use Rattle.std.specs.Prelude.{◌≡◌, IfOk};
 
-use self::Fault::{Flush, Frames, Log, Open, Read};
+use self::Fault::{Frames, Log, Open, Poll, Read, Start};
 use gui_base::NoMemory;
 use gui_edge::{MemSink, MemSource, Panel, SimPanel, SimPlan, Sink, Source};
 use scene_run::{Status, run_scene};
@@ -18,14 +18,15 @@ pub const WHITE_FRAME: &[u8] =
     \xFF\xFF\xFF\xFF";
 
 /// A call that fails: the opening of the panel, or the read, the put on the log, the put on the sink of the
-/// frames or the flush of this number, from 1.
+/// frames, the start or the poll of this number, from 1.
 #[derive(Clone, Copy, Debug)]
 pub enum Fault {
     Open,
     Read(u64),
     Log(u64),
     Frames(u64),
-    Flush(u64),
+    Start(u64),
+    Poll(u64),
 }
 
 /// The numbers of the calls that fail.
@@ -35,7 +36,8 @@ struct Plan {
     reads: Vec<u64>,
     log: Vec<u64>,
     frames: Vec<u64>,
-    flushes: Vec<u64>,
+    starts: Vec<u64>,
+    polls: Vec<u64>,
 }
 
 impl Plan {
@@ -45,7 +47,8 @@ impl Plan {
             reads: Vec::new(alloc),
             log: Vec::new(alloc),
             frames: Vec::new(alloc),
-            flushes: Vec::new(alloc),
+            starts: Vec::new(alloc),
+            polls: Vec::new(alloc),
         };
         for fault in faults {
             match *fault {
@@ -53,7 +56,8 @@ impl Plan {
                 Read(call) => plan.reads.push(call)?,
                 Log(call) => plan.log.push(call)?,
                 Frames(call) => plan.frames.push(call)?,
-                Flush(call) => plan.flushes.push(call)?,
+                Start(call) => plan.starts.push(call)?,
+                Poll(call) => plan.polls.push(call)?,
             }
         }
         Ok(plan)
@@ -82,12 +86,26 @@ pub struct Outside {
 }
 
 impl Outside {
-    /// A script of which a read gives at most `piece` bytes, an empty log and a panel that is not opened.
+    /// A script of which a read gives at most `piece` bytes, an empty log and a panel that is not opened, of
+    /// which a poll moves all pixels.
     pub fn new(
         alloc: Global,
         script: Vec<u8>,
         piece: usize,
         faults: &[Fault],
+    ) -> Result<Outside, NoMemory>
+        ensures { IfOk result (λ outside. outside.panel.limit ≡ 0) }
+    {
+        Outside::with_moves(alloc, script, piece, faults, Vec::new(alloc))
+    }
+
+    /// The same with a panel of which each poll moves so many pixels, as far as they are listed.
+    pub fn with_moves(
+        alloc: Global,
+        script: Vec<u8>,
+        piece: usize,
+        faults: &[Fault],
+        moves: Vec<u32>,
     ) -> Result<Outside, NoMemory>
         ensures { IfOk result (λ outside. outside.panel.limit ≡ 0) }
     {
@@ -97,7 +115,9 @@ impl Outside {
         let frames = MemSink::with_capacity(alloc, 4096, plan.frames)?;
         let panel = SimPlan {
             fail_open: plan.open,
-            fail_flush: plan.flushes,
+            fail_flush: plan.starts,
+            fail_poll: plan.polls,
+            moves,
         };
         Ok(Outside {
             source: MemSource::new(script, piece.max(1), plan.reads),

@@ -2,15 +2,20 @@ use Rattle.std.proofs.Common.{refl, arith}
 use Rattle.std.proofs.KnownBytes.{Appends-nil}
 use Rattle.scene_run.proofs.answer.show.Goals as goal
 
+-- a refresh that is done leaves nothing in flight
+pub present-requires : goal.present-requires
+present-requires g c = record { opened = c.in-Done.ensures.refreshes.sends.can.sizes.opened; still = (c.in-Done.ensures.refreshes.clear refl).coming }
+
 pub returns-in-Fault-clause-ok : goal.returns-in-Fault-clause-ok
 returns-in-Fault-clause-ok g c =
-    let refreshes = c.in-Fault.ensures.refreshes in λ number frame seen. record {
-      frames = λ t. rw refreshes.keeps.frames (Appends-nil _);
+    let refreshes = c.in-Fault.ensures.refreshes in
+    let keeps = refreshes.sends.keeps in λ number frame seen. record {
+      frames = λ t. rw keeps.frames (Appends-nil _);
       shown = tt;
       faults = omega (arith, refreshes.fault refl);
       keeps = record {
-        told = refreshes.keeps.told;
-        flush_faults = refreshes.keeps.flush_faults;
-        present_faults = omega (arith, refreshes.keeps.present_faults);
+        told = keeps.told;
+        flush_faults = keeps.flush_faults;
+        present_faults = omega (arith, keeps.present_faults);
       };
     }

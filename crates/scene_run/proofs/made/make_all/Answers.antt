@@ -1,8 +1,16 @@
 use Rattle.std.proofs.Common.{[], inl, inr}
 use Rattle.gui_core.specs.Machines.{machine_of}
 use Rattle.scene_run.specs.Effects.{output}
-use Rattle.scene_run.proofs.MadeRuns.{made_halted, halted_rose}
+use Rattle.scene_run.proofs.MadeRuns.{made_halted, made_no_pump, halted_rose}
 use Rattle.scene_run.proofs.made.make_all.Goals as goal
+
+pub take_lines-requires-clause-no_pump : goal.take_lines-requires-clause-no_pump
+take_lines-requires-clause-no_pump g c =
+    let first = machine_of c.args.run.now.gui in
+    rw c.requires.script (made_no_pump first c.args.k first.scene.limits)
+
+pub finish-requires : goal.finish-requires
+finish-requires g c = record { free = (c.in-Ok.ensures.ok (machine_of c.args.run.now.gui) (g.P.Panel.state c.args.panel.now) [] c.requires.begun).free }
 
 pub returns-in-Ok-clause-runs : goal.returns-in-Ok-clause-runs
 returns-in-Ok-clause-runs g c = λ start h.

@@ -1,4 +1,4 @@
-use Rattle.std.proofs.Common.{◌≡◌, ◌∙◌, ap, subst, ℕ, List, [], ◌∷◌, ◌++◌, append_assoc, append-nil, arith, refl}
+use Rattle.std.proofs.Common.{◌≡◌, ◌∙◌, ap, subst, ℕ, Bool, true, false, ◌&&◌, ◌+◌, ◌^◌, ◌<◌, ◌≤◌, List, [], ◌∷◌, ◌++◌, length, append_assoc, append-nil, arith, refl}
 use Rattle.std.proofs.lemmas.List.{map-append}
 use Rattle.gui_edge.proofs.Prefixes.{on_err}
 use Rattle.run_defs.specs.Script.{parse}
@@ -17,7 +17,26 @@ loop-line-init g c = record {
   made = λ first start lines h. rw (append-nil lines) h;
   ready = c.requires.ready;
   few = c.requires.refused;
+  none = c.requires.no_pump;
 }
+
+-- how many lines are left
+one_less : (line : List ℕ) (left : List (List ℕ)) → length left + 1 ≤ length (line ∷ left)
+one_less line left = omega arith
+
+some_left : (line : List ℕ) (left : List (List ℕ)) → 1 ≤ length (line ∷ left)
+some_left line left = omega arith
+
+few_left : (old new : ℕ) (line : List ℕ) (left : List (List ℕ)) → new ≤ old + 1 → old + length (line ∷ left) < 2 ^ 32 → new + length left < 2 ^ 32
+few_left old new line left step few = omega arith
+
+few_here : (old : ℕ) (line : List ℕ) (left : List (List ℕ)) → old + length (line ∷ left) < 2 ^ 32 → old + 1 < 2 ^ 32
+few_here old line left few = omega arith
+
+all_both : (a b : Bool) → (a && b) ≡ true → (a ≡ true) × (b ≡ true)
+all_both true true e = (refl, refl)
+all_both true false e = cc
+all_both false b e = cc
 
 module _ (g : Over) (c : After-parse_line-said g) where
   said_is : c.parse_line-said.result ≡ parse c.in-Some.line.bytes
@@ -26,6 +45,22 @@ module _ (g : Over) (c : After-parse_line-said g) where
 pub take_line-requires-clause-in_range : goal.take_line-requires-clause-in_range
 take_line-requires-clause-in_range g c = rw (said_is g (goal.at.take_line-requires-clause-in_range g c).After-parse_line-said) (says_in_range c.in-Some.line.bytes)
 
+-- the first of the lines that are left is no pump
+pub take_line-requires-clause-no_pump : goal.take_line-requires-clause-no_pump
+take_line-requires-clause-no_pump g c =
+    let h = rw c.in-Some.ensures.line at c.loop-line.invariant in
+    rw (said_is g (goal.at.take_line-requires-clause-no_pump g c).After-parse_line-said) (all_both _ _ h.none).0
+
+pub take_line-requires-clause-ready : goal.take_line-requires-clause-ready
+take_line-requires-clause-ready g c =
+    let h = rw c.in-Some.ensures.line at c.loop-line.invariant in
+    ready_less _ _ _ (some_left c.in-Some.line.bytes c.next_line.new.self) h.ready
+
+pub take_line-requires-clause-refused : goal.take_line-requires-clause-refused
+take_line-requires-clause-refused g c =
+    let h = rw c.in-Some.ensures.line at c.loop-line.invariant in
+    few_here _ c.in-Some.line.bytes c.next_line.new.self h.few
+
 pub loop-line-preserved : goal.loop-line-preserved
 loop-line-preserved g c =
     let h = rw c.in-Some.ensures.line at c.loop-line.invariant in
@@ -33,8 +68,9 @@ loop-line-preserved g c =
       taken = h.taken ++ c.in-Some.line.bytes ∷ [];
       split = append_assoc h.taken (c.in-Some.line.bytes ∷ []) c.next_line.new.self ∙ h.split;
       made = λ first start lines k. subst (HasMade first start c.take_line.new.self (g.P.Panel.state c.take_line.new.panel)) (simp (map-append, append_assoc)) (on.from first start (lines ++ all_say h.taken) (h.made first start lines k));
-      ready = on.ready _ (ready_less _ _ _ (omega arith) h.ready);
-      few = omega (arith, c.in_ok-take_line.ensures.refused, h.few);
+      ready = on.ready _ (ready_less _ _ _ (one_less c.in-Some.line.bytes c.next_line.new.self) h.ready);
+      few = few_left _ _ c.in-Some.line.bytes c.next_line.new.self c.in_ok-take_line.ensures.refused h.few;
+      none = (all_both _ _ h.none).1;
     }
 
 pub returns-in_err-take_line-clause-err : goal.returns-in_err-take_line-clause-err

@@ -3,10 +3,22 @@ use Rattle.gui_base.specs.Bounded.{bounds_of}
 use Rattle.gui_core.specs.Machines.{machine_of}
 use Rattle.scene_run.specs.Effects.{output}
 use Rattle.scene_run.specs.Headline.{outside, MadeEnded}
-use Rattle.scene_run.proofs.Headlines.{since_opening, fault_since, not_asked, runs_usage, runs_no_memory, runs_panel_fault, runs_started}
+use Rattle.scene_run.proofs.Headlines.{unstarted, still_of, since_opening, fault_since, not_asked, runs_usage, runs_no_memory, runs_panel_fault, runs_started}
 use Rattle.scene_run.proofs.top.run_scene.Given.{Over}
 use Rattle.scene_run.proofs.top.run_scene.Goals as goal
 use Rattle.scene_run.proofs.top.run_scene.Goals.{After-run_made}
+
+pub read_script-requires-clause-unstarted : goal.read_script-requires-clause-unstarted
+read_script-requires-clause-unstarted g c = unstarted (g.P.Panel.state c.args.panel.now) (g.P.Panel.state c.open-2.new.self) _ _ _ c.requires (g.met.P.Panel.flying c.args.panel.now) c.in-Ok-open.ensures
+
+pub read_script-requires-clause-still : goal.read_script-requires-clause-still
+read_script-requires-clause-still g c = still_of _ c.in-Ok.ensures.still
+
+pub run_made-requires-clause-unstarted : goal.run_made-requires-clause-unstarted
+run_made-requires-clause-unstarted g c = unstarted (g.P.Panel.state c.args.panel.now) (g.P.Panel.state c.open-2.new.self) _ _ _ c.requires (g.met.P.Panel.flying c.args.panel.now) c.in-Ok-open.ensures
+
+pub run_made-requires-clause-still : goal.run_made-requires-clause-still
+run_made-requires-clause-still g c = still_of _ c.in-Ok.ensures.still
 
 pub returns-in-None-clause-runs : goal.returns-in-None-clause-runs
 returns-in-None-clause-runs g c =

@@ -1,0 +1,10 @@
+use Rattle.std.proofs.Common.{◌≡◌, Some}
+use Rattle.gui_edge.specs.SimPanel.{panel_state}
+use Rattle.gui_refresh.specs.Stages.{CanRefresh, stage}
+use Rattle.damage_tests.proofs.pump.take_turns.Given as goal
+
+abbrev pub invariant-loop-n : goal.invariant-loop-n
+invariant-loop-n g l = record {
+  can : CanRefresh (stage l.refresher (panel_state (λ s. record { held = Some s.held; faults = s.faults }) l.panel.panel) l.damage);
+  sizes : l.refresher.sizes ≡ record { width = 6; height = 4; limit = 6 };
+}

@@ -1,10 +1,13 @@
 //! Reads a script from standard input, and writes the frames to standard output and the log to standard error.
-//! Where the first word is `bdf` it reads a font instead, and where it is `json` a tree of objects, and writes the
-//! lines of a script that make it.
+//! Where the first word is `dcs` the panel is one behind a controller in memory, turned as the next word says. Where it
+//! is `bdf` it reads a font instead, and where it is `json` a tree of objects, and writes the lines of a script that
+//! make it.
 #![tactic(auto)]
 
 use bdf_font::run_bdf;
 use gui_edge::{SimPanel, SimPlan, StdSink, StdSource};
+use panel_dcs::SimBus;
+use scene_dcs::run_dcs;
 use scene_json::run_json;
 use scene_run::{Status, run_scene};
 use std::alloc::{AllocError, Global};
@@ -45,6 +48,17 @@ fn run_script(rt: &HostRuntime, words: &[&str]) -> Status {
     run_scene(alloc, words, &mut source, &mut log, &mut panel)
 }
 
+/// Runs the script over a panel behind a controller in memory. The first word is its turn.
+fn run_turned(rt: &HostRuntime, words: &[&str]) -> Status {
+    let alloc = rt.alloc();
+    let mut source = StdSource::new(rt.stdin());
+    let mut log = StdSink::new(rt.stderr());
+    let frames = StdSink::new(rt.stdout());
+    let bus = SimBus::new(Vec::new(alloc));
+    let (status, _panel) = run_dcs(alloc, words, &mut source, &mut log, frames, bus);
+    status
+}
+
 /// Writes the font of standard input as lines of a script. The word is its number.
 fn write_font(rt: &HostRuntime, words: &[&str]) -> u8 {
     let mut source = StdSource::new(rt.stdin());
@@ -65,6 +79,7 @@ fn run(rt: &HostRuntime, words: &[String]) -> u8 {
         return Status::NoMemory as u8;
     };
     match texts.as_slice() {
+        ["dcs", words @ ..] => run_turned(rt, words) as u8,
         ["bdf", words @ ..] => write_font(rt, words),
         ["json", words @ ..] => write_scene(rt, words),
         words => run_script(rt, words) as u8,

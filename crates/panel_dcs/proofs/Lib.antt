@@ -1,0 +1,13 @@
+pub mod Answering
+pub mod Buses
+pub mod Feeding
+pub mod Opening
+pub mod Picturing
+pub mod Polling
+pub mod Rows
+pub mod Sizing
+pub mod Starting
+pub mod Straying
+pub mod Telling
+pub mod Turns
+pub mod Writing

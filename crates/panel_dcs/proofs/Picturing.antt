@@ -13,9 +13,8 @@ use Rattle.gui_base.specs.Ppm.{rgb_bytes, ppm_head, ppm}
 use Rattle.gui_color.specs.Buffer.{color_at}
 use Rattle.gui_edge.specs.Sink.{AppendsPrefix}
 use Rattle.gui_edge.proofs.Prefixes.{AppendsPrefix-append, AppendsPrefix-behind}
-use Rattle.panel_dcs.specs.Bus.{BusState}
 use Rattle.panel_dcs.specs.Controller.{Chip, cell, unwritten}
-use Rattle.panel_dcs.specs.DcsPanel.{IsDevice, IsReady, WritesShown}
+use Rattle.panel_dcs.specs.DcsPanel.{IsDevice, WritesShown}
 use Rattle.panel_dcs.specs.Turning.{Turned, columns_of, pages_of, column_at, page_at, color_behind, device, shown, line_shown, lines_from}
 use Rattle.panel_dcs.proofs.Rows.{place_is}
 

@@ -1,8 +1,4 @@
-use Rattle.std.proofs.Common.{◌≡◌, ◌∙◌, ◌≤◌, sym, ap, subst, List, take, flat_map, arith}
-use Rattle.std.specs.Io.KnownBytes.{Appends}
-use Rattle.gui_base.specs.Ppm.{rgb_bytes}
-use Rattle.gui_base.specs.declared.color.Rgb565.{Rgb565}
-use Rattle.gui_edge.specs.Sink.{AppendsPrefix}
+use Rattle.std.proofs.Common.{◌∙◌, take, arith}
 use Rattle.gui_edge.proofs.Prefixes.{on_err}
 use Rattle.panel_dcs.specs.Turning.{turned}
 use Rattle.panel_dcs.proofs.Picturing.{head_breaks, lines_begin, line_of, line_breaks, lines_more, lines_end}

@@ -46,7 +46,11 @@ fn run(alloc: Global, turn: &str, fails: &[u64]) -> Result<Ran, Fail> {
 fn try_whole(rt: &impl Abort, alloc: Global, turn: &str, fails: &[u64]) -> Result<(), Fail> {
     let ran = run(alloc, turn, fails)?;
     assert!(rt; ran.status == Status::Done, "turn {turn}");
-    assert_eq!(rt; ran.log.bytes(), b"1 frame 1 done\n".as_slice(), "turn {turn}");
+    assert_eq!(rt;
+        ran.log.bytes(),
+        b"1 frame 1 done\n".as_slice(),
+        "turn {turn}"
+    );
     assert_eq!(rt; ran.frames.bytes(), WHITE_FRAME, "turn {turn}");
     Ok(())
 }
@@ -61,7 +65,11 @@ fn try_failing(rt: &impl Abort, alloc: Global, turn: &str, call: u64) -> Result<
     };
     assert!(rt; ran.status == status, "turn {turn}, call {call}");
     assert_eq!(rt; ran.log.bytes(), log, "turn {turn}, call {call}");
-    assert_eq!(rt; ran.frames.bytes(), b"".as_slice(), "turn {turn}, call {call}");
+    assert_eq!(rt;
+        ran.frames.bytes(),
+        b"".as_slice(),
+        "turn {turn}, call {call}"
+    );
     Ok(())
 }
 

@@ -28,7 +28,7 @@ pub fn run_dcs<S: Source, L: Sink, F: Sink, B: Bus>(
     requires { (B.state bus).columns ≡ 0 }
     ensures runs { RunsScene (limits_behind (map (λ w. w.now) words.now))
         (outside (S.state source.old) (L.state log.old) (dcs_state F.state B.state
-            (unopened frames bus (quarters (quarters_or_none (turn_in (map (λ w. w.now) words.now)))))))
+        (unopened frames bus (quarters (quarters_or_none (turn_in (map (λ w. w.now) words.now)))))))
         (outside (S.state source.new) (L.state log.new) (dcs_state F.state B.state result.1.state)) result.0 }
 
     // Where no word says a turn, nothing else is answered.

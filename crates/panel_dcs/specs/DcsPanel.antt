@@ -1,5 +1,5 @@
 -- A panel over a bus.
-use Rattle.std.specs.Prelude.{◌≡◌, ℕ, ◌-◌, ◌*◌, ◌<◌, ◌≤◌, true, List, length, Some, None, IfSome, option_map, pos}
+use Rattle.std.specs.Prelude.{◌≡◌, ℕ, ◌+◌, ◌-◌, ◌*◌, ◌<◌, ◌≤◌, true, List, length, Some, None, IfSome, option_map, pos}
 use Rattle.std.specs.Option.{ForSome}
 use Rattle.std.proofs.lemmas.List.FromFn.{length-map-range_with_len}
 use Rattle.std.specs.declared.option.Option.{Option}
@@ -131,3 +131,9 @@ abbrev pub PollSends : Turned → BusState → BusState → Option Buffer → �
 PollSends t old new coming row (Ready buf) = Feeds old new (row_bytes (next_row t buf row))
 PollSends t old new coming row NotYet = ForSome coming (λ buf. Feeds old new (row_bytes (next_row t buf row)))
 PollSends t old new coming row (Failed buf) = Unit {0}
+
+-- how many rows were sent then: all of them where the transfer has ended, and one more where it goes on
+abbrev pub PollCounts : Turned → ℕ → ℕ → Polled → Type 0
+PollCounts t row next (Ready buf) = row + 1 ≡ rows_of t buf.area
+PollCounts t row next NotYet = next ≡ row + 1
+PollCounts t row next (Failed buf) = Unit {0}

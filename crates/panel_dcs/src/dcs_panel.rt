@@ -5,7 +5,7 @@ ghost use Rattle.gui_edge.specs.Causes.{HasCause, Rose};
 ghost use Rattle.gui_edge.specs.Panel.{CanOpen, OpenAnswer, PollAnswer, CanStart, Starts, Started, StartFailed};
 ghost use Rattle.gui_edge.specs.Panel.{Presents, WritesFrame, WritesPrefix};
 ghost use Rattle.panel_dcs.specs.Bus.{Feeds};
-ghost use Rattle.panel_dcs.specs.DcsPanel.{dcs_state, unopened, resized, Fits, OpensBus, PollSends, each_of};
+ghost use Rattle.panel_dcs.specs.DcsPanel.{dcs_state, unopened, resized, Fits, OpensBus, PollSends, PollCounts, each_of};
 ghost use Rattle.panel_dcs.specs.Polls.{window_of};
 ghost use Rattle.panel_dcs.specs.Transfers.{start_bytes};
 ghost use Rattle.panel_dcs.specs.Turning.{turned, columns_of, pages_of, quarters};
@@ -156,6 +156,7 @@ impl<F: Sink, B: Bus> DcsPanel<F, B> {
             StartFailed (dcs_state F.state B.state self.old.state) (dcs_state F.state B.state self.new.state) buf e.1) }
         ensures sent { OnOk result (Feeds (B.state self.old.state.bus) (B.state self.new.state.bus)
             (start_bytes (window_of self.old.state.turned buf.area))) }
+        ensures rows { OnOk result (self.new.state.row ≡ 0) }
     {
         let area = buf.area();
         match send_start(&mut self.bus, window_of(self.sizes, area)) {
@@ -178,6 +179,7 @@ impl<F: Sink, B: Bus> DcsPanel<F, B> {
         ensures answer { PollAnswer (dcs_state F.state B.state self.old.state) (dcs_state F.state B.state self.new.state) result }
         ensures sent { PollSends self.old.state.turned (B.state self.old.state.bus) (B.state self.new.state.bus)
             self.old.state.coming self.old.state.row result }
+        ensures rows { PollCounts self.old.state.turned self.old.state.row self.new.state.row result }
     {
         match self.coming.take() {
             None => unreachable!(),
@@ -231,6 +233,7 @@ impl<F: Sink, B: Bus> Panel for DcsPanel<F, B> {
 
         ensures sent { OnOk result (Feeds (B.state self.old.state.bus) (B.state self.new.state.bus)
             (start_bytes (window_of self.old.state.turned buf.area))) }
+        ensures rows { OnOk result (self.new.state.row ≡ 0) }
     {
         self.start_rows(buf)
     }
@@ -244,6 +247,7 @@ impl<F: Sink, B: Bus> Panel for DcsPanel<F, B> {
 
         ensures sent { PollSends self.old.state.turned (B.state self.old.state.bus) (B.state self.new.state.bus)
             self.old.state.coming self.old.state.row result }
+        ensures rows { PollCounts self.old.state.turned self.old.state.row self.new.state.row result }
     {
         self.poll_row()
     }

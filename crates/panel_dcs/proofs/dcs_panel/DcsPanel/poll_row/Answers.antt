@@ -1,8 +1,8 @@
 use Rattle.panel_dcs.specs.Bus.{Feeds}
 use Rattle.panel_dcs.specs.Controller.{data_bytes}
-use Rattle.panel_dcs.specs.Polls.{next_row}
+use Rattle.panel_dcs.specs.Polls.{next_row, rows_of}
 use Rattle.panel_dcs.specs.Transfers.{row_bytes}
-use Rattle.std.proofs.Common.{subst, ap, ◌∙◌, ◌+◌, sym, refl}
+use Rattle.std.proofs.Common.{◌≡◌, subst, ap, ◌∙◌, ◌+◌, sym, refl}
 use Rattle.panel_dcs.proofs.Answering.{poll_breaks, poll_arrives, poll_goes_on}
 use Rattle.panel_dcs.proofs.Starting.{some_is, none_flies, next_flies}
 use Rattle.panel_dcs.proofs.dcs_panel.DcsPanel.poll_row.Goals as goal
@@ -59,3 +59,9 @@ returns-else-self-rows-clause-sent g c = λ other is.
     (some_is c.in-Some.buf other (sym (sym c.take.ensures.value ∙ c.in-Some.is) ∙ ap (λ d. d.state.coming) c.self.view_is ∙ is))
     (subst (λ v. Feeds (g.B.Bus.state v.state.bus) (g.B.Bus.state c.data.new.self) (row_bytes (next_row v.state.turned c.in-Some.buf v.state.row))) c.self.view_is
     (subst (λ l. Feeds (g.B.Bus.state c.self.inside.bus) (g.B.Bus.state c.data.new.self) (data_bytes l)) (c.as_slice.ensures.value ∙ c.row_bytes-bytes.ensures) c.in-Ok.ensures.0))
+
+pub returns-then-self-rows-clause-rows : goal.returns-then-self-rows-clause-rows
+returns-then-self-rows-clause-rows g c = subst (λ v. v.state.row + 1 ≡ rows_of v.state.turned c.in-Some.buf.area) c.self.view_is (c.if-self-rows.true ∙ c.rows_of-rows.ensures)
+
+pub returns-else-self-rows-clause-rows : goal.returns-else-self-rows-clause-rows
+returns-else-self-rows-clause-rows g c = ap (λ v. v.state.row + 1) c.self.view_is

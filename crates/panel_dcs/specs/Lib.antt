@@ -2,6 +2,7 @@ pub mod Bus
 pub mod Controller
 pub mod DcsPanel
 pub mod Examples
+pub mod Laws
 pub mod Polls
 pub mod SimBus
 pub mod Transfers

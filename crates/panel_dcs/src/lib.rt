@@ -4,6 +4,7 @@
 #![tactic(auto)]
 
 ghost use Rattle.panel_dcs.specs.Examples.{TransfersAreWorked};
+ghost use Rattle.panel_dcs.specs.Laws.{MemoryIsAsShown};
 
 pub mod bus;
 pub mod chip;
@@ -23,4 +24,11 @@ pub use turn::{Turn, turn_of};
 /// A law, of which nothing is computed: transfers that were worked out by hand come to the memory that they should.
 pub fn worked_transfers()
     ensures { TransfersAreWorked }
+{}
+
+/// A law, of which nothing is computed: what a turned panel shows tells what its controller's memory holds. So where a
+/// call of the panel leaves what it shows outside an area, it leaves the memory outside the turned area, and where the
+/// area shows a buffer's colours, the memory has them at their turned places.
+pub fn memory_is_as_shown()
+    ensures { MemoryIsAsShown }
 {}

@@ -1,5 +1,5 @@
 -- What a panel shows tells what its controller's memory holds.
-use Rattle.std.proofs.Common.{◌≡◌, ◌∙◌, sym, ap, ℕ, ℤ, pos, true, false, if◌then◌else◌, Bool, List, length, arith}
+use Rattle.std.proofs.Common.{◌≡◌, ◌∙◌, sym, ap, ℤ, true, if◌then◌else◌, Bool, List, length, arith}
 use Rattle.std.proofs.lemmas.Bool.Decides.{nat_tests}
 use Rattle.std.proofs.lemmas.Int.{ints}
 use Rattle.gui_base.specs.declared.color.Rgb565.{Rgb565}
@@ -10,7 +10,7 @@ use Rattle.gui_edge.specs.Panel.{Shows, SameOutside}
 use Rattle.panel_dcs.specs.Transfers.{device_of}
 use Rattle.panel_dcs.specs.declared.turn.Turn.{Turn}
 use Rattle.panel_dcs.specs.declared.turn.Turn.TheVariants.{Upright, Quarter, Half, ThreeQuarters}
-use Rattle.panel_dcs.specs.Turning.{Turned, upright_or, column_at, page_at, x_by, y_by, color_on, turned_area, panel_of, device, color_behind, shown}
+use Rattle.panel_dcs.specs.Turning.{Turned, upright_or, page_at, x_by, y_by, color_on, turned_area, panel_of, device, shown}
 use Rattle.panel_dcs.proofs.Sizing.{column_back, page_back}
 use Rattle.panel_dcs.proofs.Turns.{has_turned, shown_at}
 

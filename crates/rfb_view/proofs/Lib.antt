@@ -1,0 +1,4 @@
+pub mod Heads
+pub mod Reading
+pub mod Sizes
+pub mod Writing

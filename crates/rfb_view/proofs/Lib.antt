@@ -1,4 +1,5 @@
 pub mod Heads
+pub mod Lines
 pub mod Reading
 pub mod Sizes
 pub mod Writing

@@ -15,5 +15,6 @@ none_shown panel area color old new inside all none =
     let few : length old ≡ 0 = ap length none in
     absurd (omega (arith, place_fits panel area.x1 area.y1 (corner panel area inside)))
 
+-- what is not there lends nothing
 pub none_lent : {X V : Type 0} (items : V → List X) (lent : Option V) → lent ≡ None → unwrap_or (option_map items lent) [] ≡ []
 none_lent items lent e = rw e refl

@@ -81,6 +81,7 @@ impl Hearing {
         ensures heard { (bytes : List ℕ) → HasHeard self.old bytes →
             HasHeard self.new (bytes ++ byte ∷ []) }
         ensures some { 0 < length self.new.head }
+        ensures counts { self.new.count ≡ self.old.count + 1 }
     {
         if !self.head.is_full() {
             self.head.push(byte);
@@ -96,6 +97,7 @@ impl Hearing {
             HasHeard self.new (bytes ++ byte ∷ []) }
         ensures whole { (bytes : List ℕ) → HasHeard self.old bytes →
             result ≡ (length (bytes ++ byte ∷ []) == size_after parts (bytes ++ byte ∷ [])) }
+        ensures counts { self.new.count ≡ self.old.count + 1 }
     {
         self.take(byte);
         self.count == self.size(parts)

@@ -7,11 +7,13 @@ mod canvas;
 pub mod hearing;
 pub mod messages;
 pub mod pixels;
+pub mod sight;
 pub mod status;
 pub mod view_panel;
 
 pub use hearing::Hearing;
 pub use messages::Message;
 pub use session_defs::RfbBad;
+pub use sight::Sight;
 pub use status::RfbStatus;
 pub use view_panel::ViewPanel;

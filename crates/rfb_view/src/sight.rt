@@ -1,0 +1,192 @@
+//! What a viewer was told of a picture, and what of the picture is news.
+ghost use Rattle.std.specs.Prelude.{◌≡◌, ◌+◌, ◌*◌, ◌≤◌, ◌<◌, length, true, pos, IfOk};
+ghost use Rattle.gui_base.specs.Area.{area_at, is_within};
+ghost use Rattle.gui_base.specs.Corners.{rect_of};
+ghost use Rattle.gui_color.specs.Buffer.{no_pixel};
+ghost use Rattle.session_defs.specs.Formats.{is_format, number};
+ghost use Rattle.session_defs.specs.Updates.{in_format, asked, is_number, known_at, news_area};
+ghost use Rattle.rfb_view.specs.Sights.{untold, with_untold};
+
+use crate::pixels::number;
+use gui_base::{Area, NoMemory, Rgb565};
+use session_defs::{Channel, Format};
+use std::alloc::Global;
+use std::marker::Model;
+
+/// The format in which a session begins: sixteen bits, low byte first, of which red has five, green six and
+/// blue five.
+const OWN: Format = Format {
+    bits: 16,
+    big: false,
+    red: Channel {
+        most: 31,
+        shift: 11,
+    },
+    green: Channel { most: 63, shift: 5 },
+    blue: Channel { most: 31, shift: 0 },
+};
+
+/// What a viewer was told of the pixels of a panel, and what it waits for. For each pixel it keeps the colour
+/// that was last sent, and none that was sent in another format than the one in force.
+#[derive(Drop)]
+pub struct Sight {
+    format: Format,
+    sent: Vec<Option<Rgb565>>,
+    request: Option<Area>,
+    pub ghost ready: { is_format format ≡ true },
+}
+
+impl Model for Sight {
+    ghost use Rattle.std.specs.Prelude.{map, option_map};
+    ghost use Rattle.gui_base.specs.Corners.{rect_of};
+    ghost use Rattle.session_defs.specs.Formats.{number};
+    ghost use Rattle.session_defs.specs.Updates.{Sight as Told};
+
+    ghost Value = { Told };
+
+    ghost view = { λ s. record {
+      format = s.format;
+      sent = map (option_map (number s.format)) s.sent.items;
+      request = option_map rect_of s.request;
+    } };
+}
+
+/// The area with no pixel.
+fn no_pixel() -> Area
+    ensures { rect_of result ≡ no_pixel }
+{
+    Area {
+        x1: 0,
+        y1: 0,
+        x2: -1,
+        y2: -1,
+    }
+}
+
+/// An area inside of a panel: its first column and line, and how many of each it has.
+#[derive(Clone, Copy)]
+struct Block {
+    left: u16,
+    top: u16,
+    columns: u16,
+    lines: u16,
+}
+
+/// The columns and lines of an area inside of a panel with these sizes.
+fn block_of(width: u16, height: u16, area: Area) -> Block
+    requires { is_within (area_at (pos 0) (pos 0) width height) (rect_of area) ≡ true }
+    ensures block { rect_of area ≡ area_at (pos result.left) (pos result.top) result.columns result.lines }
+    ensures wide { result.left + result.columns ≤ width }
+    ensures high { result.top + result.lines ≤ height }
+    ensures some { 0 < width }
+{
+    Block {
+        left: area.x1 as u16,
+        top: area.y1 as u16,
+        columns: area.width() as u16,
+        lines: area.height() as u16,
+    }
+}
+
+impl Sight {
+    /// Nothing was told of so many pixels, and no request is open.
+    #[tactic(auto, using(crate::proofs::Lines::forgotten))]
+    pub fn open(alloc: Global, pixels: usize) -> Result<Sight, NoMemory>
+        ensures { IfOk result (λ sight. sight ≡ untold pixels) }
+    {
+        match vec![in alloc; None; pixels] {
+            Ok(sent) => Ok(Sight {
+                format: OWN,
+                sent,
+                request: None,
+            }),
+            Err(_) => Err(NoMemory),
+        }
+    }
+
+    /// From now on the viewer wants this format. Nothing counts as sent in it, and no request is open.
+    #[tactic(auto, using(crate::proofs::Lines::forgotten))]
+    pub fn set_format(&mut self, format: Format)
+        requires { is_format format ≡ true }
+        ensures { self.new ≡ in_format format self.old }
+    {
+        self.sent.fill(None);
+        self.format = format;
+        self.request = None;
+    }
+
+    /// The viewer asks for the pixels of an area, in the place of what it asked for before. An empty area only
+    /// closes that request.
+    pub fn ask(&mut self, area: Area)
+        ensures { self.new ≡ asked (rect_of area) self.old }
+    {
+        self.request = if area.is_empty() { None } else { Some(area) };
+    }
+
+    /// The least area that holds what is news of an area: the pixels whose colour has another number than was
+    /// last sent, or for which none was sent. `colors` are those of the panel, row by row.
+    pub fn news_area(&self, width: u16, height: u16, colors: &[Rgb565], area: Area) -> Area
+        requires each { length colors.now ≡ width * height }
+        requires known { length self.now.sent ≡ width * height }
+        requires inside { is_within (area_at (pos 0) (pos 0) width height) (rect_of area) ≡ true }
+        ensures { rect_of result ≡ news_area width colors.now self.now (rect_of area) }
+    {
+        let block = block_of(width, height, area);
+        let mut news = no_pixel();
+        for line in 0..block.lines {
+            news = self.join_news(
+                news,
+                width,
+                colors,
+                block.left,
+                block.columns,
+                block.top + line,
+            );
+        }
+        news
+    }
+
+    /// An area with the pixels that are news of a line, from a column on.
+    fn join_news(
+        &self,
+        mut news: Area,
+        width: u16,
+        colors: &[Rgb565],
+        left: u16,
+        columns: u16,
+        line: u16,
+    ) -> Area
+        requires known { length self.now.sent ≡ length colors.now }
+        requires wide { left + columns ≤ width }
+        requires high { line * width + width ≤ length colors.now }
+        ensures { rect_of result ≡
+            with_untold width self.now colors.now (line * width + left) columns (rect_of news) }
+    {
+        let first = usize::from(line) * usize::from(width) + usize::from(left);
+        for column in 0..columns {
+            let place = first + usize::from(column);
+            if !self.was_told(place, colors[place]) {
+                let (x, y) = (i32::from(left + column), i32::from(line));
+                news = news.join(Area {
+                    x1: x,
+                    y1: y,
+                    x2: x,
+                    y2: y,
+                });
+            }
+        }
+        news
+    }
+
+    /// Whether the number of this colour was last sent for a pixel.
+    #[tactic(auto, using(crate::proofs::Lines::known_is))]
+    fn was_told(&self, place: usize, color: Rgb565) -> bool
+        requires { place < length self.now.sent }
+        ensures { result ≡ is_number (known_at self.now.sent place) (number self.now.format color) }
+    {
+        match self.sent[place] {
+            None => false,
+            Some(sent) => number(self.format, sent) == number(self.format, color),
+        }
+    }
+}

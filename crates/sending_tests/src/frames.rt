@@ -127,16 +127,6 @@ fn a_list_that_overflows_sends_the_panel(rt: HostRuntime) -> Result<(), Fail> {
     Ok(())
 }
 
-/// What is refused sends nothing.
-#[test]
-fn a_refused_line_sends_nothing(rt: HostRuntime) -> Result<(), Fail> {
-    let script = b"new 10 3 obj\nframe\nnew 11 3 obj\nframe\n";
-    let ran = run(rt.alloc(), &["4", "2", "1", "objects=4"], script, &[])?;
-    assert!(rt; ran.status == Status::Noted);
-    assert_eq!(rt; ran.counts.as_slice(), [8, 0].as_slice());
-    Ok(())
-}
-
 /// The frame after a fault sends the slice that failed, and nothing that had arrived.
 #[test]
 fn a_slice_that_failed_is_sent_again(rt: HostRuntime) -> Result<(), Fail> {

@@ -5,3 +5,5 @@
 mod counting;
 #[cfg(test)]
 mod frames;
+#[cfg(test)]
+mod last_slots;

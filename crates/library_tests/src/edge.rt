@@ -1,8 +1,9 @@
 //! What no clause says: what the adapters make of a reader's and a writer's answers, and the numbers of
 //! faults and colours from outside.
-ghost use Rattle.std.specs.Prelude.{◌≡◌, ◌≤◌, ◌<◌, None, false, IfOk};
-ghost use Rattle.gui_base.specs.Area.{is_empty, size_of};
+ghost use Rattle.std.specs.Prelude.{◌≡◌, ◌≤◌, ◌<◌, None, true, false, pos, IfOk};
+ghost use Rattle.gui_base.specs.Area.{area_at, is_empty, is_within, size_of};
 ghost use Rattle.gui_base.specs.Corners.{rect_of};
+ghost use Rattle.gui_edge.specs.Panel.{CanStart};
 
 use gui_base::{Area, Rgb565, Steps};
 use gui_color::DrawBuf;
@@ -116,8 +117,16 @@ fn black_buffer<L: Ledger>(alloc: Global, area: Area, blank: Blank) -> Result<Dr
     Ok(buf)
 }
 
-/// A panel of two by two pixels, of which the first opening, the second start and the third poll fail. Its
-/// first poll moves one pixel.
+/// The same with steps that nobody counts.
+fn black(alloc: Global, area: Area) -> Result<DrawBuf, Fail>
+    requires some { is_empty (rect_of area) ≡ false }
+    requires two { size_of (rect_of area) ≡ 2 }
+    ensures { IfOk result (λ buf. buf.area ≡ rect_of area) }
+{
+    black_buffer::<Brand>(alloc, area, Blank::new(1))
+}
+
+/// A panel of two by two pixels, of which the first opening, the second start and the second poll fail.
 fn small_panel(alloc: Global) -> Result<SimPanel<MemSink>, Fail>
     ensures sizes { IfOk result (λ it. (it.width ≡ 2) × (it.height ≡ 2) × (it.limit ≡ 4)) }
     ensures still { IfOk result (λ it. it.coming ≡ None) }
@@ -125,8 +134,8 @@ fn small_panel(alloc: Global) -> Result<SimPanel<MemSink>, Fail>
     let plan = SimPlan {
         fail_open: true,
         fail_flush: vec![in alloc; 2]?,
-        fail_poll: vec![in alloc; 3]?,
-        moves: vec![in alloc; 1]?,
+        fail_poll: vec![in alloc; 2]?,
+        moves: Vec::new(alloc),
     };
     let frames = MemSink::with_capacity(alloc, 64, Vec::new(alloc))?;
     let mut panel = SimPanel::new(frames, plan);
@@ -136,6 +145,38 @@ fn small_panel(alloc: Global) -> Result<SimPanel<MemSink>, Fail>
     }
     panel.open(alloc, 2, 2, 4)?;
     Ok(panel)
+}
+
+/// Sends a buffer, and tells whether its colours arrive.
+fn send(panel: &mut SimPanel<MemSink>, buf: DrawBuf) -> Result<bool, Fail>
+    requires free { panel.old.coming ≡ None }
+    requires area { CanStart (⟦<SimPanel<MemSink> as Panel>⟧.state panel.old) buf }
+    ensures sizes { (panel.new.width ≡ panel.old.width) × (panel.new.height ≡ panel.old.height)
+        × (panel.new.limit ≡ panel.old.limit) }
+    ensures still { IfOk result (λ it. panel.new.coming ≡ None) }
+{
+    match panel.start(buf) {
+        Err(_) => Ok(false),
+        Ok(()) => match panel.poll() {
+            Polled::Ready(_) => Ok(true),
+            Polled::Failed(_) => Ok(false),
+            Polled::NotYet => Err(Fail::from("a poll moves a part alone")),
+        },
+    }
+}
+
+/// Sends black to two of the four pixels, and tells whether they show it.
+fn send_black(alloc: Global, panel: &mut SimPanel<MemSink>, area: Area) -> Result<bool, Fail>
+    requires sizes { (panel.old.width ≡ 2) × (panel.old.height ≡ 2) × (panel.old.limit ≡ 4) }
+    requires free { panel.old.coming ≡ None }
+    requires some { is_empty (rect_of area) ≡ false }
+    requires two { size_of (rect_of area) ≡ 2 }
+    requires inside { is_within (area_at (pos 0) (pos 0) 2 2) (rect_of area) ≡ true }
+    ensures sizes { (panel.new.width ≡ 2) × (panel.new.height ≡ 2) × (panel.new.limit ≡ 4) }
+    ensures still { IfOk result (λ it. panel.new.coming ≡ None) }
+{
+    let buf = black(alloc, area)?;
+    send(panel, buf)
 }
 
 /// Whether the panel shows these colours.
@@ -150,27 +191,28 @@ fn shows(panel: &SimPanel<MemSink>, colors: [u16; 4]) -> bool
     ] == colors
 }
 
+/// Sends the lower line, and then the right column until it arrives.
+fn send_all(rt: &impl Abort, alloc: Global, panel: &mut SimPanel<MemSink>) -> Result<(), Fail>
+    requires sizes { (panel.old.width ≡ 2) × (panel.old.height ≡ 2) × (panel.old.limit ≡ 4) }
+    requires free { panel.old.coming ≡ None }
+    ensures opened { panel.new.limit ≡ 4 }
+    ensures still { IfOk result (λ it. panel.new.coming ≡ None) }
+{
+    let column = Area::at(1, 0, 1, 2);
+    assert!(rt; send_black(alloc, panel, Area::at(0, 1, 2, 1))?);
+    assert!(rt; shows(panel, [0xA5A5, 0xA5A5, 0, 0]));
+    assert!(rt; !send_black(alloc, panel, column)?);
+    assert!(rt; shows(panel, [0xA5A5, 0x5A5A, 0, 0x5A5A]));
+    assert!(rt; !send_black(alloc, panel, column)?);
+    assert!(rt; send_black(alloc, panel, column)?);
+    Ok(())
+}
+
 #[test]
 fn a_panel_shows_and_presents(rt: HostRuntime) -> Result<(), Fail> {
     let alloc = rt.alloc();
     let mut panel = small_panel(alloc)?;
-    let line = black_buffer::<Brand>(alloc, Area::at(0, 1, 2, 1), Blank::new(1))?;
-    assert!(rt; panel.start(line).is_ok());
-    assert!(rt; matches!(panel.poll(), Polled::NotYet));
-    assert!(rt; matches!(panel.poll(), Polled::Ready(_)));
-    assert!(rt; shows(&panel, [0xA5A5, 0xA5A5, 0, 0]));
-    let column = black_buffer::<Brand>(alloc, Area::at(1, 0, 1, 2), Blank::new(1))?;
-    let Err((Failed, column)) = panel.start(column) else {
-        return Err(Fail::from("the second start does not fail"));
-    };
-    assert!(rt; shows(&panel, [0xA5A5, 0x5A5A, 0, 0x5A5A]));
-    assert!(rt; panel.start(column).is_ok());
-    let Polled::Failed(column) = panel.poll() else {
-        return Err(Fail::from("the third poll does not fail"));
-    };
-    assert!(rt; shows(&panel, [0xA5A5, 0x5A5A, 0, 0x5A5A]));
-    assert!(rt; panel.start(column).is_ok());
-    assert!(rt; matches!(panel.poll(), Polled::Ready(_)));
+    send_all(&rt, alloc, &mut panel)?;
     assert_eq!(rt; panel.sent(), 8);
     assert_eq!(rt; panel.present(), Ok(()));
     let frames = panel.into_frames();

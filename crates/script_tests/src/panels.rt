@@ -74,7 +74,7 @@ impl Panel for ListingPanel {
 
     ghost each = { λ p. p.panel.each };
 
-    ghost flying = { λ p. ⟦<SimPanel<MemSink> as Panel>⟧.flying p.panel };
+    ghost flying = { λ p buf is. let f = p.panel.flying buf is in record { inside = f.inside; small = f.small } };
 }
 
 /// Whether a script of which a frame is done starts these areas, has this log, and presents one white frame.

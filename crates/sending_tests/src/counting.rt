@@ -63,7 +63,7 @@ impl Panel for CountingPanel {
 
     ghost each = { λ p. p.panel.each };
 
-    ghost flying = { λ p. ⟦<SimPanel<MemSink> as Panel>⟧.flying p.panel };
+    ghost flying = { λ p buf is. let f = p.panel.flying buf is in record { inside = f.inside; small = f.small } };
 }
 
 /// What a run came to.

@@ -4,6 +4,4 @@
 #[cfg(test)]
 mod hearing;
 #[cfg(test)]
-mod panel;
-#[cfg(test)]
 mod pixels;

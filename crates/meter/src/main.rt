@@ -1,0 +1,91 @@
+//! A meter: each number on standard input is shown as a frame on standard output, by a bar, its digits, and a colour
+//! that tells of an alarm. There is no script: the scene is made and changed by typed commands.
+#![tactic(auto)]
+
+ghost use Rattle.std.specs.Prelude.{◌≡◌, None, IfOk, OnOk};
+ghost use Rattle.gui_base.specs.Limits.{with_sizes};
+ghost use Rattle.gui_edge.specs.Panel.{HasSizes};
+ghost use Rattle.meter.specs.Ready.{IsReady};
+
+mod fault;
+mod meter;
+
+use fault::Fault;
+use gui_base::Limits;
+use gui_core::Gui;
+use gui_edge::{MemSink, Panel, SimPanel, SimPlan, Sink, StdSink};
+use meter::{make_screen, set_number, show};
+use std::alloc::Global;
+use std::process::ExitCode;
+
+/// A panel in memory of 64 by 24 pixels, of which nothing fails, and which takes slices of eight lines.
+fn opened_panel<F: Sink + Drop>(alloc: Global, frames: F) -> Result<SimPanel<F>, Fault>
+    ensures sizes { IfOk result (λ it. HasSizes (⟦<SimPanel<F> as Panel>⟧.state it) (with_sizes 64 24 8)) }
+    ensures still { IfOk result (λ it. it.coming ≡ None) }
+{
+    let plan = SimPlan {
+        fail_open: false,
+        fail_flush: Vec::new(alloc),
+        fail_poll: Vec::new(alloc),
+        moves: Vec::new(alloc),
+    };
+    let mut panel = SimPanel::new(frames, plan);
+    match panel.open(alloc, 64, 24, 512) {
+        Ok(()) => Ok(panel),
+        Err(fault) => Err(Fault::from(fault)),
+    }
+}
+
+/// Shows the number that a line says. One that says none is passed over.
+fn show_line<S: Sink, P: Panel>(
+    text: &str,
+    gui: &mut Gui,
+    log: &mut S,
+    panel: &mut P,
+) -> Result<(), Fault>
+    requires { IsReady gui.old (P.state panel.old) }
+    ensures { OnOk result (IsReady gui.new (P.state panel.new)) }
+{
+    let Ok(number) = text.trim().parse() else {
+        return Ok(());
+    };
+    set_number(gui, log, number)?;
+    show(gui, panel)
+}
+
+/// Shows each number of standard input.
+fn show_numbers<S: Sink, P: Panel>(
+    rt: &HostRuntime,
+    gui: &mut Gui,
+    log: &mut S,
+    panel: &mut P,
+) -> Result<(), Fault>
+    requires { IsReady gui.old (P.state panel.old) }
+{
+    make_screen(gui, log)?;
+    for line in rt.lines(rt.alloc()) {
+        let line = line?;
+        show_line(line.as_str(), gui, log, panel)?;
+    }
+    Ok(())
+}
+
+/// Opens the machine and the panel, and shows the numbers.
+fn run(rt: &HostRuntime) -> Result<(), Fault> {
+    let alloc = rt.alloc();
+    // No handler says anything, so the log needs no room.
+    let mut log = MemSink::with_capacity(alloc, 0, Vec::new(alloc))?;
+    let mut gui = Gui::open(alloc, &Limits::with_sizes(64, 24, 8))?;
+    let mut panel = opened_panel(alloc, StdSink::new(rt.stdout()))?;
+    show_numbers(rt, &mut gui, &mut log, &mut panel)
+}
+
+fn main(rt: HostRuntime) -> ExitCode {
+    match run(&rt) {
+        Ok(()) => ExitCode::from(0),
+        Err(fault) => {
+            let _ = eprintln!(rt; "meter: {fault}");
+            ExitCode::from(1)
+        }
+    }
+}

@@ -9,8 +9,9 @@ use Rattle.gui_base.specs.declared.refusal.Refusal.{Refusal}
 use Rattle.gui_base.specs.declared.props.Prop.{Prop}
 use Rattle.gui_base.specs.declared.intervals.TheConstants.{HANDLE}
 use Rattle.gui_base.specs.declared.props.Prop.TheVariants.{TextFont}
+use Rattle.gui_base.specs.declared.words.Flag.TheVariants.{Scrollable}
 use Rattle.gui_base.specs.declared.words.Part.{Part}
-use Rattle.gui_base.specs.declared.words.Part.TheVariants.{Main, Indicator, Knob}
+use Rattle.gui_base.specs.declared.words.Part.TheVariants.{Main, Scrollbar, Indicator, Knob}
 use Rattle.gui_base.specs.Forest.{Forest, Empty, Tree, and_then, tree_by, all_by, path_by}
 use Rattle.gui_base.specs.Intervals.{is_counted}
 use Rattle.gui_base.specs.Props.{inherits}
@@ -25,7 +26,7 @@ use Rattle.text_defs.specs.Images.{Image, size_or}
 use Rattle.widget_defs.specs.declared.ImageLook.{ImageLook}
 use Rattle.widget_defs.specs.Looks.{Look, PartValues, number_of}
 use Rattle.scene_defs.specs.declared.Row.{Row}
-use Rattle.scene_defs.specs.Row.{is_row}
+use Rattle.scene_defs.specs.Row.{is_row, is_on}
 use Rattle.scene_defs.specs.Looks.{font_at, sized, image_look, look_of}
 use Rattle.scene_defs.specs.Texts.{is_text, is_shown_image}
 use Rattle.scene_defs.specs.declared.Change.{Change}
@@ -128,6 +129,7 @@ module _ (scene : Scene) (v : IsValid scene) (k : ℕ) where
   differs-not (change.Pos h x y) t w off = set-same scene h.0 k _ (λ object. refl) off (λ object. refl) true (λ e object. refl) (λ e. absurd (false≢true (sym e)))
   differs-not (change.Align h align x y) t w off = set-same scene h.0 k _ (λ object. refl) off (λ object. refl) true (λ e object. refl) (λ e. absurd (false≢true (sym e)))
   differs-not (change.Size h width height) t w off = set-same scene h.0 k _ (λ object. refl) off (λ object. refl) true (λ e object. refl) (λ e. absurd (false≢true (sym e)))
+  differs-not (change.Scroll h x y) t w off = set-same scene h.0 k _ (λ object. refl) off (λ object. refl) true (λ e object. refl) (λ e. absurd (false≢true (sym e)))
   differs-not (change.Flex h flow) t w off = set-same scene h.0 k _ (λ object. refl) off (λ object. refl) true (λ e object. refl) (λ e. absurd (false≢true (sym e)))
   differs-not (change.Places h main cross track) t w off = set-same scene h.0 k _ (λ object. refl) off (λ object. refl) true (λ e object. refl) (λ e. absurd (false≢true (sym e)))
   differs-not (change.Grow h n) t w off = set-same scene h.0 k _ (λ object. refl) off (λ object. refl) true (λ e object. refl) (λ e. absurd (false≢true (sym e)))
@@ -179,10 +181,11 @@ others_are_same scene c k v is off = by (answer_of scene c) refl (change_keeps_v
       alike-same scene c k v e (differs-not scene v k c (tests-fail (tests scene c) (first_short scene c POOLS) a.1) w off)
 
 -- What is the same has the same look.
-abbrev made_of : Row → List ℕ → PartValues → PartValues → PartValues → Face → Option ImageLook → Look
-made_of row text main indicator knob face image = record {
+abbrev made_of : Row → List ℕ → PartValues → PartValues → PartValues → PartValues → Face → Option ImageLook → Look
+made_of row text main scrollbar indicator knob face image = record {
   kind = row.kind;
   main = main;
+  scrollbar = scrollbar;
   indicator = indicator;
   knob = knob;
   text = chars text;
@@ -191,11 +194,14 @@ made_of row text main indicator knob face image = record {
   min = row.min;
   max = row.max;
   image = image;
+  scrollable = is_on row.flags Scrollable;
+  reach = (0, 0);
+  offset = (0, 0);
 }
 
 abbrev made_at : Scene → Object → ℕ → Look
 made_at scene object h =
-    made_of object.row object.text (value scene h Main) (value scene h Indicator) (value scene h Knob) (face_at scene h) (image_look scene.images object.row.image)
+    made_of object.row object.text (value scene h Main) (value scene h Scrollbar) (value scene h Indicator) (value scene h Knob) (face_at scene h) (image_look scene.images object.row.image)
 
 found-handle : (h : ℕ) (f : Forest Object) (object : Object) → object_by (is_at h) f ≡ Some object → object.handle ≡ h
 found-handle h Empty object e = cc
@@ -222,7 +228,7 @@ look-same before after h same = by (object_at before h) (object_at after h) refl
       let shown : image_look after.images new.row.image ≡ image_look before.images old.row.image = rw (was, is) at same.picture in
       let picture : image_look after.images old.row.image ≡ image_look before.images old.row.image = ap (λ (r : Row). image_look after.images r.image) (sym row) ∙ shown in
       let values = λ (part : Part). fun_ext (same.values part) in
-      let made : made_at after new h ≡ made_at before old h = rw (row, text, same.face, values Main, values Indicator, values Knob, picture) refl in
+      let made : made_at after new h ≡ made_at before old h = rw (row, text, same.face, values Main, values Scrollbar, values Indicator, values Knob, picture) refl in
       rw (was, is) (ap Some (found-look after h new is ∙ made ∙ sym (found-look before h old was)))
 
 pub others_look_same : OthersLookSame
@@ -235,7 +241,7 @@ look-alike before after k fonts images same values = ap (option_map (look_of aft
   by : (found : Option Object) → object_at before k ≡ found → option_map (look_of after) found ≡ option_map (look_of before) found
   by None is = refl
   by (Some object) is =
-      let made : made_at after object k ≡ made_at before object k = rw (values Main, values Indicator, values Knob, fonts, images) refl in
+      let made : made_at after object k ≡ made_at before object k = rw (values Main, values Scrollbar, values Indicator, values Knob, fonts, images) refl in
       ap Some (found-look after k object (same ∙ is) ∙ made ∙ sym (found-look before k object is))
 
 -- and what keeps its path where trees are edited

@@ -89,6 +89,7 @@ concerns scene (change.Flag h flag on) k = k == h.0
 concerns scene (change.Pos h x y) k = k == h.0
 concerns scene (change.Align h align x y) k = k == h.0
 concerns scene (change.Size h width height) k = k == h.0
+concerns scene (change.Scroll h x y) k = k == h.0
 concerns scene (change.Flex h flow) k = k == h.0
 concerns scene (change.Places h main cross track) k = k == h.0
 concerns scene (change.Grow h n) k = k == h.0

@@ -1,10 +1,10 @@
 -- Debts that were worked out by hand.
-use Rattle.std.specs.Prelude.{◌≡◌, ℕ, true, pos, List, [], ◌∷◌, ◌++◌, replicate, codes}
+use Rattle.std.specs.Prelude.{◌≡◌, ℕ, true, false, pos, List, [], ◌∷◌, ◌++◌, replicate, codes}
 use Rattle.std.specs.List.{filter}
 use Rattle.gui_base.specs.declared.Handle.{Handle}
 use Rattle.gui_base.specs.declared.props.Prop.TheVariants.{BgColor, BgOpa, TextColor}
 use Rattle.gui_base.specs.declared.words.State.TheVariants.{Pressed}
-use Rattle.gui_base.specs.declared.words.Flag.TheVariants.{Hidden}
+use Rattle.gui_base.specs.declared.words.Flag.TheVariants.{Hidden, Scrollable}
 use Rattle.gui_base.specs.declared.words.Flow.TheVariants.{Row}
 use Rattle.gui_base.specs.declared.words.Kind.{Kind}
 use Rattle.gui_base.specs.declared.words.Kind.TheVariants.{Screen, Layer, Obj, Label, Slider}
@@ -177,6 +177,36 @@ pub record DebtsAreWorked : Type 0 where
   -- nor does what is refused
   pub refused : debt_of one (change.Front (handle 99)) ≡ []
 
+-- a white object that is scrollable, with a blue one in it that is three times as high
+abbrev scrollable : Object → Object
+scrollable o = record o { row = record o.row { flags = 18 } }
+
+abbrev pub high : Scene
+high =
+    scene 20 20
+    (Tree (scrollable (object 10 0 0 20 20)) (Tree (object 11 0 0 10 60) Empty Empty) Empty)
+    (opaque 16777215 ∷ opaque 255 ∷ [])
+
+abbrev pub scrolls : Change
+scrolls = change.Scroll (handle 10) (pos 0) (pos 100)
+
+pub record ScrollingIsWorked : Type 0 where
+  -- what is scrolled owes its place, and so does all that it moves
+  pub scrolled : debt_of high scrolls ≡ area 0 0 19 19 ∷ area 0 0 9 19 ∷ []
+  -- farther than its children reach it moves nothing
+  pub no_farther : debt_of (changed high scrolls) (change.Scroll (handle 10) (pos 9) (pos 50)) ≡ area 0 0 19 19 ∷ []
+  -- where it is not scrollable any more, they go back
+  pub let_go :
+      debt_of (changed high scrolls) (change.Flag (handle 10) Scrollable false)
+      ≡ area 0 0 19 19 ∷ area 0 0 9 19 ∷ []
+  -- a new child is moved as the others are
+  pub joined :
+      debt_of (changed high scrolls) (change.New (handle 12) (handle 10) Obj)
+      ≡ area 0 0 19 9 ∷ []
+  -- a child that gets shorter is moved less
+  pub shorter :
+      debt_of (changed high scrolls) (change.Size (handle 11) (Pixels 10) (Pixels 30)) ≡ area 0 0 9 19 ∷ []
+
 -- the objects of two screens that a change concerns
 abbrev concerned : Scene → Change → List ℕ
 concerned scene change = filter (concerns scene change) (1 ∷ 2 ∷ 3 ∷ 10 ∷ 11 ∷ [])
@@ -200,3 +230,5 @@ pub record ConcernsAreWorked : Type 0 where
   pub parents : concerned nested (change.Parent (handle 11) (handle 3)) ≡ 3 ∷ 10 ∷ 11 ∷ []
   -- a screen that is loaded is the same, and so is all else
   pub load : concerned two_screens (change.Load (handle 4)) ≡ []
+  -- what is scrolled is another, and what it moves is the same
+  pub scroll : concerned high scrolls ≡ 10 ∷ []

@@ -19,6 +19,7 @@ named (change.Flag h flag on) = Some h.0
 named (change.Pos h x y) = Some h.0
 named (change.Align h align x y) = Some h.0
 named (change.Size h width height) = Some h.0
+named (change.Scroll h x y) = Some h.0
 named (change.Flex h flow) = Some h.0
 named (change.Places h main cross track) = Some h.0
 named (change.Grow h n) = Some h.0

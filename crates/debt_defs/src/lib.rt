@@ -3,7 +3,7 @@
 #![tactic(auto)]
 
 ghost use Rattle.debt_defs.specs.Concerns.{OthersAreSame, OthersLookSame};
-ghost use Rattle.debt_defs.specs.Examples.{DebtsAreWorked, ConcernsAreWorked};
+ghost use Rattle.debt_defs.specs.Examples.{DebtsAreWorked, ConcernsAreWorked, ScrollingIsWorked};
 ghost use Rattle.debt_defs.specs.Frame.{FrameOfLooks};
 ghost use Rattle.debt_defs.specs.Laws.{FrameOfScenes, PaintedByLook, RefusedOwesNothing, DebtWithinPanel};
 ghost use Rattle.debt_defs.specs.Orders.{OthersKeepOrder, SettersKeepOrder, SeenInsideAbove};
@@ -36,6 +36,7 @@ pub fn debts_lie_in_the_panel()
 pub fn worked_examples()
     ensures debts { DebtsAreWorked }
     ensures concerned { ConcernsAreWorked }
+    ensures scrolling { ScrollingIsWorked }
 {}
 
 /// Why no part of a debt may be left out. Each of these debts would miss a pixel that a change paints: that

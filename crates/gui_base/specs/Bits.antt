@@ -3,7 +3,7 @@ use Rattle.std.specs.Prelude.{ℕ, ◌^◌, Bool, if◌then◌else◌, ◌==◌,
 use Rattle.std.specs.Int.{bit_at, bit_not}
 use Rattle.std.proofs.Common.{w16}
 use Rattle.gui_base.specs.declared.words.Flag.{Flag}
-use Rattle.gui_base.specs.declared.words.Flag.TheVariants.{Hidden, Clickable, Checkable, Bubble}
+use Rattle.gui_base.specs.declared.words.Flag.TheVariants.{Hidden, Clickable, Checkable, Bubble, Scrollable}
 use Rattle.gui_base.specs.declared.words.State.{State}
 use Rattle.gui_base.specs.declared.words.State.TheVariants.{Checked, Focused, FocusKey, Edited, Hovered}
 use Rattle.gui_base.specs.declared.words.State.TheVariants.{Pressed, Scrolled, Disabled, User1, User2, User3}
@@ -23,6 +23,7 @@ flag_bit Hidden = 0
 flag_bit Clickable = 1
 flag_bit Checkable = 2
 flag_bit Bubble = 3
+flag_bit Scrollable = 4
 
 -- the bit of a state
 abbrev pub state_bit : State → ℕ

@@ -46,6 +46,9 @@ pub const COORDINATE: Interval = Interval {
     high: 4000,
 };
 
+/// How far the children of an object are to be scrolled, in pixels.
+pub const SCROLL: Interval = Interval { low: 0, high: 8191 };
+
 /// An opacity: 0 covers nothing, 255 all.
 pub const OPACITY: Interval = Interval { low: 0, high: 255 };
 

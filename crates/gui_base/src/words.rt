@@ -49,13 +49,16 @@ pub enum Flag {
     Checkable,
     /// Its events go on to its parent.
     Bubble,
+    /// It moves its children by its offset, and shows bars where they do not fit.
+    Scrollable,
 }
 
-pub const FLAGS: [(&'static str, Flag); 4] = [
+pub const FLAGS: [(&'static str, Flag); 5] = [
     ("hidden", Flag::Hidden),
     ("clickable", Flag::Clickable),
     ("checkable", Flag::Checkable),
     ("bubble", Flag::Bubble),
+    ("scrollable", Flag::Scrollable),
 ];
 
 /// What a flag is set to.

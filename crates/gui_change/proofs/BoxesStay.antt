@@ -2,7 +2,9 @@
 use Rattle.std.proofs.Common.{◌≡◌, ◌∙◌, ap, sym, ℕ, Bool, true, false, refl, None}
 use Rattle.std.specs.Prelude.{not}
 use Rattle.std.proofs.lemmas.Bool.{false≢true}
+use Rattle.gui_base.specs.Bits.{with_bit, flag_bit}
 use Rattle.gui_base.specs.declared.props.Prop.{Prop}
+use Rattle.gui_base.specs.declared.words.Flag.TheVariants.{Scrollable}
 use Rattle.gui_base.specs.declared.words.Part.TheVariants.{Main}
 use Rattle.style_defs.specs.Book.{Book}
 use Rattle.scene_defs.specs.declared.Change.{Change}
@@ -10,6 +12,7 @@ use Rattle.scene_defs.specs.declared.Change.TheVariants as change
 use Rattle.scene_defs.specs.declared.Row.{Row}
 use Rattle.scene_defs.specs.Change.{answer_of, changed, scene_after}
 use Rattle.scene_defs.specs.Edits.{over_row, with_row}
+use Rattle.scene_defs.specs.Row.{is_on}
 use Rattle.scene_defs.specs.Scene.{Object, Scene, value}
 use Rattle.scene_defs.specs.Valid.{IsValid, IsChange}
 use Rattle.debt_defs.specs.Concerns.{concerns}
@@ -19,7 +22,7 @@ use Rattle.gui_change.specs.Moving.{moves_nobody, goes_by}
 use Rattle.gui_change.proofs.Changes.{after_is}
 use Rattle.gui_change.proofs.Laid.{laid, box-same}
 use Rattle.gui_change.proofs.MainValues.{values-set, values-unset, values-local, values-unlocal}
-use Rattle.gui_change.proofs.SetRows.{hidden-kept, row-set}
+use Rattle.gui_change.proofs.SetRows.{hidden-kept, scrollable-kept, row-set}
 use Rattle.gui_change.proofs.Unchanged.{box-alike, looks-same}
 
 not-true : (b : Bool) → not b ≡ true → b ≡ false
@@ -47,7 +50,11 @@ module _ (scene : Scene) (k : ℕ) where
   after-stays (change.Load h) valid plain done nobody = refl
   after-stays (change.Flag h flag on) valid plain done nobody =
       row-stays h.0 _ (λ row. refl) (λ row. refl)
-      (λ object. ap (λ (b : Bool). record (laid object) { hidden = b }) (hidden-kept object.row.flags flag on (not-true _ nobody)))
+      (λ object.
+      ap (λ (b : Bool). record (laid object) { hidden = b; scrollable = is_on (with_bit object.row.flags (flag_bit flag) on) Scrollable })
+      (hidden-kept object.row.flags flag on (not-true _ nobody))
+      ∙ ap (λ (b : Bool). record (laid object) { scrollable = b })
+      (scrollable-kept object.row.flags flag on (not-true _ nobody)))
   after-stays (change.Value h n) valid plain done nobody = row-stays h.0 _ (λ row. refl) (λ row. refl) (λ object. refl)
   after-stays (change.Range h low high) valid plain done nobody = row-stays h.0 _ (λ row. refl) (λ row. refl) (λ object. refl)
   after-stays (change.Set s p n) valid plain done nobody = style-stays _ (values-set scene s p n k (not-true _ nobody))

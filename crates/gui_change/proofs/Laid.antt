@@ -7,7 +7,7 @@ use Rattle.std.proofs.Math.Path.{fun_ext}
 use Rattle.gui_base.specs.Area.{nat_of}
 use Rattle.gui_base.specs.declared.props.Prop.{Prop}
 use Rattle.gui_base.specs.declared.props.Prop.TheVariants.{BorderWidth, PadLeft, PadRight, PadTop, PadBottom, PadRow, PadColumn, TextFont}
-use Rattle.gui_base.specs.declared.words.Flag.TheVariants.{Hidden}
+use Rattle.gui_base.specs.declared.words.Flag.TheVariants.{Hidden, Scrollable}
 use Rattle.gui_base.specs.declared.words.Kind.{Kind}
 use Rattle.gui_base.specs.declared.words.Kind.TheVariants.{Label, Image as Picture, Checkbox}
 use Rattle.gui_base.specs.declared.words.Part.TheVariants.{Main}
@@ -31,11 +31,17 @@ laid_row row = record row { flags = 0; states = 0; value = pos 0; min = pos 0; m
 
 pub record Laid : Type 0 where
   pub hidden : Bool
+  pub scrollable : Bool
   pub row : Row
   pub text : List ℕ
 
 abbrev pub laid : Object → Laid
-laid object = record { hidden = is_on object.row.flags Hidden; row = laid_row object.row; text = object.text }
+laid object = record {
+  hidden = is_on object.row.flags Hidden;
+  scrollable = is_on object.row.flags Scrollable;
+  row = laid_row object.row;
+  text = object.text;
+}
 
 abbrev laid_values : PartValues → PartValues
 laid_values values prop = if goes_by prop then values prop else pos 0
@@ -45,6 +51,7 @@ abbrev look_by : List Font → List Image → Laid → PartValues → Look
 look_by fonts images object values = record {
   kind = object.row.kind;
   main = values;
+  scrollbar = values;
   indicator = values;
   knob = values;
   text = chars object.text;
@@ -53,6 +60,9 @@ look_by fonts images object values = record {
   min = pos 0;
   max = pos 0;
   image = image_look images object.row.image;
+  scrollable = object.scrollable;
+  reach = (0, 0);
+  offset = (0, 0);
 }
 
 -- the box that they make
@@ -67,6 +77,7 @@ box_by fonts images h object v = record {
     before = nat_of (v BorderWidth) + nat_of (v PadLeft);
     after = nat_of (v BorderWidth) + nat_of (v PadRight);
     gap = nat_of (v PadColumn);
+    scroll = nat_of object.row.scroll_x;
   };
   down = record {
     size = object.row.height;
@@ -75,10 +86,12 @@ box_by fonts images h object v = record {
     before = nat_of (v BorderWidth) + nat_of (v PadTop);
     after = nat_of (v BorderWidth) + nat_of (v PadBottom);
     gap = nat_of (v PadRow);
+    scroll = nat_of object.row.scroll_y;
   };
   flow = object.row.flow;
   places = record { main = object.row.places.0; cross = object.row.places.1; track = object.row.places.2 };
   grow = object.row.grow;
+  scrollable = object.scrollable;
   own_width = width_by object.row.kind (look_by fonts images object v);
   own_height = height_by object.row.kind (look_by fonts images object v);
 }

@@ -6,7 +6,7 @@ use Rattle.std.proofs.lemmas.Nat.Bits.{bit_at_set_other, bit_at_clear_other}
 use Rattle.gui_base.specs.Bits.{has_bit, with_bit, flag_bit}
 use Rattle.gui_base.specs.Forest.{Forest, Empty, Tree, path_by, has_by, with_row_by}
 use Rattle.gui_base.specs.declared.words.Flag.{Flag}
-use Rattle.gui_base.specs.declared.words.Flag.TheVariants.{Hidden, Clickable, Checkable, Bubble}
+use Rattle.gui_base.specs.declared.words.Flag.TheVariants.{Hidden, Clickable, Checkable, Bubble, Scrollable}
 use Rattle.gui_base.specs.declared.words.Part.TheVariants.{Main}
 use Rattle.style_defs.specs.Value.{value_on}
 use Rattle.scene_defs.specs.declared.Row.{Row}
@@ -16,19 +16,27 @@ use Rattle.scene_defs.specs.Scene.{Object, Scene, is_at, object_by, path_at, sty
 use Rattle.gui_change.specs.Moving.{goes_by_flag}
 use Rattle.gui_change.proofs.Laid.{LaidSame, laid}
 
--- a bit that is set or cleared leaves the lowest one
-lowest-kept : (set k : ℕ) (on : Bool) → k < 16 → (0 ≡ k → ⊥) → has_bit (with_bit set k on) 0 ≡ has_bit set 0
+-- a bit that is set or cleared leaves another one
+bit-kept : (set k j : ℕ) (on : Bool) → k < 16 → j < 16 → (j ≡ k → ⊥) → has_bit (with_bit set k on) j ≡ has_bit set j
 unfolding has_bit with_bit
-lowest-kept set k true fits other =
-    ap (λ (b : ℕ). nat_eq b 1) (rw (one_shl k 16 fits) at (bit_at_set_other w16 set k fits 0 other))
-lowest-kept set k false fits other =
-    ap (λ (b : ℕ). nat_eq b 1) (rw (one_shl k 16 fits) at (bit_at_clear_other w16 set k fits 0 (omega arith) other))
+bit-kept set k j true fits here other =
+    ap (λ (b : ℕ). nat_eq b 1) (rw (one_shl k 16 fits) at (bit_at_set_other w16 set k fits j other))
+bit-kept set k j false fits here other =
+    ap (λ (b : ℕ). nat_eq b 1) (rw (one_shl k 16 fits) at (bit_at_clear_other w16 set k fits j here other))
 
 pub hidden-kept : (flags : ℕ) (flag : Flag) (on : Bool) → goes_by_flag flag ≡ false → is_on (with_bit flags (flag_bit flag) on) Hidden ≡ is_on flags Hidden
 hidden-kept flags Hidden on off = cc
-hidden-kept flags Clickable on off = lowest-kept flags 1 on (omega arith) (λ e. omega arith)
-hidden-kept flags Checkable on off = lowest-kept flags 2 on (omega arith) (λ e. omega arith)
-hidden-kept flags Bubble on off = lowest-kept flags 3 on (omega arith) (λ e. omega arith)
+hidden-kept flags Clickable on off = bit-kept flags 1 0 on (omega arith) (omega arith) (λ e. omega arith)
+hidden-kept flags Checkable on off = bit-kept flags 2 0 on (omega arith) (omega arith) (λ e. omega arith)
+hidden-kept flags Bubble on off = bit-kept flags 3 0 on (omega arith) (omega arith) (λ e. omega arith)
+hidden-kept flags Scrollable on off = cc
+
+pub scrollable-kept : (flags : ℕ) (flag : Flag) (on : Bool) → goes_by_flag flag ≡ false → is_on (with_bit flags (flag_bit flag) on) Scrollable ≡ is_on flags Scrollable
+scrollable-kept flags Hidden on off = cc
+scrollable-kept flags Clickable on off = bit-kept flags 1 4 on (omega arith) (omega arith) (λ e. omega arith)
+scrollable-kept flags Checkable on off = bit-kept flags 2 4 on (omega arith) (omega arith) (λ e. omega arith)
+scrollable-kept flags Bubble on off = bit-kept flags 3 4 on (omega arith) (omega arith) (λ e. omega arith)
+scrollable-kept flags Scrollable on off = cc
 
 module _ (scene : Scene) (h : ℕ) (f : Row → Row) (kind : (row : Row) → (f row).kind ≡ row.kind) (states : (row : Row) → (f row).states ≡ row.states)
     (same : (object : Object) → laid (over_row f object) ≡ laid object) where

@@ -7,7 +7,7 @@ use Rattle.gui_base.specs.declared.props.Prop.TheVariants.{PadRight, PadRow, Pad
 use Rattle.gui_base.specs.declared.props.Prop.TheVariants.{ImgOpa, TextColor, TextOpa, TextFont}
 use Rattle.gui_base.specs.declared.props.Prop.TheVariants.{TextAlign, TextLetterSpace, TextLineSpace}
 use Rattle.gui_base.specs.declared.words.Flag.{Flag}
-use Rattle.gui_base.specs.declared.words.Flag.TheVariants.{Hidden, Clickable, Checkable, Bubble}
+use Rattle.gui_base.specs.declared.words.Flag.TheVariants.{Hidden, Clickable, Checkable, Bubble, Scrollable}
 use Rattle.gui_base.specs.declared.words.Part.TheVariants.{Main}
 use Rattle.gui_base.specs.declared.words.Selector.{Selector}
 use Rattle.gui_base.specs.Words.{same_part}
@@ -47,6 +47,7 @@ goes_by_flag Hidden = true
 goes_by_flag Clickable = false
 goes_by_flag Checkable = false
 goes_by_flag Bubble = false
+goes_by_flag Scrollable = true
 
 -- Whether a change leaves the trees, and every object its box. What is set of a row, of styles or of an object
 -- is then nothing that layout goes by. No text or picture shows a font or an image that is not finished, so
@@ -64,6 +65,7 @@ moves_nobody (change.Flag h flag on) = not (goes_by_flag flag)
 moves_nobody (change.Pos h x y) = false
 moves_nobody (change.Align h align x y) = false
 moves_nobody (change.Size h width height) = false
+moves_nobody (change.Scroll h x y) = false
 moves_nobody (change.Flex h flow) = false
 moves_nobody (change.Places h main cross track) = false
 moves_nobody (change.Grow h n) = false

@@ -31,7 +31,7 @@ fn goes_by_flag(flag: Flag) -> bool
     ensures { result ≡ goes_by_flag flag }
 {
     match flag {
-        Flag::Hidden => true,
+        Flag::Hidden | Flag::Scrollable => true,
         Flag::Clickable | Flag::Checkable | Flag::Bubble => false,
     }
 }
@@ -47,6 +47,7 @@ pub(crate) fn moves_nobody(change: &Change) -> bool
         Change::Flag(_, flag, _) => !goes_by_flag(flag),
         Change::Pos(_, _, _) | Change::Align(_, _, _, _) | Change::Size(_, _, _) => false,
         Change::Flex(_, _) | Change::Places(_, _, _, _) | Change::Grow(_, _) => false,
+        Change::Scroll(_, _, _) => false,
         Change::State(_, _, _) | Change::Text(_, _) | Change::Source(_, _) => false,
         Change::Use(_, _, _) | Change::Unuse(_, _, _) => false,
         Change::Set(_, prop, _) | Change::Unset(_, prop) => !goes_by(prop),

@@ -1,5 +1,5 @@
 -- What is right of objects that did not differ since they were solved.
-use Rattle.std.proofs.Common.{◌≡◌, ◌∙◌, refl, sym, ap, subst, ℕ, Bool, true, false, eqb, eq-eqb, ◌||◌, ◌∷◌, map, Option, Some, None, inl, inr}
+use Rattle.std.proofs.Common.{◌≡◌, ◌∙◌, refl, sym, ap, subst, ℕ, Bool, true, false, eqb, eq-eqb, ◌||◌, List, ◌∷◌, map, Option, Some, None, inl, inr}
 use Rattle.std.proofs.lemmas.Bool.{cases_Bool, eqb-true, both_ways, false_from_ne_true, or_left, or_right, false≢true}
 use Rattle.gui_base.specs.Forest.{Forest, Empty, Tree, StandsOnce, children_of, has, has_by, map_forest, parent_by, roots}
 use Rattle.gui_base.specs.Limits.{Bounds}
@@ -15,6 +15,9 @@ use Rattle.gui_layout.specs.Settles.{known_in}
 use Rattle.gui_layout.proofs.Marking.{but-alike, fill-fewer, fits-left, left-graded, marked-has, natural-others, steady-is}
 use Rattle.gui_layout.proofs.Parts.{IsDistinct, IsPart, below, beside, distinct_once, found, has-part, here, part_below, part_beside, part_children, there as there_in, whole}
 use Rattle.gui_layout.proofs.Renewals.{some-box}
+use Rattle.gui_layout.specs.Scrolled.{scrolled_known}
+use Rattle.gui_layout.proofs.Overs.{kids-same, root-in}
+use Rattle.gui_layout.proofs.Rescrolled.{unmarked-root}
 use Rattle.gui_layout.proofs.Settling.{is_at, is_root, parent-root, root-has}
 
 roots-map : (g : ℕ → Known) (f : Forest ℕ) → roots (map_forest g f) ≡ map g (roots f)
@@ -107,10 +110,18 @@ module _ (p : Places) (scene : Scene) (s m c : ℕ → Bool) (once : StandsOnce 
     placed = λ k there looked un. (was.each k there looked un).placed;
     fit = all f whole;
     fill = fills f (λ k i. i);
+    scrolled = λ k there looked un off looks.
+        let at = was.each k there looked un in
+        let g = children_of (handles_of was.before.trees) k in
+        let kids : roots (children_of f k) ≡ roots g = subst (λ on. HasKids on m (children_of f k) g) off at.kids in
+        let kid_same : (j : ℕ) → is_root j (children_of f k) ≡ true → new j ≡ old j = λ j kid. same j (root-in f j k kid) (looks.looked j kid) (unmarked-root m (children_of f k) j looks.unchanged kid) in
+        at.scrolled
+        ∙ (ap (λ (ks : List Known). scrolled_known (old k) ks) (roots-map old g ∙ (ap (map old) (sym kids) ∙ (sym (roots-map old (children_of f k)) ∙ sym (kids-same old new (children_of f k) kid_same))))
+        ∙ ap (λ (i : Known). scrolled_known i (roots (map_forest new (children_of f k)))) (sym (same k there looked un)));
   }
 
 -- What stands below an object of the marked trees is one of theirs.
-marked-closed : (w : ℕ → Bool) (h k : ℕ) (g : Forest ℕ) → IsDistinct g → has (marked_trees w g) h ≡ true → is_root k (children_of g h) ≡ true → has (marked_trees w g) k ≡ true
+pub marked-closed : (w : ℕ → Bool) (h k : ℕ) (g : Forest ℕ) → IsDistinct g → has (marked_trees w g) h ≡ true → is_root k (children_of g h) ≡ true → has (marked_trees w g) k ≡ true
 marked-closed w h k Empty distinct is kid = absurd (false≢true is)
 marked-closed w h k (Tree t cs rest) distinct is kid = elim (cases_Bool (w t || has_by w cs)) [
   | inl some ↦
@@ -150,6 +161,7 @@ right_fewer p scene s t m c fewer was = record {
   placed = λ k there looked un. was.placed k there (fewer k looked) un;
   fit = fit-fewer s t m c (known_in p scene) (handles_of scene.trees) fewer was.fit;
   fill = fill-fewer s t m m scene.limits.width scene.limits.height (known_in p scene) (handles_of scene.trees) fewer (λ k un. un) was.fill;
+  scrolled = λ k there looked un off looks. was.scrolled k there (fewer k looked) un off (record { looked = λ j kid. fewer j (looks.looked j kid); unchanged = looks.unchanged });
 }
 
 -- Where no object is looked at, there is nothing to say.
@@ -178,6 +190,7 @@ right_unmarked p scene w m c none =
       placed = λ k there looked un. absurd (both_ways (in_marked w scene k) (unseen k) looked);
       fit = fit-unseen (in_marked w scene) m c (known_in p scene) (handles_of scene.trees) unseen;
       fill = fill-unseen (in_marked w scene) m scene.limits.width scene.limits.height (known_in p scene) (handles_of scene.trees) unseen;
+      scrolled = λ k there looked un off looks. absurd (both_ways (in_marked w scene k) (unseen k) looked);
     }
 
 -- Trees that fit part by part.
@@ -235,6 +248,7 @@ module _ (p : Places) (before scene : Scene) (m c : ℕ → Bool) (settled : Are
         fills = λ none.
             subst (λ (b : Bounds). FillsPanel b.width b.height (known k)) (sym limits)
             (fill-at before.limits.width before.limits.height k known g (root-of k None g here_before (is.root none)) settled.settled.fill);
+        scrolled = settled.scrolled k here_before;
       }
 
   pub settled_but_marks : AreSettledButMarks p scene m c

@@ -15,7 +15,7 @@ use Rattle.gui_layout.specs.Scenes.{scene_box}
 use Rattle.gui_layout.specs.Settled.{IsSettled, Known, known}
 use Rattle.gui_layout.specs.SettledBut.{AreRightButChanged, anyone, in_marked, nobody}
 use Rattle.gui_layout.specs.Settles.{Settles, known_in}
-use Rattle.gui_layout.specs.Solved.{AreSettled, layout_of, place_at}
+use Rattle.gui_layout.specs.Solved.{AreStanding, layout_of, place_at}
 use Rattle.gui_layout.proofs.Apart.{marked_placed}
 use Rattle.gui_layout.proofs.Renewals.{box-some}
 use Rattle.gui_layout.proofs.Entering.{all_placed}
@@ -42,7 +42,7 @@ no-fills s n width height k (Tree h cs rest) none fill = (
 
 -- Where the trees that w marks are right, they are settled, and their objects have the places of the scene.
 module _ (scene : Scene) (new : Places) (w : ℕ → Bool) (now : AreRightButChanged new scene (in_marked w scene) nobody) where
-  marked-settled : IsSettled scene.limits.width scene.limits.height (known (scene_box scene) (layout_of new) (marked_trees w (handles_of scene.trees)))
+  pub marked-settled : IsSettled scene.limits.width scene.limits.height (known (scene_box scene) (layout_of new) (marked_trees w (handles_of scene.trees)))
   marked-settled =
       let s = in_marked w scene in
       let f = handles_of scene.trees in
@@ -86,7 +86,7 @@ module _ (scene : Scene) (old mid new : Places) (m n : ℕ → Bool)
 
   module _ (valid : IsValid scene) where
     -- where all was right but for the marks, all is settled
-    pub all-settled : AreRightButChanged old scene anyone m → ((k : ℕ) → is_some (value_at new.entries k) ≡ has f k) → AreSettled new scene
+    pub all-settled : AreRightButChanged old scene anyone m → ((k : ℕ) → is_some (value_at new.entries k) ≡ has f k) → AreStanding new scene
     all-settled was some =
         let now = right anyone was in
         let settled : IsSettled width height (known (scene_box scene) (layout_of new) f) = record {

@@ -5,9 +5,10 @@ use Rattle.gui_base.specs.Forest.{Forest, Empty, Tree, roots, map_forest}
 use Rattle.layout_defs.specs.declared.Course.{Course}
 use Rattle.layout_defs.specs.declared.Course.TheVariants.{Free, Across, Down}
 use Rattle.layout_defs.specs.Boxes.{Box, course_of, inner}
-use Rattle.layout_defs.specs.Solving.{Wide, Tall, Placed, Slot, solved, wide_box, tall_box, width_in, own_slot, dealt, natural_width, natural_height, kid_widths_by, kid_widths, kid_slots, room_of, flow_slots, taking_part, row_widths, nowhere, with_widths, with_natural_heights, with_slots}
+use Rattle.layout_defs.specs.Solving.{Wide, Tall, Placed, Slot, solved, wide_box, tall_box, width_in, own_slot, dealt, natural_width, natural_height, kid_widths_by, kid_widths, flat_slots, kid_reach, kid_slots, moved, offset_of, room_of, flow_slots, taking_part, row_widths, nowhere, with_widths, with_natural_heights, with_slots}
 use Rattle.layout_defs.specs.Tables.{Holds}
 use Rattle.gui_layout.specs.Found.{HoldsNaturalWidths, HoldsWidths, boxed, widths_of}
+use Rattle.gui_layout.specs.Scrolls.{HoldsScrolls, not_scrolled, scrolled_placed}
 use Rattle.gui_layout.specs.Settled.{Known, wide_of, tall_of, width_of, slot_of, AllFit, Layout, known_at, known, corner, AllFill, IsSettled}
 use Rattle.gui_layout.specs.Slots.{HoldsPlaced, HoldsSlots, slot_at, talls, tall_at}
 use Rattle.gui_layout.specs.Talls.{HoldsNaturalHeights, heights_of, widened_at}
@@ -34,7 +35,10 @@ widths-length Across box room kids = dealt-length wide_box (width_in room) kids 
 widths-length Down box room kids = mapped-length (width_in room) kids
 
 slots-length : (tall : Tall) (slot : Slot) (kids : List Tall) → length (kid_slots tall slot kids) ≡ length kids
-slots-length tall slot kids = let room = room_of tall slot in dealt-length tall_box (own_slot room) kids (flow_slots tall.box room (taking_part tall_box kids))
+slots-length tall slot kids =
+    let room = room_of tall slot in
+    mapped-length (moved (offset_of tall.box (kid_reach tall slot kids))) (flat_slots tall slot kids)
+    ∙ dealt-length tall_box (own_slot room) kids (flow_slots tall.box room (taking_part tall_box kids))
 
 module _ (box : ℕ → Box) (l : Layout) where
   abbrev knows : Forest ℕ → Forest Known
@@ -119,8 +123,16 @@ module _ (box : ℕ → Box) (l : Layout) where
   abbrev wides : Forest ℕ → Forest Wide
   wides f = map_forest (λ h. wide_of (known_at box l h)) f
 
-  abbrev placed_at : ℕ → Placed
-  placed_at h = record { tall = tall_at box l.widths l.natural_heights h; slot = slot_at l.slots h }
+  -- an object with these children
+  abbrev placed_with : ℕ → Forest ℕ → Placed
+  placed_with h cs =
+      let tall = tall_at box l.widths l.natural_heights h in
+      let slot = slot_at l.slots h in
+      record { tall = tall; slot = slot; reach = kid_reach tall slot (roots (talls box l.widths l.natural_heights cs)) }
+
+  abbrev placed_trees : Forest ℕ → Forest Placed
+  placed_trees Empty = Empty
+  placed_trees (Tree h cs rest) = Tree (placed_with h cs) (placed_trees cs) (placed_trees rest)
 
   wides_given : (f : Forest ℕ) → AllFit (knows f) → widths_of box f ≡ wides f
   wides_given Empty fit = refl
@@ -146,7 +158,7 @@ module _ (box : ℕ → Box) (l : Layout) where
       let natural = ap (λ (t : Forest Tall). natural_height own width (roots t)) below ∙ (ap (natural_height own width) (tall_roots cs) ∙ sym fit.0.natural_height) in
       same_tree _ _ _ _ _ _ (ap (λ n. record { box = own; width = width; natural_height = n }) natural) below (heights_given rest fit.2)
 
-  slots_given : (f : Forest ℕ) → AllFit (knows f) → with_slots (map slot_of (roots (knows f))) (talls box l.widths l.natural_heights f) ≡ map_forest placed_at f
+  slots_given : (f : Forest ℕ) → AllFit (knows f) → with_slots (map slot_of (roots (knows f))) (talls box l.widths l.natural_heights f) ≡ placed_trees f
   slots_given Empty fit = refl
   slots_given (Tree h cs rest) fit =
       let k = known_at box l h in
@@ -157,6 +169,14 @@ module _ (box : ℕ → Box) (l : Layout) where
   told_holds : {A V : Type 0} (g : ℕ → A) (handle : A → ℕ) (value : A → V) (d : V) (table : List V) → ((h : ℕ) → get_or table (handle (g h)) d ≡ value (g h)) → (f : Forest ℕ) → Holds handle value d table (map_forest g f)
   told_holds g handle value d table is Empty = tt
   told_holds g handle value d table is (Tree h cs rest) = (is h, told_holds g handle value d table is cs, told_holds g handle value d table is rest)
+
+  placed_hold : {V : Type 0} (value : Placed → V) (d : V) (table : List V) → ((h : ℕ) (cs : Forest ℕ) → get_or table h d ≡ value (placed_with h cs)) → (f : Forest ℕ) → Holds (λ (p : Placed). p.tall.box.handle) value d table (placed_trees f)
+  placed_hold value d table is Empty = tt
+  placed_hold value d table is (Tree h cs rest) = (is h cs, placed_hold value d table is cs, placed_hold value d table is rest)
+
+  scrolls_hold : (f : Forest ℕ) → HoldsScrolls box l.widths l.natural_heights l.slots l.scrolls f → Holds (λ (p : Placed). p.tall.box.handle) scrolled_placed not_scrolled l.scrolls (placed_trees f)
+  scrolls_hold Empty holds = tt
+  scrolls_hold (Tree h cs rest) holds = (holds.0, scrolls_hold cs holds.1, scrolls_hold rest holds.2)
 
   -- Where all fit, and the roots fill the panel, the places are those that are solved.
   module _ (width height : ℕ) where
@@ -170,7 +190,7 @@ module _ (box : ℕ → Box) (l : Layout) where
         ap (λ s. s ∷ map (λ _. corner height) (roots (talls box l.widths l.natural_heights rest))) (sym fill.0.at_corner) ∙ ap (λ ss. (known_at box l h).slot ∷ ss) (fill_slots rest fill.1)
 
     -- the trees that are solved are those that the tables tell
-    solved_is : (f : Forest ℕ) → IsSettled width height (knows f) → solved width height (boxed box f) ≡ map_forest placed_at f
+    solved_is : (f : Forest ℕ) → IsSettled width height (knows f) → solved width height (boxed box f) ≡ placed_trees f
     solved_is f settled =
         let fit = settled.fit in
         let wide : with_widths (map (λ _. width) (roots (widths_of box f))) (widths_of box f) ≡ map_forest (widened_at box l.widths) f =
@@ -182,7 +202,12 @@ module _ (box : ℕ → Box) (l : Layout) where
     pub settled_placed : (f : Forest ℕ) → IsSettled width height (knows f) → HoldsPlaced l.widths l.slots (solved width height (boxed box f))
     settled_placed f settled =
         subst (HoldsPlaced l.widths l.slots) (sym (solved_is f settled))
-        (told_holds placed_at (λ p. p.tall.box.handle) (λ p. p.tall.width) 0 l.widths (λ h. refl) f, told_holds placed_at (λ p. p.tall.box.handle) (λ p. p.slot) nowhere l.slots (λ h. refl) f)
+        (placed_hold (λ p. p.tall.width) 0 l.widths (λ h cs. refl) f, placed_hold (λ p. p.slot) nowhere l.slots (λ h cs. refl) f)
+
+    -- where it is told of each how far its children reach and are moved, that is so too
+    pub settled_scrolled : (f : Forest ℕ) → IsSettled width height (knows f) → HoldsScrolls box l.widths l.natural_heights l.slots l.scrolls f → Holds (λ (p : Placed). p.tall.box.handle) scrolled_placed not_scrolled l.scrolls (solved width height (boxed box f))
+    settled_scrolled f settled holds =
+        subst (Holds (λ (p : Placed). p.tall.box.handle) scrolled_placed not_scrolled l.scrolls) (sym (solved_is f settled)) (scrolls_hold f holds)
 
     -- and so are their natural sizes
     pub settled_wide : (f : Forest ℕ) → IsSettled width height (knows f) → HoldsNaturalWidths box l.natural_widths f
@@ -193,4 +218,4 @@ module _ (box : ℕ → Box) (l : Layout) where
     pub settled_high : (f : Forest ℕ) → IsSettled width height (knows f) → Holds (λ (p : Placed). p.tall.box.handle) (λ (p : Placed). p.tall.natural_height) 0 l.natural_heights (solved width height (boxed box f))
     settled_high f settled =
         subst (Holds (λ (p : Placed). p.tall.box.handle) (λ (p : Placed). p.tall.natural_height) 0 l.natural_heights) (sym (solved_is f settled))
-        (told_holds placed_at (λ p. p.tall.box.handle) (λ p. p.tall.natural_height) 0 l.natural_heights (λ h. refl) f)
+        (placed_hold (λ p. p.tall.natural_height) 0 l.natural_heights (λ h cs. refl) f)

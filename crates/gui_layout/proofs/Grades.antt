@@ -8,7 +8,7 @@ use Rattle.gui_layout.specs.declared.places.Places.{Places}
 use Rattle.gui_layout.specs.Raised.{Rests}
 use Rattle.gui_layout.specs.Scenes.{scene_box}
 use Rattle.gui_layout.specs.Settled.{is_steady}
-use Rattle.gui_layout.specs.SettledBut.{AreRightBut, AreRightButChanged, AreSettledButChanged, AreSettledButMarks, anyone, nobody}
+use Rattle.gui_layout.specs.SettledBut.{AreRightBut, AreRightButChanged, AreScrolledBut, AreSettledButChanged, AreSettledButMarks, anyone, nobody}
 use Rattle.gui_layout.specs.Settles.{known_in}
 use Rattle.gui_layout.specs.Solved.{layout_of}
 use Rattle.gui_layout.specs.Views.{box_at}
@@ -28,12 +28,13 @@ narrowed p scene s t m fewer was = record {
 }
 
 -- with no marks both say the same
-pub right-both : (p : Places) (scene : Scene) (s : ℕ → Bool) → AreRightButChanged p scene s nobody → AreRightBut p scene s nobody nobody
-right-both p scene s was = record {
+pub right-both : (p : Places) (scene : Scene) (s : ℕ → Bool) → AreRightButChanged p scene s nobody → AreScrolledBut p scene s nobody nobody → AreRightBut p scene s nobody nobody
+right-both p scene s was scrolled = record {
   boxes = was.boxes;
   placed = was.placed;
   fit = all-both s nobody nobody (known_in p scene) (handles_of scene.trees) was.fit;
   fill = was.fill;
+  scrolled = scrolled;
 }
 
 -- where marks of the second grade are left out of objects that rest alone, the others tell all

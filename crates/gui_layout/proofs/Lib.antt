@@ -16,6 +16,9 @@ pub mod Dealt
 pub mod Widens
 pub mod Flows
 pub mod Stands
+pub mod Farthest
+pub mod Moving
+pub mod Reached
 pub mod Heightens
 pub mod Columns
 pub mod Bridges
@@ -26,6 +29,7 @@ pub mod Fitting
 pub mod Filled
 pub mod Settling
 pub mod Alone
+pub mod Alike
 pub mod Climbing
 pub mod Renewals
 pub mod Painted
@@ -35,8 +39,11 @@ pub mod Grades
 pub mod Finishing
 pub mod Stepping
 pub mod Tops
+pub mod Overs
+pub mod Rescrolled
 pub mod Apart
 pub mod NaturalSizes
+pub mod ReachSizes
 pub mod Before
 pub mod Entered
 pub mod Staying

@@ -7,8 +7,9 @@ use Rattle.std.proofs.Math.ListN.{get_or-map}
 use Rattle.std.proofs.Math.Seq.{map-set_same}
 use Rattle.gui_pool.specs.Table.{Table, value_at, value_replaced}
 use Rattle.gui_layout.specs.declared.entry.Entry.{Entry}
+use Rattle.gui_layout.specs.Scrolls.{scrolled_of}
 use Rattle.gui_layout.specs.Slots.{slot_of}
-use Rattle.gui_layout.specs.Tables.{IsEntry, IsListed, listing_of, natural_height_or, natural_width_or, slot_or, told, wanted_or, width_or}
+use Rattle.gui_layout.specs.Tables.{IsEntry, IsListed, listing_of, natural_height_or, natural_width_or, scrolled_or, slot_or, told, wanted_or, width_or}
 use Rattle.gui_layout.specs.Views.{box_or}
 
 module _ {T : Type 0} where
@@ -52,6 +53,7 @@ is_entry t h e is = record {
   width = ap width_or is ∙ sym (told_at width_or t h);
   natural_height = ap natural_height_or is ∙ sym (told_at natural_height_or t h);
   slot = ap slot_or is ∙ sym (told_at slot_or t h);
+  scrolled = ap scrolled_or is ∙ sym (told_at scrolled_or t h);
 }
 
 -- Another entry for a handle: what it tells otherwise is set, and all else is the same.
@@ -69,6 +71,7 @@ module _ (t : Table Entry) (h : ℕ) (e v : Entry) (was : Some e ≡ value_at t 
     widths = same_told width_or (ap (λ (x : Entry). x.width.pixels) is) i;
     natural_heights = same_told natural_height_or (ap (λ (x : Entry). x.natural_height.pixels) is) i;
     slots = same_told slot_or (ap (λ (x : Entry). slot_of x.position) is) i;
+    scrolls = same_told scrolled_or (ap (λ (x : Entry). scrolled_of x.scrolled) is) i;
   }
 
   pub natural_width_set : v ≡ record e { natural_width = v.natural_width } → told (value_replaced t h v) ≡ record (told t) { natural_widths = set (told t).natural_widths h v.natural_width.pixels }
@@ -78,6 +81,7 @@ module _ (t : Table Entry) (h : ℕ) (e v : Entry) (was : Some e ≡ value_at t 
     widths = same_told width_or (ap (λ (x : Entry). x.width.pixels) is) i;
     natural_heights = same_told natural_height_or (ap (λ (x : Entry). x.natural_height.pixels) is) i;
     slots = same_told slot_or (ap (λ (x : Entry). slot_of x.position) is) i;
+    scrolls = same_told scrolled_or (ap (λ (x : Entry). scrolled_of x.scrolled) is) i;
   }
 
   pub width_set : v ≡ record e { width = v.width } → told (value_replaced t h v) ≡ record (told t) { widths = set (told t).widths h v.width.pixels }
@@ -87,6 +91,7 @@ module _ (t : Table Entry) (h : ℕ) (e v : Entry) (was : Some e ≡ value_at t 
     widths = set_told width_or i;
     natural_heights = same_told natural_height_or (ap (λ (x : Entry). x.natural_height.pixels) is) i;
     slots = same_told slot_or (ap (λ (x : Entry). slot_of x.position) is) i;
+    scrolls = same_told scrolled_or (ap (λ (x : Entry). scrolled_of x.scrolled) is) i;
   }
 
   pub natural_height_set : v ≡ record e { natural_height = v.natural_height } → told (value_replaced t h v) ≡ record (told t) { natural_heights = set (told t).natural_heights h v.natural_height.pixels }
@@ -96,6 +101,7 @@ module _ (t : Table Entry) (h : ℕ) (e v : Entry) (was : Some e ≡ value_at t 
     widths = same_told width_or (ap (λ (x : Entry). x.width.pixels) is) i;
     natural_heights = set_told natural_height_or i;
     slots = same_told slot_or (ap (λ (x : Entry). slot_of x.position) is) i;
+    scrolls = same_told scrolled_or (ap (λ (x : Entry). scrolled_of x.scrolled) is) i;
   }
 
   pub position_set : v ≡ record e { position = v.position } → told (value_replaced t h v) ≡ record (told t) { slots = set (told t).slots h (slot_of v.position) }
@@ -105,4 +111,15 @@ module _ (t : Table Entry) (h : ℕ) (e v : Entry) (was : Some e ≡ value_at t 
     widths = same_told width_or (ap (λ (x : Entry). x.width.pixels) is) i;
     natural_heights = same_told natural_height_or (ap (λ (x : Entry). x.natural_height.pixels) is) i;
     slots = set_told slot_or i;
+    scrolls = same_told scrolled_or (ap (λ (x : Entry). scrolled_of x.scrolled) is) i;
+  }
+
+  pub scrolled_set : v ≡ record e { scrolled = v.scrolled } → told (value_replaced t h v) ≡ record (told t) { scrolls = set (told t).scrolls h (scrolled_of v.scrolled) }
+  scrolled_set is = λ i. record {
+    boxes = same_told wanted_or (ap (λ (x : Entry). Some x.wanted) is) i;
+    natural_widths = same_told natural_width_or (ap (λ (x : Entry). x.natural_width.pixels) is) i;
+    widths = same_told width_or (ap (λ (x : Entry). x.width.pixels) is) i;
+    natural_heights = same_told natural_height_or (ap (λ (x : Entry). x.natural_height.pixels) is) i;
+    slots = same_told slot_or (ap (λ (x : Entry). slot_of x.position) is) i;
+    scrolls = set_told scrolled_or i;
   }

@@ -25,15 +25,17 @@ not-true false is = refl
 
 pub steady-is : (box : Box) → is_steady box ≡ true → IsSteady box
 steady-is box is =
-    let a : (is_free (course_of box.flow) ≡ true) × ((not (is_content box.across.size) && not (is_content box.down.size)) ≡ true) = and_parts _ _ is in
-    let b : (not (is_content box.across.size) ≡ true) × (not (is_content box.down.size) ≡ true) = and_parts _ _ a.1 in
-    record { free = free-is (course_of box.flow) a.0; wide = not-true _ b.0; high = not-true _ b.1 }
+    let a : (is_free (course_of box.flow) ≡ true) × ((not box.scrollable && (not (is_content box.across.size) && not (is_content box.down.size))) ≡ true) = and_parts _ _ is in
+    let s : (not box.scrollable ≡ true) × ((not (is_content box.across.size) && not (is_content box.down.size)) ≡ true) = and_parts _ _ a.1 in
+    let b : (not (is_content box.across.size) ≡ true) × (not (is_content box.down.size) ≡ true) = and_parts _ _ s.1 in
+    record { free = free-is (course_of box.flow) a.0; still = not-true _ s.0; wide = not-true _ b.0; high = not-true _ b.1 }
 
 -- and a steady box is so by its test
 pub is-steady : (box : Box) → IsSteady box → is_steady box ≡ true
 is-steady box steady =
-    ap (λ (course : Course). is_free course && (not (is_content box.across.size) && not (is_content box.down.size))) steady.free
-    ∙ (ap (λ b. not b && not (is_content box.down.size)) steady.wide ∙ ap not steady.high)
+    ap (λ (course : Course). is_free course && (not box.scrollable && (not (is_content box.across.size) && not (is_content box.down.size)))) steady.free
+    ∙ (ap (λ b. not b && (not (is_content box.across.size) && not (is_content box.down.size))) steady.still
+    ∙ (ap (λ b. not b && not (is_content box.down.size)) steady.wide ∙ ap not steady.high))
 
 -- A steady object fits where its natural sizes are right and its children stand by themselves.
 fits-alone : (p : Known) (ks : List Known) → IsSteady p.box → HasNatural p ks → AllFree p ks → Fits p ks
@@ -41,7 +43,7 @@ fits-alone p ks steady natural all = record {
   natural_width = natural.natural_width;
   widths = free-wide p ks all ∙ sym (free-widths p.box p.width (map wide_of ks) steady.free);
   natural_height = natural.natural_height;
-  slots = free-stand p ks all ∙ sym (free-slots (tall_of p) p.slot (map tall_of ks) steady.free);
+  slots = free-stand p ks all ∙ sym (free-slots (tall_of p) p.slot (map tall_of ks) steady.free steady.still);
 }
 
 -- Its natural sizes follow from whatever children it has.

@@ -35,7 +35,14 @@ no-content k look content none = refl
 
 -- the whole look with the other parts of another one
 abbrev mixed : Look → Look → Look
-mixed look whole = record whole { indicator = look.indicator; knob = look.knob }
+mixed look whole = record whole {
+  scrollbar = look.scrollbar;
+  indicator = look.indicator;
+  knob = look.knob;
+  scrollable = look.scrollable;
+  reach = look.reach;
+  offset = look.offset;
+}
 
 content-same : (k : Kind) (look whole : Look) (content : Rect) → (paints_indicator k ≡ true → FillsAs look.indicator whole.indicator) → (paints_knob k ≡ true → FillsAs look.knob whole.knob) →
     content_items k (mixed look whole) content ≡ content_items k whole content
@@ -53,6 +60,7 @@ same-items look whole e area = elim (cases_Bool (paints_content whole.kind)) [
       let is : look ≡ mixed look whole = λ i. record {
         kind = e.kind i;
         main = e.main paints i;
+        scrollbar = look.scrollbar;
         indicator = look.indicator;
         knob = look.knob;
         text = e.text i;
@@ -61,6 +69,9 @@ same-items look whole e area = elim (cases_Bool (paints_content whole.kind)) [
         min = e.min i;
         max = e.max i;
         image = e.image i;
+        scrollable = look.scrollable;
+        reach = look.reach;
+        offset = look.offset;
       } in
       ap (λ (l : Look). items l area) is
       ∙ ap (λ (is : List Item). part_of area whole.main ++ is) (content-same whole.kind look whole (content_of area whole.main) e.indicator e.knob)

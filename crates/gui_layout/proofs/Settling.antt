@@ -7,6 +7,7 @@ use Rattle.gui_base.specs.declared.words.Length.TheVariants.{Pixels, Percent, Co
 use Rattle.layout_defs.specs.declared.Course.TheVariants.{Free}
 use Rattle.layout_defs.specs.Boxes.{Box, course_of, inner, inset, is_reversed}
 use Rattle.layout_defs.specs.Solving.{Wide, Tall, Slot, tall_box, width_in, own_slot, dealt, natural_size, natural_width, natural_height, kid_widths, kid_widths_by, kid_slots, kids_width, kids_height, room_of, flow_slots, ordered_slots, in_order, taking_part, wide_box}
+use Rattle.layout_defs.proofs.Scrolling.{still_stands_flat}
 use Rattle.gui_layout.specs.Settled.{Known, wide_of, tall_of, width_of, slot_of, Fits, StandsFree, IsSteady, is_content}
 pub use Rattle.gui_layout.specs.Marked.{is_root}
 use Rattle.gui_layout.proofs.Lists.{dealt-none}
@@ -186,14 +187,14 @@ none-in_order false = refl
 pub free-widths : (box : Box) (width : ℕ) (kids : List Wide) → course_of box.flow ≡ Free → kid_widths box width kids ≡ map (width_in (inner box.across width)) kids
 free-widths box width kids free = ap (λ course. kid_widths_by course box (inner box.across width) kids) free
 
-pub free-slots : (tall : Tall) (slot : Slot) (kids : List Tall) → course_of tall.box.flow ≡ Free → kid_slots tall slot kids ≡ map (own_slot (room_of tall slot)) kids
-free-slots tall slot kids free =
+pub free-slots : (tall : Tall) (slot : Slot) (kids : List Tall) → course_of tall.box.flow ≡ Free → tall.box.scrollable ≡ false → kid_slots tall slot kids ≡ map (own_slot (room_of tall slot)) kids
+free-slots tall slot kids free still =
     let room = room_of tall slot in
     let back = is_reversed tall.box.flow in
     let taking = in_order back (taking_part tall_box kids) in
     let none : flow_slots tall.box room (taking_part tall_box kids) ≡ [] =
     ap (λ course. in_order back (ordered_slots course tall.box room taking)) free ∙ none-in_order back in
-    ap (dealt tall_box (own_slot room) kids) none ∙ dealt-none tall_box (own_slot room) kids
+    still_stands_flat tall slot kids still ∙ ap (dealt tall_box (own_slot room) kids) none ∙ dealt-none tall_box (own_slot room) kids
 
 -- children that all stand by themselves
 abbrev pub AllFree : Known → List Known → Type 0
@@ -219,4 +220,4 @@ free-stand p (k ∷ ks) all = ap (λ n. n ∷ map slot_of ks) all.0.stands ∙ a
 
 pub fits-free : (p : Known) (ks : List Known) → IsSteady p.box → Fits p ks → AllFree p ks
 fits-free p ks steady fits =
-    all-free p ks (fits.widths ∙ free-widths p.box p.width (map wide_of ks) steady.free) (fits.slots ∙ free-slots (tall_of p) p.slot (map tall_of ks) steady.free)
+    all-free p ks (fits.widths ∙ free-widths p.box p.width (map wide_of ks) steady.free) (fits.slots ∙ free-slots (tall_of p) p.slot (map tall_of ks) steady.free steady.still)

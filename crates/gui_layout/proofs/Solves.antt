@@ -1,13 +1,16 @@
 -- Roots that are solved one after another.
-use Rattle.std.proofs.Common.{◌≡◌, ◌∙◌, refl, sym, subst, ℕ, false, List, [], ◌∷◌, get_or, map, pos}
+use Rattle.std.proofs.Common.{◌≡◌, ◌∙◌, refl, sym, ap, subst, ℕ, true, false, eq-eqb, List, [], ◌∷◌, get_or, map, pos}
 use Rattle.gui_base.specs.Forest.{Forest, Empty, Tree, has, roots, map_forest}
 use Rattle.layout_defs.specs.Boxes.{Box}
 use Rattle.layout_defs.specs.Solving.{Wide, Widened, Tall, Placed, Slot, kid_widths, with_widths, with_natural_heights, kid_slots, with_slots, nowhere, solved}
-use Rattle.std.proofs.lemmas.Bool.{false_from_ne_true}
+use Rattle.std.proofs.lemmas.Bool.{false_from_ne_true, or_left, or_right}
+use Rattle.gui_layout.specs.Slots.{talls}
 use Rattle.gui_base.proofs.Forests.{map-agree}
 use Rattle.gui_layout.specs.Found.{boxed, widths_of}
 use Rattle.gui_layout.specs.Layouts.{KeepsRest}
-use Rattle.gui_layout.specs.Settled.{Layout, known_at, known, IsSettled}
+use Rattle.gui_layout.specs.Scrolls.{HoldsScrolls, not_scrolled, scrolled_at, scrolled_in}
+use Rattle.gui_layout.proofs.Fitting.{tall_roots}
+use Rattle.gui_layout.specs.Settled.{Layout, Known, tall_of, known_at, known, IsSettled}
 use Rattle.gui_layout.proofs.Parts.{IsDistinct}
 use Rattle.gui_layout.proofs.Finds.{keeps_none, keeps_first, elsewhere, widths-handles}
 
@@ -53,19 +56,40 @@ pub known_same : (box : ℕ → Box) (b c : Layout) (k : ℕ) → get_or c.natur
 known_same box b c k natural_width width natural_height slot =
     λ i. record { box = record (box k) { handle = k }; natural_width = natural_width i; width = width i; natural_height = natural_height i; slot = slot i }
 
+-- where the same is known of all objects of a forest, and told of how far their children are scrolled, that is
+-- told right still
+pub scrolls-kept : (box : ℕ → Box) (b c : Layout) (f : Forest ℕ) → ((k : ℕ) → has f k ≡ true → known_at box c k ≡ known_at box b k) → ((k : ℕ) → has f k ≡ true → scrolled_at c.scrolls k ≡ scrolled_at b.scrolls k) →
+    HoldsScrolls box b.widths b.natural_heights b.slots b.scrolls f → HoldsScrolls box c.widths c.natural_heights c.slots c.scrolls f
+scrolls-kept box b c Empty same stay holds = tt
+scrolls-kept box b c (Tree h cs rest) same stay holds =
+    let here : has (Tree h cs rest) h ≡ true = or_left _ _ (eq-eqb h h refl) in
+    let below : (k : ℕ) → has cs k ≡ true → has (Tree h cs rest) k ≡ true = λ k i. or_right _ _ (or_left _ _ i) in
+    let beside : (k : ℕ) → has rest k ≡ true → has (Tree h cs rest) k ≡ true = λ k i. or_right _ _ (or_right _ _ i) in
+    let kids : roots (talls box b.widths b.natural_heights cs) ≡ roots (talls box c.widths c.natural_heights cs) =
+    tall_roots box b cs ∙ (ap (λ (g : Forest Known). map tall_of (roots g)) (map-agree (known_at box b) (known_at box c) cs (λ k i. sym (same k (below k i)))) ∙ sym (tall_roots box c cs)) in (
+      stay h here
+          ∙ (holds.0
+          ∙ (ap (scrolled_in (tall_of (known_at box b h)) (known_at box b h).slot) kids
+          ∙ ap (λ (k : Known). scrolled_in (tall_of k) k.slot (roots (talls box c.widths c.natural_heights cs))) (sym (same h here)))),
+      scrolls-kept box b c cs (λ k i. same k (below k i)) (λ k i. stay k (below k i)) holds.1,
+      scrolls-kept box b c rest (λ k i. same k (beside k i)) (λ k i. stay k (beside k i)) holds.2,
+    )
+
 pub rest_same : (box : ℕ → Box) (b c : Layout) (f : Forest ℕ) (k : ℕ) → KeepsRest b c f → has f k ≡ false → known_at box c k ≡ known_at box b k
 rest_same box b c f k keeps out = known_same box b c k (keeps.natural_widths.others k out) (keeps.widths.others k out) (keeps.natural_heights.others k out) (keeps.slots.others k out)
 
 module _ (box : ℕ → Box) (width height : ℕ) where
-  -- these trees are settled, and nothing else changes
+  -- these trees are settled, it is told how far their children are scrolled, and nothing else changes
   pub record Solves (old new : Layout) (f : Forest ℕ) : Type 0 where
     pub settled : IsSettled width height (known box new f)
+    pub scrolled : HoldsScrolls box new.widths new.natural_heights new.slots new.scrolls f
     pub others : KeepsRest old new f
 
   pub solves_none : (l : Layout) → Solves l l Empty
   solves_none l = record {
     settled = record { fit = tt; fill = tt };
-    others = record { natural_widths = keeps_none 0 l.natural_widths; widths = keeps_none 0 l.widths; natural_heights = keeps_none 0 l.natural_heights; slots = keeps_none nowhere l.slots };
+    scrolled = tt;
+    others = record { natural_widths = keeps_none 0 l.natural_widths; widths = keeps_none 0 l.widths; natural_heights = keeps_none 0 l.natural_heights; slots = keeps_none nowhere l.slots; scrolls = keeps_none not_scrolled l.scrolls };
   }
 
   pub solves_first : (a b c : Layout) (h : ℕ) (cs rest : Forest ℕ) → IsDistinct (Tree h cs rest) → Solves a b (Tree h cs Empty) → Solves b c rest → Solves a c (Tree h cs rest)
@@ -73,13 +97,17 @@ module _ (box : ℕ → Box) (width height : ℕ) where
       let tree = Tree h cs Empty in
       let same : known box b tree ≡ known box c tree =
       map-agree (known_at box b) (known_at box c) tree (λ k i. sym (rest_same box b c rest k later.others (false_from_ne_true (has rest k) (λ j. elsewhere h cs rest distinct k i j)))) in
+      let stays : (k : ℕ) → has tree k ≡ true → has rest k ≡ false = λ k i. false_from_ne_true (has rest k) (λ j. elsewhere h cs rest distinct k i j) in
+      let held = scrolls-kept box b c tree (λ k i. rest_same box b c rest k later.others (stays k i)) (λ k i. later.others.scrolls.others k (stays k i)) first.scrolled in
       let now : IsSettled width height (known box c tree) = subst (IsSettled width height) same first.settled in
       record {
         settled = record { fit = (now.fit.0, now.fit.1, later.settled.fit); fill = (now.fill.0, later.settled.fill) };
+        scrolled = (held.0, held.1, later.scrolled);
         others = record {
           natural_widths = keeps_first 0 a.natural_widths b.natural_widths c.natural_widths h cs rest first.others.natural_widths later.others.natural_widths;
           widths = keeps_first 0 a.widths b.widths c.widths h cs rest first.others.widths later.others.widths;
           natural_heights = keeps_first 0 a.natural_heights b.natural_heights c.natural_heights h cs rest first.others.natural_heights later.others.natural_heights;
           slots = keeps_first nowhere a.slots b.slots c.slots h cs rest first.others.slots later.others.slots;
+          scrolls = keeps_first not_scrolled a.scrolls b.scrolls c.scrolls h cs rest first.others.scrolls later.others.scrolls;
         };
       }

@@ -122,7 +122,7 @@ module _ (scene : Scene) (boxes : List (Option LayoutBox)) (l m : Layout) (u : �
       let width = get_or l.widths q 0 in
       let slot = slice_index_or l.slots q nowhere in
       let room : room_in inside ≡ room_of (tall_of (old q)) slot = is_frame.1 ∙ room-same (box_at boxes q) (scene_box scene q) but q width (get_or l.natural_heights q 0) slot in (
-        steady-same (box_at boxes q) (scene_box scene q) but q (record { free = is_frame.0.free; wide = is_frame.0.wide; high = is_frame.0.high }),
+        steady-same (box_at boxes q) (scene_box scene q) but q (record { free = is_frame.0.free; still = is_frame.0.still; wide = is_frame.0.wide; high = is_frame.0.high }),
         record {
           is_wide = stand.width ∙ ap (λ (r : Room). width_in r.width (wide_of (new u))) room;
           stands = stand.slot ∙ ap (λ (r : Room). own_slot r (tall_of (new u))) room;
@@ -154,6 +154,7 @@ module _ (scene : Scene) where
     fit = λ s all. all;
     fill = λ s all. all;
     others = λ k there out. refl;
+    scrolls = λ k there out. refl;
     boxes = λ k is. is;
     listed = refl;
     limits = refl;
@@ -167,6 +168,9 @@ module _ (scene : Scene) where
     others = λ k there out.
         let still : has (marked_trees n f) k ≡ false = false_from_ne_true (has (marked_trees n f) k) (λ i. both_ways (has (marked_trees m f) k) out (marked-fewer m n k f first.fewer i)) in
         later.others k there still ∙ first.others k there out;
+    scrolls = λ k there out.
+        let still : has (marked_trees n f) k ≡ false = false_from_ne_true (has (marked_trees n f) k) (λ i. both_ways (has (marked_trees m f) k) out (marked-fewer m n k f first.fewer i)) in
+        later.scrolls k there still ∙ first.scrolls k there out;
     boxes = λ k is. later.boxes k (first.boxes k is);
     listed = later.listed ∙ first.listed;
     limits = later.limits ∙ first.limits;
@@ -189,6 +193,9 @@ module _ (scene : Scene) where
         others = λ k there out.
             let gone_out : has (tree_at f u) k ≡ false = false_from_ne_true (has (tree_at f u) k) (λ i. both_ways (has (marked_trees m f) k) out (mark-inside m h u k f marked (tree.encloses h own) i)) in
             rest_same (scene_box scene) (layout_of a) (layout_of b) (tree_at f u) k tree.keeps gone_out;
+        scrolls = λ k there out.
+            let gone_out : has (tree_at f u) k ≡ false = false_from_ne_true (has (tree_at f u) k) (λ i. both_ways (has (marked_trees m f) k) out (mark-inside m h u k f marked (tree.encloses h own) i)) in
+            tree.keeps.scrolls.others k gone_out;
         boxes = tree.boxes;
         listed = tree.listed;
         limits = tree.limits;

@@ -20,7 +20,7 @@ some-either : (a b : ℕ) → 0 < a + b → 0 < a ⊎ 0 < b
 some-either zero b some = inr (omega arith)
 some-either (suc a) b some = inl (omega arith)
 
-listed-either : (us vs : List Handle) (u : ℕ) → 0 < times (us ++ vs) u → 0 < times us u ⊎ 0 < times vs u
+pub listed-either : (us vs : List Handle) (u : ℕ) → 0 < times (us ++ vs) u → 0 < times us u ⊎ 0 < times vs u
 listed-either us vs u some = let both = times-both us vs u in some-either (times us u) (times vs u) (omega arith)
 
 -- no more than one is listed

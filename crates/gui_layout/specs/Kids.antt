@@ -1,10 +1,11 @@
 -- The children of an object, as the passes see them.
 use Rattle.std.specs.Prelude.{ℕ, List}
 use Rattle.gui_base.specs.Forest.{Forest, roots, children_of}
-use Rattle.layout_defs.specs.Solving.{Wide, Tall}
+use Rattle.layout_defs.specs.Solving.{Wide, Tall, no_span, reach_in, room_of}
 use Rattle.gui_layout.specs.declared.layout_box.LayoutBox.{LayoutBox}
 use Rattle.gui_layout.specs.Found.{HoldsNaturalWidths, widths_of}
-use Rattle.gui_layout.specs.Slots.{talls}
+use Rattle.gui_layout.specs.Scrolls.{Scrolled}
+use Rattle.gui_layout.specs.Slots.{at_roots, slot_at, tall_at, talls}
 use Rattle.gui_layout.specs.Settled.{Layout}
 use Rattle.gui_layout.specs.Talls.{HoldsNaturalHeights, heights_of}
 use Rattle.gui_layout.specs.Views.{box_of, box_at}
@@ -35,3 +36,12 @@ BelowHaveWidths l f h = HoldsNaturalWidths (box_at l.boxes) l.natural_widths (ch
 -- the natural height of each object below h is told
 abbrev pub BelowHaveHeights : Layout → Forest ℕ → ℕ → Type 0
 BelowHaveHeights l f h = HoldsNaturalHeights (box_at l.boxes) l.widths l.natural_heights (children_of f h)
+
+-- how far the children of h reach out of its content area from where they stand, where it moves none
+abbrev pub flat_scrolled : Layout → Forest ℕ → ℕ → Scrolled
+flat_scrolled l f h = record {
+  reach =
+      reach_in (room_of (tall_at (box_at l.boxes) l.widths l.natural_heights h) (slot_at l.slots h)) (tall_kids l f h)
+      (at_roots l.slots (children_of f h));
+  offset = no_span;
+}

@@ -3,6 +3,7 @@ use Rattle.std.specs.Prelude.{◌≡◌, ℕ}
 use Rattle.gui_base.specs.Forest.{Forest}
 use Rattle.layout_defs.specs.Solving.{nowhere}
 use Rattle.layout_defs.specs.Tables.{KeepsOthers}
+use Rattle.gui_layout.specs.Scrolls.{not_scrolled}
 use Rattle.gui_layout.specs.Settled.{Layout}
 
 -- nothing but the boxes is another
@@ -22,9 +23,18 @@ ButNaturalHeights old new = new ≡ record old { natural_heights = new.natural_h
 abbrev pub ButSlots : Layout → Layout → Type 0
 ButSlots old new = new ≡ record old { slots = new.slots }
 
+-- nothing but how far children reach and are moved is
+abbrev pub ButScrolls : Layout → Layout → Type 0
+ButScrolls old new = new ≡ record old { scrolls = new.scrolls }
+
+-- nothing but the slots and how far children reach and are moved is
+abbrev pub ButPlaces : Layout → Layout → Type 0
+ButPlaces old new = new ≡ record old { slots = new.slots; scrolls = new.scrolls }
+
 -- what was found has not changed but of the handles of a forest
 pub record KeepsRest (old new : Layout) (f : Forest ℕ) : Type 0 where
   pub natural_widths : KeepsOthers 0 old.natural_widths new.natural_widths f
   pub widths : KeepsOthers 0 old.widths new.widths f
   pub natural_heights : KeepsOthers 0 old.natural_heights new.natural_heights f
   pub slots : KeepsOthers nowhere old.slots new.slots f
+  pub scrolls : KeepsOthers not_scrolled old.scrolls new.scrolls f

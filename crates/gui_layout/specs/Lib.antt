@@ -5,6 +5,7 @@ pub mod Own
 pub mod Painted
 pub mod Reaches
 pub mod Slots
+pub mod Scrolls
 pub mod Talls
 pub mod Tables
 pub mod Listing
@@ -16,6 +17,7 @@ pub mod Sizings
 pub mod Solved
 pub mod Naturals
 pub mod Settled
+pub mod Scrolled
 pub mod Frames
 pub mod Layouts
 pub mod Renewed
@@ -24,6 +26,7 @@ pub mod Pending
 pub mod Raised
 pub mod Settles
 pub mod Tops
+pub mod Around
 pub mod SettledBut
 pub mod Marks
 pub mod Gone

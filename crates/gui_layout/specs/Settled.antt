@@ -9,6 +9,7 @@ use Rattle.layout_defs.specs.declared.Course.TheVariants.{Free, Across, Down}
 use Rattle.layout_defs.specs.Boxes.{Box, course_of, inner}
 use Rattle.layout_defs.specs.Solving.{Wide, Tall, Slot, nowhere, width_in, own_slot, room_of}
 use Rattle.layout_defs.specs.Solving.{natural_width, kid_widths, natural_height, kid_slots}
+use Rattle.gui_layout.specs.Scrolls.{Scrolled}
 use Rattle.gui_layout.specs.declared.layout_box.LayoutBox.{LayoutBox}
 
 -- what is known of an object
@@ -50,6 +51,7 @@ pub record Layout : Type 0 where
   pub widths : List ℕ
   pub natural_heights : List ℕ
   pub slots : List Slot
+  pub scrolls : List Scrolled
 
 abbrev pub known_at : (ℕ → Box) → Layout → ℕ → Known
 known_at box l h = record {
@@ -93,14 +95,17 @@ is_free Free = true
 is_free Across = false
 is_free Down = false
 
--- whether an object's natural sizes do not go by its children, and it lets them stand by themselves
+-- whether an object's natural sizes do not go by its children, and it lets them stand by themselves and does not
+-- move them
 abbrev pub is_steady : Box → Bool
 is_steady box =
-    is_free (course_of box.flow) && (not (is_content box.across.size) && not (is_content box.down.size))
+    is_free (course_of box.flow)
+    && (not box.scrollable && (not (is_content box.across.size) && not (is_content box.down.size)))
 
 -- such an object
 pub record IsSteady (box : Box) : Type 0 where
   pub free : course_of box.flow ≡ Free
+  pub still : box.scrollable ≡ false
   pub wide : is_content box.across.size ≡ false
   pub high : is_content box.down.size ≡ false
 

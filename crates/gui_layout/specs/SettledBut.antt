@@ -5,14 +5,16 @@ use Rattle.gui_pool.specs.Table.{value_at}
 use Rattle.scene_defs.specs.Scene.{Scene, handles_of}
 use Rattle.std.specs.Prelude.{None}
 use Rattle.gui_layout.specs.declared.places.Places.{Places}
-use Rattle.gui_layout.specs.Marked.{AllFitBut, AllFitButBoth, AllFillBut, is_root, marked_trees}
+use Rattle.gui_layout.specs.Marked.{AllFitBut, AllFitButBoth, AllFillBut, is_any_root, is_root, marked_trees}
 use Rattle.gui_layout.specs.Naturals.{naturals, naturals_at}
 use Rattle.gui_layout.specs.Renewed.{IsRenewed}
 use Rattle.gui_layout.specs.Scenes.{scene_box}
 use Rattle.gui_layout.specs.Settled.{FillsPanel, Fits}
 use Rattle.gui_layout.specs.Settles.{known_in}
-use Rattle.gui_layout.specs.Solved.{AreSettled, layout_of, place_at}
-use Rattle.scene_defs.specs.Place.{place}
+use Rattle.gui_layout.specs.Scrolled.{IsScrolledIn}
+use Rattle.gui_layout.specs.Scrolls.{scrolled_at}
+use Rattle.gui_layout.specs.Solved.{AreSettled, AreStanding, layout_of, offset_at, place_at, reach_at}
+use Rattle.scene_defs.specs.Place.{offset, place, reach}
 
 -- the objects that are looked at are right but for those that have changed, told by m: they have places, and
 -- their boxes, their sizes and their slots are right
@@ -24,6 +26,18 @@ pub record AreRightButChanged (p : Places) (scene : Scene) (s m : ℕ → Bool) 
   pub fit : AllFitBut s m (known_in p scene) (handles_of scene.trees)
   pub fill : AllFillBut s m scene.limits.width scene.limits.height (known_in p scene) (handles_of scene.trees)
 
+-- the children of an object are looked at, and none of them has changed
+pub record AreLooked (s m : ℕ → Bool) (kids : Forest ℕ) : Type 0 where
+  pub looked : (j : ℕ) → is_root j kids ≡ true → s j ≡ true
+  pub unchanged : is_any_root m kids ≡ false
+
+-- it is told right how far the objects that are looked at scroll their children, but where one of both has changed
+abbrev pub AreScrolledBut : Places → Scene → (ℕ → Bool) → (ℕ → Bool) → (ℕ → Bool) → Type 0
+AreScrolledBut p scene s m c =
+    (k : ℕ) → has (handles_of scene.trees) k ≡ true → s k ≡ true → m k ≡ false → c k ≡ false →
+    AreLooked s m (children_of (handles_of scene.trees) k) →
+    IsScrolledIn (known_in p scene) (layout_of p).scrolls (handles_of scene.trees) k
+
 -- so it is but for those, and for the lists of children of others, told by c
 pub record AreRightBut (p : Places) (scene : Scene) (s m c : ℕ → Bool) : Type 0 where
   pub boxes : (k : ℕ) → has (handles_of scene.trees) k ≡ true → s k ≡ true → m k ≡ false →
@@ -31,6 +45,7 @@ pub record AreRightBut (p : Places) (scene : Scene) (s m c : ℕ → Bool) : Typ
   pub placed : (k : ℕ) → has (handles_of scene.trees) k ≡ true → s k ≡ true → m k ≡ false →
       is_some (value_at p.entries k) ≡ true
   pub fit : AllFitButBoth s m c (known_in p scene) (handles_of scene.trees)
+  pub scrolled : AreScrolledBut p scene s m c
   pub fill : AllFillBut s m scene.limits.width scene.limits.height (known_in p scene) (handles_of scene.trees)
 
 -- the objects of the marked trees
@@ -69,6 +84,7 @@ pub record WasSolved (p : Places) (before scene : Scene) (m c : ℕ → Bool) (k
       (map (known_in p before) (roots (children_of (handles_of before.trees) k)))
   pub fills : parent_of (handles_of scene.trees) k ≡ None →
       FillsPanel scene.limits.width scene.limits.height (known_in p before k)
+  pub scrolled : IsScrolledIn (known_in p before) (layout_of p).scrolls (handles_of before.trees) k
 
 -- there is a scene that differs from this one in what the marks tell alone, and for it the objects that are
 -- looked at were solved
@@ -88,8 +104,22 @@ pub record SettlesChanged (old new : Places) (scene : Scene) (m : ℕ → Bool) 
   pub gone_naturals : (k : ℕ) → m k ≡ true → has (handles_of scene.trees) k ≡ false → naturals_at new k ≡ None
   pub other_naturals : (k : ℕ) → has (handles_of scene.trees) k ≡ true → in_marked m scene k ≡ false →
       naturals_at new k ≡ naturals_at old k
+  pub other_scrolls : (k : ℕ) → has (handles_of scene.trees) k ≡ true → in_marked m scene k ≡ false →
+      scrolled_at (layout_of new).scrolls k ≡ scrolled_at (layout_of old).scrolls k
   pub right : (s : ℕ → Bool) → AreRightButChanged old scene s m → AreRightButChanged new scene s nobody
-  pub settled : AreSettledButChanged old scene m → AreSettled new scene
+  pub settled : AreSettledButChanged old scene m → AreStanding new scene
+
+-- how far children are scrolled is told of each in the marked trees as it is in the scene, of nothing that has
+-- changed and is gone, and of all others as it was
+pub record SettlesScrolls (old new : Places) (scene : Scene) (w : ℕ → Bool) : Type 0 where
+  pub reaches : (k : ℕ) → in_marked w scene k ≡ true → reach_at new k ≡ reach scene k
+  pub offsets : (k : ℕ) → in_marked w scene k ≡ true → offset_at new k ≡ offset scene k
+  pub gone_reaches : (k : ℕ) → w k ≡ true → has (handles_of scene.trees) k ≡ false → reach_at new k ≡ None
+  pub gone_offsets : (k : ℕ) → w k ≡ true → has (handles_of scene.trees) k ≡ false → offset_at new k ≡ None
+  pub other_reaches : (k : ℕ) → has (handles_of scene.trees) k ≡ true → in_marked w scene k ≡ false →
+      reach_at new k ≡ reach_at old k
+  pub other_offsets : (k : ℕ) → has (handles_of scene.trees) k ≡ true → in_marked w scene k ≡ false →
+      offset_at new k ≡ offset_at old k
 
 -- and so it is with marks of both grades, which w tells together
 pub record SettlesMarks (old new : Places) (scene : Scene) (w m c : ℕ → Bool) : Type 0 where
@@ -101,6 +131,7 @@ pub record SettlesMarks (old new : Places) (scene : Scene) (w m c : ℕ → Bool
   pub gone_naturals : (k : ℕ) → w k ≡ true → has (handles_of scene.trees) k ≡ false → naturals_at new k ≡ None
   pub other_naturals : (k : ℕ) → has (handles_of scene.trees) k ≡ true → in_marked w scene k ≡ false →
       naturals_at new k ≡ naturals_at old k
+  pub scrolls : SettlesScrolls old new scene w
   pub right : (s : ℕ → Bool) → AreRightBut old scene s m c → AreRightBut new scene s nobody nobody
   pub settled : AreSettledButMarks old scene m c → AreSettled new scene
 

@@ -10,6 +10,8 @@ use Rattle.gui_layout.specs.Layouts.{KeepsRest}
 use Rattle.gui_layout.specs.Marked.{AllFitBut, AllFillBut, marked_trees}
 use Rattle.gui_layout.specs.Renewed.{KeepsRenewed}
 use Rattle.gui_layout.specs.Scenes.{scene_box}
+use Rattle.gui_layout.specs.Scrolled.{IsScrolledIn}
+use Rattle.gui_layout.specs.Scrolls.{scrolled_at}
 use Rattle.gui_layout.specs.Settled.{Known, AllFit, FillsPanel, IsSteady, StandsFree, known_at}
 use Rattle.gui_layout.specs.Solved.{layout_of, limits_of}
 use Rattle.gui_layout.specs.Tables.{listing_of}
@@ -33,6 +35,8 @@ pub record SolvesTree (old new : Places) (scene : Scene) (h u : ℕ) : Type 0 wh
   pub there : has (handles_of scene.trees) u ≡ true
   pub encloses : Encloses (handles_of scene.trees) u h
   pub fit : AllFit (map_forest (known_in new scene) (tree_at (handles_of scene.trees) u))
+  pub scrolled : (k : ℕ) → has (tree_at (handles_of scene.trees) u) k ≡ true →
+      IsScrolledIn (known_in new scene) (layout_of new).scrolls (handles_of scene.trees) k
   pub keeps : KeepsRest (layout_of old) (layout_of new) (tree_at (handles_of scene.trees) u)
   pub lets : LetsStand (known_in old scene) (known_in new scene) u (parent_of (handles_of scene.trees) u)
   pub fills : FillsRoot scene.limits (known_in new scene u) (parent_of (handles_of scene.trees) u)
@@ -51,6 +55,9 @@ pub record Settles (old new : Places) (scene : Scene) (was is : ℕ → Bool) : 
       AllFillBut s is scene.limits.width scene.limits.height (known_in new scene) (handles_of scene.trees)
   pub others : (k : ℕ) → has (handles_of scene.trees) k ≡ true →
       has (marked_trees was (handles_of scene.trees)) k ≡ false → known_in new scene k ≡ known_in old scene k
+  pub scrolls : (k : ℕ) → has (handles_of scene.trees) k ≡ true →
+      has (marked_trees was (handles_of scene.trees)) k ≡ false →
+      scrolled_at (layout_of new).scrolls k ≡ scrolled_at (layout_of old).scrolls k
   pub boxes : KeepsRenewed scene (layout_of old).boxes (layout_of new).boxes
   pub listed : listing_of new.entries ≡ listing_of old.entries
   pub limits : limits_of new ≡ limits_of old

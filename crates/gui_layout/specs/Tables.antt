@@ -9,6 +9,7 @@ use Rattle.gui_layout.specs.declared.entry.Entry.{Entry}
 use Rattle.gui_layout.specs.declared.layout_box.LayoutBox.{LayoutBox}
 use Rattle.gui_layout.specs.Settled.{Layout}
 use Rattle.gui_layout.specs.Slots.{slot_of, slot_at}
+use Rattle.gui_layout.specs.Scrolls.{Scrolled, not_scrolled, scrolled_of, scrolled_at}
 use Rattle.gui_layout.specs.Views.{box_of, box_at}
 
 -- what an entry tells, and what is told where there is none
@@ -32,6 +33,10 @@ abbrev pub slot_or : Option Entry → Slot
 slot_or None = nowhere
 slot_or (Some e) = slot_of e.position
 
+abbrev pub scrolled_or : Option Entry → Scrolled
+scrolled_or None = not_scrolled
+scrolled_or (Some e) = scrolled_of e.scrolled
+
 -- what the entries tell of each handle
 abbrev pub told : Table Entry → Layout
 told t = record {
@@ -40,6 +45,7 @@ told t = record {
   widths = map width_or t.values;
   natural_heights = map natural_height_or t.values;
   slots = map slot_or t.values;
+  scrolls = map scrolled_or t.values;
 }
 
 -- an entry is that of h
@@ -49,6 +55,7 @@ pub record IsEntry (l : Layout) (h : ℕ) (e : Entry) : Type 0 where
   pub width : e.width.pixels ≡ slice_index l.widths h
   pub natural_height : e.natural_height.pixels ≡ slice_index l.natural_heights h
   pub slot : slot_of e.position ≡ slot_at l.slots h
+  pub scrolled : scrolled_of e.scrolled ≡ scrolled_at l.scrolls h
 
 -- the area of an object by its entry
 abbrev pub area_in : Entry → Rect

@@ -18,6 +18,7 @@ axis_of a = record {
   before = a.before;
   after = a.after;
   gap = a.gap;
+  scroll = a.scroll;
 }
 
 abbrev pub box_of : ℕ → LayoutBox → Box
@@ -29,12 +30,13 @@ box_of h b = record {
   flow = b.flow;
   places = placings_of b.places;
   grow = b.grow;
+  scrollable = b.scrollable;
   own_width = b.own_width;
   own_height = λ _. b.own_height;
 }
 
 abbrev pub no_axis : Axis
-no_axis = record { size = Pixels 0; side = Near; wanted = pos 0; before = 0; after = 0; gap = 0 }
+no_axis = record { size = Pixels 0; side = Near; wanted = pos 0; before = 0; after = 0; gap = 0; scroll = 0 }
 
 abbrev pub no_box : ℕ → Box
 no_box h = record {
@@ -45,6 +47,7 @@ no_box h = record {
   flow = NoFlow;
   places = record { main = Start; cross = Start; track = Start };
   grow = 0;
+  scrollable = false;
   own_width = 0;
   own_height = λ _. 0;
 }

@@ -4,6 +4,7 @@ ghost use Rattle.gui_base.specs.Forest.{StandsOnce, size};
 ghost use Rattle.gui_base.specs.Forest.{height as levels_of};
 ghost use Rattle.gui_store.specs.Views.{scene_of};
 ghost use Rattle.gui_layout.specs.Scenes.{scene_box, HoldsBoxes};
+ghost use Rattle.gui_layout.specs.Scrolls.{HoldsScrolls};
 ghost use Rattle.gui_layout.specs.Settled.{known, IsSettled};
 ghost use Rattle.gui_layout.specs.Tables.{told, listing_of, AreListed};
 
@@ -33,6 +34,9 @@ pub(crate) fn solve_trees(
     requires enough { size tree.now.forest ≤ length items.old }
     ensures settled { IsSettled width.pixels height.pixels
         (known (scene_box (scene_of store.now)) (told entries.new) tree.now.forest) }
+    ensures scrolled { HoldsScrolls (scene_box (scene_of store.now)) (told entries.new).widths
+        (told entries.new).natural_heights (told entries.new).slots (told entries.new).scrolls
+        tree.now.forest }
     ensures boxes { HoldsBoxes (told entries.new).boxes (scene_of store.now) }
     ensures listed { listing_of entries.new ≡ listing_of entries.old }
 {

@@ -17,8 +17,11 @@ pub(crate) struct Axis {
     /// The gap between its children.
     pub gap: u16,
     pub side: Side,
+    /// How far its children are to be scrolled.
+    pub scroll: u16,
     ghost wanted_least: { negsuc 3999 ≤ℤ wanted },
     ghost wanted_most: { wanted ≤ℤ pos 4000 },
     ghost before_fits: { before ≤ 1100 },
     ghost gap_fits: { gap ≤ 1000 },
+    ghost scroll_fits: { scroll ≤ 8191 },
 }

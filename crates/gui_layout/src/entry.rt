@@ -1,6 +1,7 @@
 //! What layout knows of an object.
 use crate::layout_box::LayoutBox;
 use crate::position::Position;
+use crate::reach::Scrolled;
 use crate::size::Size;
 
 /// What layout knows of an object.
@@ -12,4 +13,5 @@ pub(crate) struct Entry {
     pub width: Size,
     pub natural_height: Size,
     pub position: Position,
+    pub scrolled: Scrolled,
 }

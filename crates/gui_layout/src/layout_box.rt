@@ -17,6 +17,8 @@ pub(crate) struct LayoutBox {
     pub flow: Flow,
     pub places: FlexPlaces,
     pub grow: u8,
+    /// Whether it moves its children as far as they are to be scrolled.
+    pub scrollable: bool,
     ghost own_width_fits: { own_width ≤ 1000000 },
     ghost own_height_fits: { own_height ≤ 1000000 },
 }

@@ -15,6 +15,7 @@
 
 mod all;
 mod along;
+mod around;
 mod axis;
 mod boxes;
 mod entry;
@@ -38,6 +39,8 @@ mod places;
 mod position;
 mod positions;
 mod raising;
+mod reach;
+mod reaching;
 mod renewal;
 mod row;
 mod size;

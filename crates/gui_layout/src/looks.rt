@@ -15,7 +15,7 @@ ghost use Rattle.gui_layout.specs.Painted.{FillsAs, PaintsLike};
 ghost use Rattle.gui_layout.specs.Painted.{paints_content, paints_indicator, paints_knob};
 
 use arrayvec::ArrayVec;
-use gui_base::{Handle, Kind, Part, Prop};
+use gui_base::{Flag, Handle, Kind, Part, Prop};
 use gui_font::Images;
 use gui_store::{Row, Store};
 use gui_widgets::{ImageLook, Look, Values};
@@ -167,6 +167,9 @@ pub(crate) fn look_in<'a>(
         min: row.min,
         max: row.max,
         image: image_look(store.images(), row.image),
+        scrollable: row.is_on(Flag::Scrollable),
+        reach: (0, 0),
+        offset: (0, 0),
         fonts: store.fonts(),
     }
 }
@@ -188,7 +191,7 @@ pub(crate) fn paint_look_in<'a>(
     Look {
         kind,
         main: main_values(store, h, row),
-        scrollbar: UNASKED,
+        scrollbar: part_values(store, h, row, Part::Scrollbar, false),
         indicator: part_values(store, h, row, Part::Indicator, paints_indicator(kind)),
         knob: part_values(store, h, row, Part::Knob, paints_knob(kind)),
         text: text_of(store, h, room),
@@ -196,6 +199,9 @@ pub(crate) fn paint_look_in<'a>(
         min: row.min,
         max: row.max,
         image: image_look(store.images(), row.image),
+        scrollable: row.is_on(Flag::Scrollable),
+        reach: (0, 0),
+        offset: (0, 0),
         fonts: store.fonts(),
     }
 }

@@ -1,7 +1,9 @@
 //! The boxes of the objects of a store.
 ghost use Rattle.std.specs.Prelude.{◌≡◌, ◌≤◌, true, Some, pos};
 ghost use Rattle.gui_base.specs.Props.{is_value, values_of};
-ghost use Rattle.gui_base.specs.declared.intervals.TheConstants.{PAD};
+ghost use Rattle.gui_base.specs.Area.{nat_of};
+ghost use Rattle.gui_base.specs.Intervals.{is_within};
+ghost use Rattle.gui_base.specs.declared.intervals.TheConstants.{PAD, SCROLL};
 ghost use Rattle.gui_base.specs.declared.props.Prop.TheVariants.{BorderWidth, PadTop, PadBottom, PadLeft};
 ghost use Rattle.gui_base.specs.declared.props.Prop.TheVariants.{PadRight};
 ghost use Rattle.gui_base.specs.declared.words.Part.TheVariants.{Main};
@@ -143,6 +145,15 @@ pub(crate) fn own_height_of(store: &Store, h: Handle, own: &Entry) -> u32
     }
 }
 
+/// How far an object is to scroll its children in one direction, in pixels.
+fn stored_scroll(stored: i32) -> u16
+    requires { is_within SCROLL stored ≡ true }
+    ensures value { result ≡ nat_of stored }
+    ensures small { result ≤ 8191 }
+{
+    stored as u16
+}
+
 /// The box of an object that has this row, before its own height is known.
 fn row_box(store: &Store, h: Handle, row: &Row) -> LayoutBox
     requires row { Some (shown_row row.now) ≡ row_at (scene_of store.now) h.0 }
@@ -159,6 +170,7 @@ fn row_box(store: &Store, h: Handle, row: &Row) -> LayoutBox
             after: inset(store, h, row, border, Prop::PadRight),
             gap: pad(store, h, row, Prop::PadColumn),
             side: side_across(row.align),
+            scroll: stored_scroll(row.scroll_x),
         },
         down: Axis {
             size: row.height,
@@ -167,6 +179,7 @@ fn row_box(store: &Store, h: Handle, row: &Row) -> LayoutBox
             after: inset(store, h, row, border, Prop::PadBottom),
             gap: pad(store, h, row, Prop::PadRow),
             side: side_down(row.align),
+            scroll: stored_scroll(row.scroll_y),
         },
         own_width: own_width_of(store, h, row),
         own_height: 0,
@@ -174,6 +187,7 @@ fn row_box(store: &Store, h: Handle, row: &Row) -> LayoutBox
         flow: row.flow,
         places: placings(row),
         grow: row.grow,
+        scrollable: row.is_on(Flag::Scrollable),
     }
 }
 

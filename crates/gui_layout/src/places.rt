@@ -19,7 +19,8 @@ ghost use Rattle.scene_defs.specs.Scene.{handles_of, is_there, object_at, value}
 ghost use Rattle.gui_widgets.specs.Looks.{IsLook, widget_of};
 ghost use Rattle.gui_store.specs.Views.{scene_of};
 ghost use Rattle.gui_layout.specs.Painted.{PaintsLike};
-ghost use Rattle.scene_defs.specs.Place.{place};
+ghost use Rattle.scene_defs.specs.Place.{offset, place, reach};
+ghost use Rattle.gui_layout.specs.Scrolls.{span_from};
 ghost use Rattle.scene_defs.specs.Visible.{some_area, met, visible};
 ghost use Rattle.gui_layout.specs.Frames.{FrameIsNearby, IsFrameOf, Encloses};
 ghost use Rattle.gui_layout.specs.declared.frame.Frame.TheVariants.{Content};
@@ -37,6 +38,7 @@ ghost use Rattle.gui_layout.specs.Layouts.{ButBoxes};
 ghost use Rattle.gui_layout.specs.Tables.{AreListed, IsListed, listing_of};
 
 use crate::all::solve_trees;
+use crate::around::{renew_all_there, renew_parents};
 use crate::boxes::empty_box;
 use crate::entry::Entry;
 use crate::frame::Frame;
@@ -173,13 +175,16 @@ fn shown_panel(store: &Store, root: Handle) -> Option<Area>
 }
 
 impl Places {
-    ghost use Rattle.gui_layout.specs.Solved.{limits_of, layout_of, place_at, AreSolved, AreSettled};
+    ghost use Rattle.gui_layout.specs.Solved.{limits_of, layout_of, offset_at, place_at, reach_at};
+    ghost use Rattle.gui_layout.specs.Solved.{AreReached, AreSettled, AreSolved};
     ghost use Rattle.gui_layout.specs.Naturals.{naturals, naturals_at};
     ghost use Rattle.gui_layout.specs.Marks.{is_changed, is_marked, is_parent, mark_count, most_marks, solved_in};
     ghost use Rattle.gui_layout.specs.SettledBut.{AreRightBut, AreRightButChanged, AreSettledButMarks};
     ghost use Rattle.gui_layout.specs.SettledBut.{SettlesChanged, SettlesMarks, in_marked, nobody};
     ghost use Rattle.gui_layout.specs.Settles.{Settles, SolvesTree};
-    ghost use Rattle.gui_layout.specs.Tops.{MovesAt, SolvesAt, in_trees_at};
+    ghost use Rattle.gui_layout.specs.Around.{IsFlat, ReadsReaches};
+    ghost use Rattle.gui_layout.specs.Scrolls.{scrolled_at};
+    ghost use Rattle.gui_layout.specs.Tops.{MovesAt, ScrollsAt, SolvesAt, in_trees_at, is_over};
 
     /// No object has a place. It takes all the memory that solving will need, or answers NoMemory where there
     /// is too little.
@@ -206,6 +211,7 @@ impl Places {
         requires { limits_of self.old ≡ (scene_of store.now).limits }
         ensures settled { AreSettled self.new (scene_of store.now) }
         ensures solved { AreSolved self.new (scene_of store.now) }
+        ensures reached { AreReached self.new (scene_of store.now) }
         ensures naturals { (h : ℕ) → naturals_at self.new h ≡ naturals (scene_of store.now) h }
         ensures limits { limits_of self.new ≡ limits_of self.old }
     {
@@ -237,6 +243,20 @@ impl Places {
         ensures other_naturals { (k : ℕ) → is_there (scene_of store.now) k ≡ true →
             in_marked (is_marked marks.old) (scene_of store.now) k ≡ false →
             naturals_at self.new k ≡ naturals_at self.old k }
+        ensures reaches { (k : ℕ) → in_marked (is_marked marks.old) (scene_of store.now) k ≡ true →
+            reach_at self.new k ≡ reach (scene_of store.now) k }
+        ensures gone_reaches { (k : ℕ) → is_marked marks.old k ≡ true →
+            is_there (scene_of store.now) k ≡ false → reach_at self.new k ≡ None }
+        ensures other_reaches { (k : ℕ) → is_there (scene_of store.now) k ≡ true →
+            in_marked (is_marked marks.old) (scene_of store.now) k ≡ false →
+            reach_at self.new k ≡ reach_at self.old k }
+        ensures offsets { (k : ℕ) → in_marked (is_marked marks.old) (scene_of store.now) k ≡ true →
+            offset_at self.new k ≡ offset (scene_of store.now) k }
+        ensures gone_offsets { (k : ℕ) → is_marked marks.old k ≡ true →
+            is_there (scene_of store.now) k ≡ false → offset_at self.new k ≡ None }
+        ensures other_offsets { (k : ℕ) → is_there (scene_of store.now) k ≡ true →
+            in_marked (is_marked marks.old) (scene_of store.now) k ≡ false →
+            offset_at self.new k ≡ offset_at self.old k }
         ensures right { (s : ℕ → Bool) →
             AreRightBut self.old (scene_of store.now) s (is_changed marks.old) (is_parent marks.old) →
             AreRightBut self.new (scene_of store.now) s nobody nobody }
@@ -274,6 +294,26 @@ impl Places {
             Some(own) => Some(area_of(&own.position, own.width.pixels)),
             None => None,
         }
+    }
+
+    /// How far the children of an object reach out of its content area before they are moved, across and down,
+    /// in pixels: 0 where none does. None exactly where the object was not there when the places were solved.
+    pub fn reach(&self, h: Handle) -> Option<(u32, u32)>
+        ensures { option_map span_from result ≡ reach_at self.now h.0 }
+    {
+        let own = self.entries.get(h.0 as u32)?;
+        Some((own.scrolled.reach.across, own.scrolled.reach.down))
+    }
+
+    /// How far an object moves its children, to the left and upward, in pixels: 0 where it is not scrollable,
+    /// and never further than they reach. None exactly where the object was not there when the places were
+    /// solved.
+    pub fn offset(&self, h: Handle) -> Option<(u32, u32)>
+        ensures { option_map span_from result ≡ offset_at self.now h.0 }
+    {
+        let own = self.entries.get(h.0 as u32)?;
+        let offset = own.scrolled.offset;
+        Some((u32::from(offset.across), u32::from(offset.down)))
     }
 
     /// An object that is there as its items show it, with its text in `text`.
@@ -509,6 +549,36 @@ impl Places {
     {
         raise_marks(store.tree(), &self.entries, pending, marked);
         self.settle_changed(store, marked, pending, solved);
+        self.renew_reaches(store, marked, solved.as_slice());
+    }
+
+    /// Finds anew how far the children reach of the parents of the trees that were solved, and of the marked
+    /// objects: of those that are there and move none.
+    fn renew_reaches(&mut self, store: &Store, marked: &[Handle], tops: &[Handle])
+        requires there { (u : ℕ) → 0 < times tops.now u → has (handles_of (scene_of store.now).trees) u ≡ true }
+        requires above { (u q : ℕ) → 0 < times tops.now u →
+            parent_of (handles_of (scene_of store.now).trees) u ≡ Some q →
+            AreListed (listing_of self.old.entries) (tree_at (handles_of (scene_of store.now).trees) q) }
+        requires own { (k : ℕ) → 0 < times marked.now k → has (handles_of (scene_of store.now).trees) k ≡ true →
+            AreListed (listing_of self.old.entries) (tree_at (handles_of (scene_of store.now).trees) k) }
+        ensures above { (u q : ℕ) → 0 < times tops.now u →
+            parent_of (handles_of (scene_of store.now).trees) u ≡ Some q →
+            (box_at (layout_of self.old).boxes q).scrollable ≡ false →
+            IsFlat (handles_of (scene_of store.now).trees) (layout_of self.new) q }
+        ensures own { (k : ℕ) → 0 < times marked.now k → has (handles_of (scene_of store.now).trees) k ≡ true →
+            (box_at (layout_of self.old).boxes k).scrollable ≡ false →
+            IsFlat (handles_of (scene_of store.now).trees) (layout_of self.new) k }
+        ensures reads { ReadsReaches (handles_of (scene_of store.now).trees)
+            (layout_of self.old) (layout_of self.new) }
+        ensures others { (k : ℕ) → is_over (handles_of (scene_of store.now).trees) tops.now k ≡ false →
+            times marked.now k ≡ 0 →
+            scrolled_at (layout_of self.new).scrolls k ≡ scrolled_at (layout_of self.old).scrolls k }
+        ensures listed { listing_of self.new.entries ≡ listing_of self.old.entries }
+        ensures limits { limits_of self.new ≡ limits_of self.old }
+    {
+        let tree = store.tree();
+        renew_parents(tree, &mut self.entries, tops);
+        renew_all_there(tree, &mut self.entries, marked);
     }
 
     /// Settles the places of a store in which pending objects alone may differ, each of which is listed. What
@@ -530,6 +600,7 @@ impl Places {
         requires room { length marked.now ≤ vec_capacity solved.old }
         ensures settles { SettlesChanged self.old self.new (scene_of store.now) (is_pending pending.old) }
         ensures moves { MovesAt self.old self.new (scene_of store.now) (is_pending pending.old) solved.new.items }
+        ensures scrolls { ScrollsAt self.old self.new (scene_of store.now) (is_pending pending.old) solved.new.items }
         ensures marks { listing_of pending.new ≡ listing_of pending.old }
         ensures capacity { vec_capacity solved.new ≡ vec_capacity solved.old }
         ensures limits { limits_of self.new ≡ limits_of self.old }
@@ -578,6 +649,8 @@ impl Places {
             (is_pending pending.old) (is_pending pending.new) }
         ensures solves { SolvesAt self.old self.new (scene_of store.now)
             (is_pending pending.old) (is_pending pending.new) (option_to_list result) }
+        ensures scrolls { ScrollsAt self.old self.new (scene_of store.now)
+            (is_pending pending.old) (option_to_list result) }
         ensures own { has (handles_of (scene_of store.now).trees) h.0 ≡ true →
             is_pending pending.new h.0 ≡ false }
         ensures marks { listing_of pending.new ≡ listing_of pending.old }
@@ -615,6 +688,8 @@ impl Places {
             (is_pending pending.old) (is_pending pending.new) }
         ensures solves { SolvesAt self.old self.new (scene_of store.now)
             (is_pending pending.old) (is_pending pending.new) solved.new.items }
+        ensures scrolls { ScrollsAt self.old self.new (scene_of store.now)
+            (is_pending pending.old) solved.new.items }
         ensures all { (k : ℕ) → has (handles_of (scene_of store.now).trees) k ≡ true →
             is_pending pending.new k ≡ false }
         ensures marks { listing_of pending.new ≡ listing_of pending.old }

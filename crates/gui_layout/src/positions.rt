@@ -1,6 +1,6 @@
 //! Heights and places, downward.
 ghost use Rattle.std.specs.Prelude.{◌≡◌, ◌≤◌, ◌<◌, ◌+◌, ◌∷◌, [], ℕ, List, true, length, map};
-ghost use Rattle.std.specs.Prelude.{take, drop};
+ghost use Rattle.std.specs.Prelude.{take, drop, slice_set, pos, ◌+ℤ◌, ◌≤ℤ◌};
 ghost use Rattle.std.specs.List.{All};
 ghost use Rattle.gui_base.specs.Forest.{StandsOnce, has, height, size, tree_at, children_of};
 ghost use Rattle.layout_defs.specs.declared.Course.TheVariants.{Across, Down};
@@ -15,7 +15,10 @@ ghost use Rattle.gui_layout.specs.Views.{box_of, box_at};
 ghost use Rattle.gui_layout.specs.Slots.{slot_of, room_in, arranged, item_slot};
 ghost use Rattle.gui_layout.specs.Slots.{IsClose, HasRoom, HoldsSlots, Deals, IsAtCorner, IsBelow, tall_at};
 ghost use Rattle.gui_layout.specs.Slots.{slot_at, at_roots};
-ghost use Rattle.gui_layout.specs.Layouts.{ButSlots};
+ghost use Rattle.gui_layout.specs.Layouts.{ButPlaces, ButSlots};
+ghost use Rattle.gui_layout.specs.Scrolls.{HoldsScrolls, moves_of, not_scrolled, scrolled_in};
+ghost use Rattle.layout_defs.specs.Scrolling.{moved_room};
+ghost use Rattle.layout_defs.specs.Solving.{moved};
 ghost use Rattle.gui_layout.specs.Tables.{told, listing_of, AreListed};
 
 use crate::along::{corner, from_corner, inner, own_at, size_in};
@@ -25,8 +28,10 @@ use crate::inside::Inside;
 use crate::items::{fill_items, turn};
 use crate::layout_box::LayoutBox;
 use crate::position::Position;
+use crate::reach::{NOT_SCROLLED, Offset};
+use crate::reaching::{is_none, moved_inside, reach_of, scrolled_by};
 use crate::sizing::Sizing;
-use crate::tables::{entry_of, set_position};
+use crate::tables::{entry_of, set_position, set_scrolled};
 use gui_base::Handle;
 use gui_flex::{FlexItem, FlexPlaces, place, share};
 use gui_pool::Table;
@@ -284,8 +289,51 @@ pub(crate) fn inside_of(own: &LayoutBox, at: Position, width: u16) -> Inside
     }
 }
 
-/// Sets the places of the children of an object whose own place is set. It is not inlined, so that an object
-/// without children pays nothing for it.
+/// Moves the children of an object that stand flat in its content area as far as it scrolls them: they are dealt
+/// once more, in a content area that is moved.
+fn move_kids(
+    tree: &Tree,
+    entries: &mut Table<Entry>,
+    items: &[FlexItem],
+    h: Handle,
+    course: Course,
+    inside: Inside,
+    offset: Offset,
+)
+    requires once { StandsOnce tree.now.forest }
+    requires listed { AreListed (listing_of entries.old) (tree_at tree.now.forest h.0) }
+    requires left { pos 0 ≤ℤ (inside.x +ℤ pos 940000000) }
+    requires top { pos 0 ≤ℤ (inside.y +ℤ pos 940000000) }
+    requires flat { at_roots (told entries.old).slots (children_of tree.now.forest h.0)
+        ≡ dealt tall_box (own_slot (room_in inside)) (tall_kids (told entries.old) tree.now.forest h.0)
+        (map (item_slot course (room_in inside)) items.now) }
+    requires close { All (IsClose inside.x inside.y)
+        (at_roots (told entries.old).slots (children_of tree.now.forest h.0)) }
+    ensures moved { at_roots (told entries.new).slots (children_of tree.now.forest h.0)
+        ≡ map (moved (moves_of offset)) (at_roots (told entries.old).slots (children_of tree.now.forest h.0)) }
+    ensures others { KeepsOthers nowhere (told entries.old).slots (told entries.new).slots
+        (children_of tree.now.forest h.0) }
+    ensures close { All (IsClose (moved_room (moves_of offset) (room_in inside)).x
+        (moved_room (moves_of offset) (room_in inside)).y)
+        (at_roots (told entries.new).slots (children_of tree.now.forest h.0)) }
+    ensures rest { ButSlots (told entries.old) (told entries.new) }
+    ensures listed { listing_of entries.new ≡ listing_of entries.old }
+{
+    if is_none(offset) {
+        return;
+    }
+    deal_positions(
+        tree,
+        entries,
+        items,
+        h,
+        course,
+        moved_inside(inside, offset),
+    );
+}
+
+/// Sets the places of the children of an object whose own place is set, and how far they reach and are moved. It
+/// is not inlined, so that an object without children pays nothing for it.
 #[inline(never)]
 fn set_kid_positions(tree: &Tree, entries: &mut Table<Entry>, items: &mut [FlexItem], h: Handle)
     requires once { StandsOnce tree.now.forest }
@@ -302,17 +350,27 @@ fn set_kid_positions(tree: &Tree, entries: &mut Table<Entry>, items: &mut [FlexI
         (children_of tree.now.forest h.0) }
     ensures near { All (IsBelow (slot_at (told entries.old).slots h.0))
         (at_roots (told entries.new).slots (children_of tree.now.forest h.0)) }
-    ensures rest { ButSlots (told entries.old) (told entries.new) }
+    ensures scrolled { (told entries.new).scrolls ≡ slice_set (told entries.old).scrolls h.0
+        (scrolled_in (tall_at (box_at (told entries.old).boxes) (told entries.old).widths
+        (told entries.old).natural_heights h.0) (slot_at (told entries.old).slots h.0)
+        (tall_kids (told entries.old) tree.now.forest h.0)) }
+    ensures rest { ButPlaces (told entries.old) (told entries.new) }
     ensures listed { listing_of entries.new ≡ listing_of entries.old }
 {
     let own = entry_of(entries, h);
     let inside = inside_of(&own.wanted, own.position, own.width.pixels);
     let course = course_of(own.wanted.flow);
     let count = place_flow(tree, entries, items, h, &own.wanted, inside);
-    deal_positions(tree, entries, &items[..count], h, course, inside);
+    let placed = &items[..count];
+    deal_positions(tree, entries, placed, h, course, inside);
+    let reach = reach_of(tree, entries, h);
+    let scrolled = scrolled_by(&entry_of(entries, h).wanted, reach);
+    set_scrolled(entries, h, scrolled);
+    move_kids(tree, entries, placed, h, course, inside, scrolled.offset);
 }
 
-/// Finds the heights and places of all that lies below an object whose own place is set, parents first.
+/// Finds the heights and places of all that lies below an object whose own place is set, parents first, and how
+/// far it and all below it scroll their children.
 pub(crate) fn find_places(
     tree: &Tree,
     entries: &mut Table<Entry>,
@@ -330,10 +388,16 @@ pub(crate) fn find_places(
         (told entries.new).slots (tree_at tree.now.forest h.0) }
     ensures others { KeepsOthers nowhere (told entries.old).slots (told entries.new).slots
         (tree_at tree.now.forest h.0) }
-    ensures rest { ButSlots (told entries.old) (told entries.new) }
+    ensures scrolled { HoldsScrolls (box_at (told entries.old).boxes) (told entries.old).widths
+        (told entries.old).natural_heights (told entries.new).slots (told entries.new).scrolls
+        (tree_at tree.now.forest h.0) }
+    ensures other_scrolls { KeepsOthers not_scrolled (told entries.old).scrolls (told entries.new).scrolls
+        (tree_at tree.now.forest h.0) }
+    ensures rest { ButPlaces (told entries.old) (told entries.new) }
     ensures listed { listing_of entries.new ≡ listing_of entries.old }
 {
     if tree.first_child(h).is_none() {
+        set_scrolled(entries, h, NOT_SCROLLED);
         return;
     }
     set_kid_positions(tree, entries, items, h);

@@ -28,12 +28,13 @@ fn is_free(course: Course) -> bool
     matches!(course, Course::Free)
 }
 
-/// Whether the natural sizes of an object do not go by its children, which stand by themselves.
+/// Whether the natural sizes of an object do not go by its children, which stand by themselves and are not moved.
 pub(crate) fn is_steady(own: &LayoutBox) -> bool
     ensures value { (h : ℕ) → result ≡ is_steady (box_of h own.now) }
     ensures steady { result ≡ true → (h : ℕ) → IsSteady (box_of h own.now) }
 {
-    is_free(course_of(own.flow)) && (!is_content(own.across.size) && !is_content(own.down.size))
+    is_free(course_of(own.flow))
+        && (!own.scrollable && (!is_content(own.across.size) && !is_content(own.down.size)))
 }
 
 /// Whether trees of any height have room in an object that stands there.

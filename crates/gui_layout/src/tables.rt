@@ -2,11 +2,13 @@
 ghost use Rattle.std.specs.Prelude.{◌≡◌, ◌≤◌, Some, true, is_some, slice_set};
 ghost use Rattle.gui_pool.specs.Table.{value_at};
 ghost use Rattle.gui_layout.specs.Slots.{slot_of};
+ghost use Rattle.gui_layout.specs.Scrolls.{scrolled_of};
 ghost use Rattle.gui_layout.specs.Tables.{told, IsEntry, IsListed, listing_of};
 
 use crate::entry::Entry;
 use crate::layout_box::LayoutBox;
 use crate::position::{CORNER, Position};
+use crate::reach::{NOT_SCROLLED, Scrolled};
 use crate::size::Size;
 use gui_base::Handle;
 use gui_pool::Table;
@@ -42,6 +44,7 @@ pub(crate) fn new_entry(wanted: LayoutBox) -> Entry
         width: none,
         natural_height: none,
         position: CORNER,
+        scrolled: NOT_SCROLLED,
     }
 }
 
@@ -139,5 +142,33 @@ pub(crate) fn set_position(entries: &mut Table<Entry>, h: Handle, position: Posi
     }
     let mut changed = *known;
     changed.position = position;
+    let _ = entries.replace(h.0 as u32, changed);
+}
+
+/// Whether both are the same.
+fn is_same_scrolled(scrolled: &Scrolled, other: &Scrolled) -> bool
+    ensures { result ≡ true → scrolled_of scrolled.now ≡ scrolled_of other.now }
+{
+    (scrolled.reach.across == other.reach.across && scrolled.reach.down == other.reach.down)
+        && (scrolled.offset.across == other.offset.across
+            && scrolled.offset.down == other.offset.down)
+}
+
+/// Tells of an object that has an entry how far its children reach and are moved. Nothing is written where it
+/// is the same: most have none.
+#[inline]
+pub(crate) fn set_scrolled(entries: &mut Table<Entry>, h: Handle, scrolled: Scrolled)
+    requires { IsListed (listing_of entries.old) h.0 }
+    ensures set { told entries.new ≡ record (told entries.old) {
+      scrolls = slice_set (told entries.old).scrolls h.0 (scrolled_of scrolled);
+    } }
+    ensures listed { listing_of entries.new ≡ listing_of entries.old }
+{
+    let known = entry_of(entries, h);
+    if is_same_scrolled(&known.scrolled, &scrolled) {
+        return;
+    }
+    let mut changed = *known;
+    changed.scrolled = scrolled;
     let _ = entries.replace(h.0 as u32, changed);
 }

@@ -6,6 +6,7 @@ ghost use Rattle.gui_layout.specs.Frames.{FrameIsNearby, StandsIn};
 ghost use Rattle.gui_layout.specs.Layouts.{KeepsRest};
 ghost use Rattle.gui_layout.specs.Renewed.{AreRenewed, KeepsRenewed};
 ghost use Rattle.gui_layout.specs.Scenes.{scene_box};
+ghost use Rattle.gui_layout.specs.Scrolls.{HoldsScrolls};
 ghost use Rattle.gui_layout.specs.Settled.{known, known_at, AllFit};
 ghost use Rattle.gui_layout.specs.Tables.{told, listing_of, AreListed};
 
@@ -45,6 +46,9 @@ pub(crate) fn solve_tree(
     ensures fit { AllFit (known (scene_box (scene_of store.now)) (told entries.new)
         (tree_at tree.now.forest h.0)) }
     ensures stands { StandsIn frame (known_at (scene_box (scene_of store.now)) (told entries.new) h.0) }
+    ensures scrolled { HoldsScrolls (scene_box (scene_of store.now)) (told entries.new).widths
+        (told entries.new).natural_heights (told entries.new).slots (told entries.new).scrolls
+        (tree_at tree.now.forest h.0) }
     ensures others { KeepsRest (told entries.old) (told entries.new) (tree_at tree.now.forest h.0) }
     ensures boxes { KeepsRenewed (scene_of store.now) (told entries.old).boxes (told entries.new).boxes }
     ensures listed { listing_of entries.new ≡ listing_of entries.old }

@@ -10,11 +10,12 @@ use Rattle.run_defs.specs.Reactions.{goes_up, is_slider, nudge, nudge_by, put_va
 use Rattle.gui_base.specs.declared.events.Key.{Key}
 use Rattle.scene_defs.specs.declared.Change.TheVariants as change
 use Rattle.scene_defs.specs.declared.Row.{Row}
-use Rattle.scene_defs.specs.Row.{brought_in, is_size, is_cross, is_range, is_ranged}
+use Rattle.scene_defs.specs.Row.{brought_in, is_range}
+use Rattle.scene_defs.proofs.InRange.{numbers_of}
 use Rattle.std.specs.Prelude.{◌&&◌, int_le, int_lt, pos, negsuc, ◌≤ℤ◌, ◌<ℤ◌}
 use Rattle.std.proofs.lemmas.Bool.{and_parts}
-use Rattle.gui_base.specs.Intervals.{is_counted, is_within}
-use Rattle.gui_base.specs.declared.intervals.TheConstants.{COORDINATE, GROW, VALUE}
+use Rattle.gui_base.specs.Intervals.{is_within}
+use Rattle.gui_base.specs.declared.intervals.TheConstants.{VALUE}
 use Rattle.scene_defs.specs.Scene.{row_at}
 use Rattle.gui_play.specs.Stages.{Stage, Played}
 use Rattle.gui_play.proofs.Plays.{idle}
@@ -64,12 +65,7 @@ pub record Ranged (row : Row) : Type 0 where
 
 pub ranged : (row : Row) → IsRow row → Ranged row
 ranged row is =
-    let down = (and_parts (is_within COORDINATE row.x) _ is).1 in
-    let sizes = (and_parts (is_within COORDINATE row.y) _ down).1 in
-    let tall = (and_parts (is_size row.width) _ sizes).1 in
-    let placed = (and_parts (is_size row.height) _ tall).1 in
-    let grown = (and_parts (is_cross row.places.1) _ placed).1 in
-    let ranged = (and_parts (is_counted GROW row.grow) (is_ranged row) grown).1 in
+    let ranged = (numbers_of row is).ranged in
     let ends : is_range row.min row.max ≡ true = (and_parts (is_range row.min row.max) _ ranged).0 in
     let within : (int_le row.min row.value && int_le row.value row.max) ≡ true = (and_parts (is_range row.min row.max) _ ranged).1 in
     let low : is_within VALUE row.min ≡ true = (and_parts (is_within VALUE row.min) _ ends).0 in

@@ -25,6 +25,8 @@ pub(crate) fn new_row(kind: Kind) -> Row
         flow: first_flow(kind),
         places: (Placing::Start, Placing::Start, Placing::Start),
         grow: 0,
+        scroll_x: 0,
+        scroll_y: 0,
         value: 0,
         min: 0,
         max: 100,
@@ -51,6 +53,10 @@ pub(crate) fn set_row(row: &mut Row, change: &Change)
         Change::Size(_, width, height) => {
             row.width = width;
             row.height = height;
+        }
+        Change::Scroll(_, x, y) => {
+            row.scroll_x = x;
+            row.scroll_y = y;
         }
         Change::Flex(_, flow) => row.flow = flow,
         Change::Places(_, main, cross, track) => row.places = (main, cross, track),

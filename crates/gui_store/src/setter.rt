@@ -6,7 +6,7 @@ ghost use Rattle.scene_defs.specs.Deeds.{setter_of};
 ghost use Rattle.scene_defs.specs.declared.Feature.TheVariants.{Value, Picture};
 ghost use Rattle.gui_store.specs.Setters.{asked_of};
 
-use gui_base::intervals::{COORDINATE, EXTENT, GROW, IMAGE, PERCENT, VALUE};
+use gui_base::intervals::{COORDINATE, EXTENT, GROW, IMAGE, PERCENT, SCROLL, VALUE};
 use gui_base::{Handle, Length, Placing};
 use scene_defs::{Change, Feature};
 
@@ -114,6 +114,7 @@ pub(crate) fn setter_of(change: &Change) -> Option<Setter>
         Change::Size(h, width, height) => {
             Some(Setter::of_child(h, is_size(width) && is_size(height)))
         }
+        Change::Scroll(h, x, y) => Some(Setter::of_any(h, SCROLL.holds(x) && SCROLL.holds(y))),
         Change::Flex(h, _) => Some(Setter::of_any(h, true)),
         Change::Places(h, _, cross, _) => Some(Setter::of_any(h, is_cross(cross))),
         Change::Grow(h, n) => Some(Setter::of_child(h, GROW.holds(n as u16))),

@@ -1,5 +1,5 @@
 -- Content areas lie near places, and parts of them within the coordinates of areas.
-use Rattle.std.proofs.Common.{◌≡◌, ◌⊎◌, inl, inr, refl, ℕ, ◌+◌, ◌-◌, ◌≤◌, arith, ℤ, pos, negsuc, ◌+ℤ◌, ◌-ℤ◌, ◌<ℤ◌}
+use Rattle.std.proofs.Common.{◌≡◌, ◌⊎◌, inl, inr, refl, ℕ, ◌+◌, ◌-◌, ◌≤◌, arith, ℤ, pos, negsuc, ◌+ℤ◌, ◌-ℤ◌, ◌<ℤ◌, w32, to_z, of_z}
 use Rattle.std.proofs.lemmas.Int.{ints}
 use Rattle.gui_base.specs.Area.{nat_of, count_between}
 use Rattle.gui_widgets.specs.Nears.{IsPlaced, IsNear, Reaches}
@@ -40,3 +40,29 @@ part-reaches low high n first last most =
 
 pub few-reach : (low : ℤ) (n : ℕ) → IsNear low → n ≤ 1000000 → Reaches low n
 few-reach low n first few = omega (arith, ints)
+
+-- coordinates, as they are read
+pub read : (z : ℤ) → IsPlaced z → to_z w32 (of_z w32 z) ≡ z
+read z placed = omega (arith, ints)
+
+pub read-before : (z : ℤ) → IsPlaced z → to_z w32 (of_z w32 (z -ℤ pos 3)) ≡ z -ℤ pos 3
+read-before z placed = omega (arith, ints)
+
+pub read-moved : (z : ℤ) (n : ℕ) → Reaches z n → to_z w32 (of_z w32 (z +ℤ pos n)) ≡ z +ℤ pos n
+read-moved z n reaches = omega (arith, ints)
+
+-- so many pixels of a place from so far on
+module _ (low high : ℤ) (first : IsPlaced low) (last : IsPlaced high) (start n : ℕ) (within : start + n ≤ count_between low high) where
+  pub start-reaches : Reaches low start
+  start-reaches =
+      elim (spread low high) [
+        | inl more ↦ omega (arith, ints)
+        | inr none ↦ omega (arith, ints)
+      ]
+
+  pub rest-reaches : Reaches (low +ℤ pos start) n
+  rest-reaches =
+      elim (spread low high) [
+        | inl more ↦ omega (arith, ints)
+        | inr none ↦ omega (arith, ints)
+      ]

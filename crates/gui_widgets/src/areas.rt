@@ -53,8 +53,22 @@ pub(crate) fn part_at(area: Area, left: u32, top: u32, width: u32, height: u32) 
     }
 }
 
+/// The area that begins at a corner and has these sizes.
+pub(crate) fn area_from(x: i32, y: i32, width: u32, height: u32) -> Area
+    requires across { Reaches x width }
+    requires down { Reaches y height }
+    ensures { rect_of result ≡ area_at x y width height }
+{
+    Area {
+        x1: x,
+        y1: y,
+        x2: last(x, width),
+        y2: last(y, height),
+    }
+}
+
 /// A coordinate so many pixels further on.
-fn moved(from: i32, by: u32) -> i32
+pub(crate) fn moved(from: i32, by: u32) -> i32
     requires { Reaches from by }
     ensures { result ≡ from +ℤ pos by }
 {

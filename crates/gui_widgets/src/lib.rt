@@ -7,11 +7,13 @@
 mod areas;
 mod look;
 mod painting;
+mod scrollbars;
 mod sizes;
 mod values;
 
 pub use gui_base::Kind;
 pub use look::{Item, Look};
 pub use painting::items;
+pub use scrollbars::bars;
 pub use sizes::{own_height, own_width};
 pub use widget_defs::{ImageLook, ItemPaint, Values};

@@ -26,6 +26,11 @@ pub struct Look<'a> {
     pub max: i32,
     /// What an image shows.
     pub image: Option<ImageLook>,
+    pub scrollable: bool,
+    /// How far its children reach out of its content area, across and down.
+    pub reach: (u32, u32),
+    /// How far it moves them: no further than that.
+    pub offset: (u32, u32),
     pub fonts: &'a Fonts,
 }
 

@@ -81,7 +81,7 @@ fn push_part(items: &mut ArrayVec<Item, 6>, area: Area, values: &Values)
     items.push(ring(area, values));
 }
 
-fn fill(area: Area, values: &Values) -> Item
+pub(crate) fn fill(area: Area, values: &Values) -> Item
     requires { AreValues (value_in values.now) }
     ensures { item_of result ≡ fill_of (rect_of area) (value_in values.now) }
 {

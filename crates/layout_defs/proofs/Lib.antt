@@ -1,6 +1,7 @@
 pub mod Boxes
 pub mod Everywhere
 pub mod Near
+pub mod Scrolling
 pub mod OwnHeights
 pub mod SameTracks
 pub mod Shares

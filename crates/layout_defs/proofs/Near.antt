@@ -1,5 +1,5 @@
 -- No object stands far from the panel's corner.
-use Rattle.std.proofs.Common.{◌≡◌, ◌∙◌, refl, sym, ap, ℕ, ◌+◌, ◌-◌, ◌*◌, ◌<◌, ◌≤◌, max, Bool, true, false, List, [], ◌∷◌, length, map, fold, ℤ, pos, negsuc, ◌≤ℤ◌, ◌+ℤ◌, ◌-ℤ◌, inl, inr, arith}
+use Rattle.std.proofs.Common.{◌≡◌, ◌∙◌, refl, sym, ap, ℕ, ◌+◌, ◌-◌, ◌*◌, ◌<◌, ◌≤◌, max, min, Bool, true, false, List, [], ◌∷◌, length, map, fold, ℤ, pos, negsuc, ◌≤ℤ◌, ◌+ℤ◌, ◌-ℤ◌, inl, inr, arith}
 use Rattle.std.specs.Prelude.{◌==◌}
 use Rattle.std.specs.List.{All, flat_map}
 use Rattle.std.proofs.lemmas.Bool.{cases_Bool}
@@ -16,7 +16,7 @@ use Rattle.layout_defs.specs.declared.Side.{Side}
 use Rattle.layout_defs.specs.declared.Side.TheVariants.{Near as NearSide, Middle, Far}
 use Rattle.layout_defs.specs.Flex.{Item, Spot, Placings, main_of, cross_of, numbered, tracks, free_of, weight_of, shared_item, shared_track, shared, stand, spanned, left_over, thickness, across, item_spot, track_spots, track_at, spots}
 use Rattle.layout_defs.specs.Boxes.{course_of, wraps, is_reversed}
-use Rattle.layout_defs.specs.Solving.{Tall, tall_box, Slot, Placed, Room, taking_part, in_order, half, side_at, room_of, height_in, own_slot, row_item, column_item, row_slot, column_slot, ordered_slots, flow_slots, kid_slots, nowhere, with_slots, place_of, solved}
+use Rattle.layout_defs.specs.Solving.{Tall, tall_box, Slot, Placed, Room, taking_part, in_order, half, side_at, room_of, height_in, own_slot, row_item, column_item, row_slot, column_slot, ordered_slots, flow_slots, flat_slots, kid_slots, Span, kid_reach, offset_of, moved, nowhere, no_span, with_slots, place_of, solved}
 use Rattle.layout_defs.specs.Reach.{HasSizes, IsBox, IsNear, PlacesAreNear}
 use Rattle.gui_base.proofs.Forests.{map-size, map-height}
 use Rattle.layout_defs.proofs.Boxes.{talls, boxes_of_talls}
@@ -166,7 +166,7 @@ module _ (n : ℕ) (tall : Tall) (slot : Slot) (near : IsWithin n slot) (is : Is
   abbrev room : Room
   room = room_of tall slot
 
-  own_near : (kid : Tall) → IsKid kid → IsWithin (n + 50000000) (own_slot room kid)
+  own_near : (kid : Tall) → IsKid kid → IsWithin (n + 49000000) (own_slot room kid)
   own_near kid kid_is =
       let h = height_in room.height kid in
       let tall_h = size_in_small kid.box.down.size room.height kid.natural_height in
@@ -178,7 +178,7 @@ module _ (n : ℕ) (tall : Tall) (slot : Slot) (near : IsWithin n slot) (is : Is
       let above = is.box.down.before in
       record { left = omega (arith, ints); right = omega (arith, ints); top = omega (arith, ints); bottom = omega (arith, ints) }
 
-  spot_within : (item : Item) (spot : Spot) → IsSpot spot → IsWithin (n + 50000000) (row_slot room item spot) × IsWithin (n + 50000000) (column_slot room item spot)
+  spot_within : (item : Item) (spot : Spot) → IsSpot spot → IsWithin (n + 49000000) (row_slot room item spot) × IsWithin (n + 49000000) (column_slot room item spot)
   spot_within item spot at =
       let before = is.box.across.before in
       let above = is.box.down.before in (
@@ -186,31 +186,51 @@ module _ (n : ℕ) (tall : Tall) (slot : Slot) (near : IsWithin n slot) (is : Is
         record { left = omega (arith, ints); right = omega (arith, ints); top = omega (arith, ints); bottom = omega (arith, ints) },
       )
 
-  ordered_near : (course : Course) (kids : List Tall) → All IsTall kids → length kids ≤ 4000 → All (IsWithin (n + 50000000)) (ordered_slots course tall.box room kids)
-  ordered_near Free kids all few = All-nil (IsWithin (n + 50000000))
+  ordered_near : (course : Course) (kids : List Tall) → All IsTall kids → length kids ≤ 4000 → All (IsWithin (n + 49000000)) (ordered_slots course tall.box room kids)
+  ordered_near Free kids all few = All-nil (IsWithin (n + 49000000))
   ordered_near Across kids all few =
       let items = map (row_item room.height) kids in
       let long : length items ≡ length kids = length-map kids (row_item room.height) in
       let at = spots_near tall.box.places (wraps tall.box.flow) room.width room.height tall.box.across.gap tall.box.down.gap items (let w = is.tall.width in omega arith) (omega arith) is.box.across.gap is.box.down.gap (omega arith) (row_items room.height kids all) in
-      All-paired Any IsSpot (IsWithin (n + 50000000)) (row_slot room) (λ item spot _ s. (spot_within item spot s).0) items (spots tall.box.places (wraps tall.box.flow) room.width room.height tall.box.across.gap tall.box.down.gap items) (all_any items) at
+      All-paired Any IsSpot (IsWithin (n + 49000000)) (row_slot room) (λ item spot _ s. (spot_within item spot s).0) items (spots tall.box.places (wraps tall.box.flow) room.width room.height tall.box.across.gap tall.box.down.gap items) (all_any items) at
   ordered_near Down kids all few =
       let own = map (column_item room.height) kids in
       let items = shared (wraps tall.box.flow) room.height tall.box.down.gap own in
       let long : length items ≡ length kids = length-shared (wraps tall.box.flow) room.height tall.box.down.gap own ∙ length-map kids (column_item room.height) in
       let fit = All-shared (wraps tall.box.flow) room.height tall.box.down.gap own (column_items room.height kids all) (omega arith) in
       let at = spots_near tall.box.places (wraps tall.box.flow) room.height room.width tall.box.down.gap tall.box.across.gap items (omega arith) (let w = is.tall.width in omega arith) is.box.down.gap is.box.across.gap (omega arith) fit in
-      All-paired Any IsSpot (IsWithin (n + 50000000)) (column_slot room) (λ item spot _ s. (spot_within item spot s).1) items (spots tall.box.places (wraps tall.box.flow) room.height room.width tall.box.down.gap tall.box.across.gap items) (all_any items) at
+      All-paired Any IsSpot (IsWithin (n + 49000000)) (column_slot room) (λ item spot _ s. (spot_within item spot s).1) items (spots tall.box.places (wraps tall.box.flow) room.height room.width tall.box.down.gap tall.box.across.gap items) (all_any items) at
 
-  kid_slots_near : (kids : List Tall) → All IsKid kids → length kids ≤ 4000 → All (IsWithin (n + 50000000)) (kid_slots tall slot kids)
-  kid_slots_near kids all few =
+  flat_slots_near : (kids : List Tall) → All IsKid kids → length kids ≤ 4000 → All (IsWithin (n + 49000000)) (flat_slots tall slot kids)
+  flat_slots_near kids all few =
       let back = is_reversed tall.box.flow in
       let part = taking_part tall_box kids in
       let part_few = taking_part_few kids in
       let long : length (in_order back part) ≡ length part = length-in_order back part in
       let talls_in : All IsTall kids = λ k d h. (all k d h).tall in
       let ordered = ordered_near (course_of tall.box.flow) (in_order back part) (All-in_order IsTall back part (All-taking_part IsTall tall_box kids talls_in)) (omega arith) in
-      All-dealt IsKid (IsWithin (n + 50000000)) tall_box (own_slot room) own_near kids (flow_slots tall.box room part) all
-      (All-in_order (IsWithin (n + 50000000)) back (ordered_slots (course_of tall.box.flow) tall.box room (in_order back part)) ordered)
+      All-dealt IsKid (IsWithin (n + 49000000)) tall_box (own_slot room) own_near kids (flow_slots tall.box room part) all
+      (All-in_order (IsWithin (n + 49000000)) back (ordered_slots (course_of tall.box.flow) tall.box room (in_order back part)) ordered)
+
+  offset_small : (reach : Span) → ((offset_of tall.box reach).across ≤ 8191) × ((offset_of tall.box reach).down ≤ 8191)
+  offset_small reach =
+      let across = is.box.across.scroll in
+      let down = is.box.down.scroll in
+      elim (cases_Bool tall.box.scrollable) [
+        | inl can ↦ rw can (omega arith, omega arith)
+        | inr cannot ↦ rw cannot (omega arith, omega arith)
+      ]
+
+  moved_near : (offset : Span) → offset.across ≤ 8191 → offset.down ≤ 8191 → (s : Slot) → IsWithin (n + 49000000) s → IsWithin (n + 50000000) (moved offset s)
+  moved_near offset x y s near_s =
+      let l = near_s.left in let r = near_s.right in let t = near_s.top in let b = near_s.bottom in
+      record { left = omega (arith, ints); right = omega (arith, ints); top = omega (arith, ints); bottom = omega (arith, ints) }
+
+  kid_slots_near : (kids : List Tall) → All IsKid kids → length kids ≤ 4000 → All (IsWithin (n + 50000000)) (kid_slots tall slot kids)
+  kid_slots_near kids all few =
+      let offset = offset_of tall.box (kid_reach tall slot kids) in
+      let small = offset_small (kid_reach tall slot kids) in
+      All-each (IsWithin (n + 49000000)) (IsWithin (n + 50000000)) (moved offset) (moved_near offset small.0 small.1) (flat_slots tall slot kids) (flat_slots_near kids all few)
 
 -- Trees.
 abbrev PlacedWithin : ℕ → Placed → Type 0
@@ -229,7 +249,7 @@ slots_near n [] (Tree tall cs rest) near high all few =
     let m = n + 50000000 * height (Tree tall cs rest) in
     let below = slots_near n [] cs near high (all_below IsKid tall cs rest all) (omega arith) in
     let beside = slots_near n [] rest near high (all_beside IsKid tall cs rest all) (omega arith) in
-    all_tree (PlacedWithin m) (record { tall = tall; slot = nowhere }) (with_slots [] cs) (with_slots [] rest) (nowhere_within m)
+    all_tree (PlacedWithin m) (record { tall = tall; slot = nowhere; reach = no_span }) (with_slots [] cs) (with_slots [] rest) (nowhere_within m)
     (all_further (n + 50000000 * height cs) m (with_slots [] cs) (omega arith) below)
     (all_further (n + 50000000 * height rest) m (with_slots [] rest) (omega arith) beside)
 slots_near n (slot ∷ slots) (Tree tall cs rest) near high all few =
@@ -245,7 +265,7 @@ slots_near n (slot ∷ slots) (Tree tall cs rest) near high all few =
     let kids_high = kid_slots_small tall slot (roots cs) here_high (λ k d h. (kids_all k d h).tall) in
     let below = slots_near (n + 50000000) kids cs kids_near kids_high in_cs (omega arith) in
     let beside = slots_near n slots rest (All-tail (IsWithin n) slot slots near) (All-tail HasHeight slot slots high) (all_beside IsKid tall cs rest all) (omega arith) in
-    all_tree (PlacedWithin m) (record { tall = tall; slot = slot }) (with_slots kids cs) (with_slots slots rest) (further n m slot (omega arith) here)
+    all_tree (PlacedWithin m) (record { tall = tall; slot = slot; reach = kid_reach tall slot (roots cs) }) (with_slots kids cs) (with_slots slots rest) (further n m slot (omega arith) here)
     (all_further (n + 50000000 + 50000000 * height cs) m (with_slots kids cs) (omega arith) below)
     (all_further (n + 50000000 * height rest) m (with_slots slots rest) (omega arith) beside)
 

@@ -8,11 +8,11 @@ use Rattle.gui_base.specs.Forest.{Forest, Empty, Tree, roots, map_forest}
 use Rattle.layout_defs.specs.declared.Course.{Course}
 use Rattle.layout_defs.specs.declared.Course.TheVariants.{Free, Across, Down}
 use Rattle.layout_defs.specs.Boxes.{Box, course_of, is_reversed, inner}
-use Rattle.layout_defs.specs.Solving.{Wide, wide_box, Widened, Tall, tall_box, Slot, Placed, with_natural_widths, with_widths, with_natural_heights, with_slots, natural_width, natural_height, kids_width, kids_height, taking_part, in_order, dealt, width_in, width_item, row_widths, kid_widths, kid_widths_by, own_slot, ordered_slots, flow_slots, room_of, Room, kid_slots, row_item, column_item, place_of, widened_box}
+use Rattle.layout_defs.specs.Solving.{Wide, wide_box, Widened, Tall, tall_box, Slot, Placed, with_natural_widths, with_widths, with_natural_heights, with_slots, natural_width, natural_height, kids_width, kids_height, taking_part, in_order, dealt, width_in, width_item, row_widths, kid_widths, kid_widths_by, own_slot, ordered_slots, flow_slots, flat_slots, far_end, end_across, end_down, kid_reach, offset_of, moved, room_of, Room, kid_slots, row_item, column_item, stand_of, widened_box}
 use Rattle.layout_defs.proofs.Boxes.{map-map, boxes_wide, boxes_widened}
 use Rattle.layout_defs.specs.OwnHeights.{but_height, but_height_wide, but_height_widened, but_height_tall, but_height_placed, fixed_at, fixed_widened, fixed_tall, NaturalWidthsAskNone, WidthsAskNone, SlotsAskNone, NaturalHeightsAskAtWidths, fixed_in, PlacesAskAtWidths}
 
-roots-map : {A B : Type 0} (g : A → B) (f : Forest A) → roots (map_forest g f) ≡ map g (roots f)
+pub roots-map : {A B : Type 0} (g : A → B) (f : Forest A) → roots (map_forest g f) ≡ map g (roots f)
 roots-map g Empty = refl
 roots-map g (Tree row cs rest) = rw (roots-map g rest) refl
 
@@ -21,20 +21,20 @@ map-reverse g [] = refl
 map-reverse g (x ∷ xs) =
     ap (map g) (reverse_onto xs x []) ∙ (map-append g (reverse xs) (x ∷ []) ∙ (ap (λ ys. ys ++ g x ∷ []) (map-reverse g xs) ∙ sym (reverse_onto (map g xs) (g x) [])))
 
-in_order-map : {A B : Type 0} (g : A → B) (back : Bool) (xs : List A) → in_order back (map g xs) ≡ map g (in_order back xs)
+pub in_order-map : {A B : Type 0} (g : A → B) (back : Bool) (xs : List A) → in_order back (map g xs) ≡ map g (in_order back xs)
 in_order-map g true xs = sym (map-reverse g xs)
 in_order-map g false xs = refl
 
 -- rows that are as hidden as before
 module _ {A : Type 0} (box : A → Box) (g : A → A) (same : (a : A) → (box (g a)).hidden ≡ (box a).hidden) where
-  taking_part-map : (kids : List A) → taking_part box (map g kids) ≡ map g (taking_part box kids)
+  pub taking_part-map : (kids : List A) → taking_part box (map g kids) ≡ map g (taking_part box kids)
   taking_part-map [] = refl
   taking_part-map (kid ∷ kids) = elim (cases_Bool (box kid).hidden) [
     | inl is ↦ rw (same kid, is) (taking_part-map kids)
     | inr isnt ↦ rw (same kid, isnt, taking_part-map kids) refl
   ]
 
-  dealt-map : {B : Type 0} (own : A → B) → ((a : A) → own (g a) ≡ own a) → (kids : List A) (ys : List B) → dealt box own (map g kids) ys ≡ dealt box own kids ys
+  pub dealt-map : {B : Type 0} (own : A → B) → ((a : A) → own (g a) ≡ own a) → (kids : List A) (ys : List B) → dealt box own (map g kids) ys ≡ dealt box own kids ys
   dealt-map own alike [] ys = refl
   dealt-map own alike (kid ∷ kids) [] = rw (alike kid, dealt-map own alike kids []) refl
   dealt-map own alike (kid ∷ kids) (y ∷ ys) = elim (cases_Bool (box kid).hidden) [
@@ -102,17 +102,33 @@ flow_slots-but box room kids =
     let back = is_reversed box.flow in
     rw (in_order-map but_height_tall back kids, ordered_slots-but (course_of box.flow) box room (in_order back kids)) refl
 
-kid_slots-but : (tall : Tall) (slot : Slot) (kids : List Tall) → kid_slots (but_height_tall tall) slot (map but_height_tall kids) ≡ kid_slots tall slot kids
-kid_slots-but tall slot kids =
+flat_slots-but : (tall : Tall) (slot : Slot) (kids : List Tall) → flat_slots (but_height_tall tall) slot (map but_height_tall kids) ≡ flat_slots tall slot kids
+flat_slots-but tall slot kids =
     let room = room_of tall slot in
     rw (taking_part-map tall_box but_height_tall (λ k. refl) kids, flow_slots-but tall.box room (taking_part tall_box kids))
     (dealt-map tall_box but_height_tall (λ k. refl) (own_slot room) (λ k. refl) kids (flow_slots tall.box room (taking_part tall_box kids)))
+
+far_end-but : (end : Tall → Slot → ℕ) → ((kid : Tall) (slot : Slot) → end (but_height_tall kid) slot ≡ end kid slot) → (kids : List Tall) (slots : List Slot) → far_end end (map but_height_tall kids) slots ≡ far_end end kids slots
+far_end-but end alike [] slots = refl
+far_end-but end alike (kid ∷ kids) [] = refl
+far_end-but end alike (kid ∷ kids) (slot ∷ slots) = rw (far_end-but end alike kids slots, alike kid slot) refl
+
+kid_reach-but : (tall : Tall) (slot : Slot) (kids : List Tall) → kid_reach (but_height_tall tall) slot (map but_height_tall kids) ≡ kid_reach tall slot kids
+kid_reach-but tall slot kids =
+    let room = room_of tall slot in
+    let flat = flat_slots tall slot kids in
+    rw (flat_slots-but tall slot kids, far_end-but (end_across room) (λ kid s. refl) kids flat, far_end-but (end_down room) (λ kid s. refl) kids flat) refl
+
+kid_slots-but : (tall : Tall) (slot : Slot) (kids : List Tall) → kid_slots (but_height_tall tall) slot (map but_height_tall kids) ≡ kid_slots tall slot kids
+kid_slots-but tall slot kids =
+    ap (λ reach. map (moved (offset_of tall.box reach)) (flat_slots (but_height_tall tall) slot (map but_height_tall kids))) (kid_reach-but tall slot kids)
+    ∙ ap (map (moved (offset_of tall.box (kid_reach tall slot kids)))) (flat_slots-but tall slot kids)
 
 pub slots_ask_none : SlotsAskNone
 slots_ask_none slots Empty = refl
 slots_ask_none [] (Tree tall cs rest) = rw (slots_ask_none [] cs, slots_ask_none [] rest) refl
 slots_ask_none (slot ∷ slots) (Tree tall cs rest) =
-    rw (roots-map but_height_tall cs, kid_slots-but tall slot (roots cs), slots_ask_none (kid_slots tall slot (roots cs)) cs, slots_ask_none slots rest) refl
+    rw (roots-map but_height_tall cs, kid_reach-but tall slot (roots cs), kid_slots-but tall slot (roots cs), slots_ask_none (kid_slots tall slot (roots cs)) cs, slots_ask_none slots rest) refl
 
 -- All four.
 -- rows with the same boxes that are the same but for their own heights
@@ -175,18 +191,18 @@ module _ (height : ℕ) where
   abbrev placed : Forest Tall → Forest Placed
   placed tall = with_slots (map corner (roots tall)) tall
 
-  placed-but : (tall : Forest Tall) → map_forest place_of (placed tall) ≡ map_forest place_of (placed (map_forest but_height_tall tall))
+  placed-but : (tall : Forest Tall) → map_forest stand_of (placed tall) ≡ map_forest stand_of (placed (map_forest but_height_tall tall))
   placed-but tall =
-      map-map place_of but_height_placed (placed tall)
-      ∙ ap (map_forest place_of)
+      map-map stand_of but_height_placed (placed tall)
+      ∙ ap (map_forest stand_of)
       (sym (slots_ask_none (map corner (roots tall)) tall)
       ∙ ap (λ slots. with_slots slots (map_forest but_height_tall tall)) (sym (ap (map corner) (roots-map but_height_tall tall) ∙ list-map-map corner but_height_tall (roots tall))))
 
-  same_places : (f g : Forest Tall) → map_forest but_height_tall f ≡ map_forest but_height_tall g → map_forest place_of (placed f) ≡ map_forest place_of (placed g)
-  same_places f g same = placed-but f ∙ (ap (λ tall. map_forest place_of (placed tall)) same ∙ sym (placed-but g))
+  same_places : (f g : Forest Tall) → map_forest but_height_tall f ≡ map_forest but_height_tall g → map_forest stand_of (placed f) ≡ map_forest stand_of (placed g)
+  same_places f g same = placed-but f ∙ (ap (λ tall. map_forest stand_of (placed tall)) same ∙ sym (placed-but g))
 
 pub places_ask_at_widths : PlacesAskAtWidths
 places_ask_at_widths width height f =
     let tall = with_natural_heights (widened_of width f) in
     let fixed : with_natural_heights (widened_of width (fixed_in width f)) ≡ map_forest fixed_tall tall = ap with_natural_heights (fixed_are width f) ∙ natural_heights_ask_at_widths (widened_of width f) in
-    ap (λ t. map_forest place_of (placed height t)) fixed ∙ same_places height (map_forest fixed_tall tall) tall (sym (map-map but_height_tall fixed_tall tall))
+    ap (λ t. map_forest stand_of (placed height t)) fixed ∙ same_places height (map_forest fixed_tall tall) tall (sym (map-map but_height_tall fixed_tall tall))

@@ -9,7 +9,7 @@ use Rattle.layout_defs.specs.declared.Course.{Course}
 use Rattle.layout_defs.specs.declared.Course.TheVariants.{Free, Across, Down}
 use Rattle.layout_defs.specs.Flex.{Item, shared, spots}
 use Rattle.layout_defs.specs.Boxes.{Box, course_of, wraps, is_reversed, inset, inner, size_in}
-use Rattle.layout_defs.specs.Solving.{Wide, wide_box, Widened, Tall, tall_box, Slot, Room, with_natural_widths, with_widths, with_natural_heights, with_slots, natural_size, natural_width, natural_height, kids_width, kids_height, taking_part, in_order, width_in, width_item, main_sizes, row_widths, kid_widths, kid_widths_by, own_slot, row_item, column_item, row_slot, column_slot, ordered_slots, flow_slots, room_of, kid_slots, nowhere}
+use Rattle.layout_defs.specs.Solving.{Wide, wide_box, Widened, Tall, tall_box, Slot, Room, with_natural_widths, with_widths, with_natural_heights, with_slots, natural_size, natural_width, natural_height, kids_width, kids_height, taking_part, in_order, width_in, width_item, main_sizes, row_widths, kid_widths, kid_widths_by, own_slot, row_item, column_item, row_slot, column_slot, ordered_slots, flow_slots, flat_slots, room_of, kid_slots, kid_reach, offset_of, moved, nowhere, no_span}
 use Rattle.layout_defs.specs.Reach.{NaturalWidthsAreSizes, HasSizes, SolvedAreSizes}
 use Rattle.layout_defs.proofs.Everywhere.{all_tree, all_top, all_below, all_beside, all_roots, All-in_order, All-taking_part, All-each, All-dealt, All-paired}
 use Rattle.layout_defs.proofs.Boxes.{talls}
@@ -113,8 +113,8 @@ ordered_small Down box room kids small all =
     All-paired IsItem Any HasHeight (column_slot room) (λ item spot is _. is.main) items at
     (All-shared (wraps box.flow) room.height box.down.gap (map (column_item room.height) kids) (column_items room.height kids all) small) (all_any at)
 
-pub kid_slots_small : (tall : Tall) (slot : Slot) (kids : List Tall) → slot.height ≤ 8191 → All IsTall kids → All HasHeight (kid_slots tall slot kids)
-kid_slots_small tall slot kids small all =
+flat_slots_small : (tall : Tall) (slot : Slot) (kids : List Tall) → slot.height ≤ 8191 → All IsTall kids → All HasHeight (flat_slots tall slot kids)
+flat_slots_small tall slot kids small all =
     let room = room_of tall slot in
     let back = is_reversed tall.box.flow in
     let part = taking_part tall_box kids in
@@ -123,11 +123,15 @@ kid_slots_small tall slot kids small all =
     (All-in_order HasHeight back (ordered_slots (course_of tall.box.flow) tall.box room (in_order back part))
     (ordered_small (course_of tall.box.flow) tall.box room (in_order back part) (omega arith) (All-in_order IsTall back part taking)))
 
+pub kid_slots_small : (tall : Tall) (slot : Slot) (kids : List Tall) → slot.height ≤ 8191 → All IsTall kids → All HasHeight (kid_slots tall slot kids)
+kid_slots_small tall slot kids small all =
+    All-each HasHeight HasHeight (moved (offset_of tall.box (kid_reach tall slot kids))) (λ s is. is) (flat_slots tall slot kids) (flat_slots_small tall slot kids small all)
+
 slots_small : (slots : List Slot) (f : Forest Tall) → All HasHeight slots → All IsTall (preorder f) → All HasSizes (preorder (with_slots slots f))
 slots_small slots Empty small all = All-nil HasSizes
 slots_small [] (Tree tall cs rest) small all =
     let is = all_top IsTall tall cs rest all in
-    all_tree HasSizes (record { tall = tall; slot = nowhere }) (with_slots [] cs) (with_slots [] rest)
+    all_tree HasSizes (record { tall = tall; slot = nowhere; reach = no_span }) (with_slots [] cs) (with_slots [] rest)
     (record { width = is.width; natural_height = is.natural; height = omega arith })
     (slots_small [] cs small (all_below IsTall tall cs rest all)) (slots_small [] rest small (all_beside IsTall tall cs rest all))
 slots_small (slot ∷ slots) (Tree tall cs rest) small all =
@@ -135,7 +139,7 @@ slots_small (slot ∷ slots) (Tree tall cs rest) small all =
     let below = all_below IsTall tall cs rest all in
     let kids = kid_slots tall slot (roots cs) in
     let here = All-head HasHeight slot slots small in
-    all_tree HasSizes (record { tall = tall; slot = slot }) (with_slots kids cs) (with_slots slots rest)
+    all_tree HasSizes (record { tall = tall; slot = slot; reach = kid_reach tall slot (roots cs) }) (with_slots kids cs) (with_slots slots rest)
     (record { width = is.width; natural_height = is.natural; height = here })
     (slots_small kids cs (kid_slots_small tall slot (roots cs) here (all_roots IsTall cs below)) below)
     (slots_small slots rest (All-tail HasHeight slot slots small) (all_beside IsTall tall cs rest all))

@@ -26,6 +26,8 @@ pub record Axis : Type 0 where
   pub after : ℕ
   -- the gap between its children
   pub gap : ℕ
+  -- how far its children are to be scrolled, where it is scrollable
+  pub scroll : ℕ
 
 pub record Box : Type 0 where
   pub handle : ℕ
@@ -35,6 +37,7 @@ pub record Box : Type 0 where
   pub flow : Flow
   pub places : Placings
   pub grow : ℕ
+  pub scrollable : Bool
   -- the own width of what it shows, and the own height where its content area is so wide
   pub own_width : ℕ
   pub own_height : ℕ → ℕ

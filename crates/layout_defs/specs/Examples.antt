@@ -1,5 +1,5 @@
 -- Places that were worked out by hand.
-use Rattle.std.specs.Prelude.{◌≡◌, ℕ, true, false, List, [], ◌∷◌, map, pos}
+use Rattle.std.specs.Prelude.{◌≡◌, ℕ, true, false, List, [], ◌∷◌, map, pos, negsuc}
 use Rattle.gui_base.specs.Area.{Rect}
 use Rattle.gui_base.specs.Forest.{Forest, Empty, Tree, preorder}
 use Rattle.gui_base.specs.declared.words.Placing.{Placing}
@@ -7,15 +7,15 @@ use Rattle.gui_base.specs.declared.words.Placing.TheVariants.{Start, SpaceBetwee
 use Rattle.gui_base.specs.declared.words.Length.{Length}
 use Rattle.gui_base.specs.declared.words.Length.TheVariants.{Pixels, Percent, Content}
 use Rattle.gui_base.specs.declared.words.Flow.{Flow}
-use Rattle.gui_base.specs.declared.words.Flow.TheVariants.{Free, Row, RowWrapReverse}
+use Rattle.gui_base.specs.declared.words.Flow.TheVariants.{Free, Row, Column, RowWrapReverse}
 use Rattle.layout_defs.specs.declared.Side.TheVariants.{Near}
 use Rattle.layout_defs.specs.Flex.{Placings}
 use Rattle.layout_defs.specs.Boxes.{Axis, Box}
-use Rattle.layout_defs.specs.Solving.{place_of, solved}
+use Rattle.layout_defs.specs.Solving.{Placed, Span, place_of, offset_at, solved}
 
 abbrev axis : Length → ℕ → Axis
 axis size border =
-    record { size = size; side = Near; wanted = pos 0; before = border; after = border; gap = 0 }
+    record { size = size; side = Near; wanted = pos 0; before = border; after = border; gap = 0; scroll = 0 }
 
 abbrev placed_by : Placing → Placings
 placed_by placing = record { main = placing; cross = Start; track = Start }
@@ -30,6 +30,7 @@ box h width height flow border = record {
   flow = flow;
   places = placed_by Start;
   grow = 0;
+  scrollable = false;
   own_width = 0;
   own_height = λ _. 0;
 }
@@ -60,6 +61,39 @@ area x1 y1 x2 y2 = record { x1 = pos x1; y1 = pos y1; x2 = pos x2; y2 = pos y2 }
 -- where the objects stand on a panel of these sizes, each before its children
 abbrev pub places : ℕ → ℕ → Forest Box → List Rect
 places width height f = map place_of (preorder (solved width height f))
+
+-- how far each of them reaches and is moved
+abbrev pub reaches : ℕ → ℕ → Forest Box → List Span
+reaches width height f = map (λ (p : Placed). p.reach) (preorder (solved width height f))
+
+abbrev pub offsets : ℕ → ℕ → Forest Box → List Span
+offsets width height f = map offset_at (preorder (solved width height f))
+
+abbrev span : ℕ → ℕ → Span
+span across down = record { across = across; down = down }
+
+-- an object that is to be scrolled so far
+abbrev scrolled : ℕ → ℕ → Box → Box
+scrolled across down b = record b {
+  scrollable = true;
+  across = record b.across { scroll = across };
+  down = record b.down { scroll = down };
+}
+
+-- a child that is three times as high as its parent
+abbrev high_child : ℕ → Forest Box
+high_child down = screen Free Start (Tree (scrolled 0 down (pixels 10 20 20)) (leaves (pixels 11 10 60 ∷ [])) Empty)
+
+abbrev fixed : ℕ → Forest Box
+fixed down =
+    let b = record (scrolled 0 down (pixels 10 20 20)) { scrollable = false } in
+    screen Free Start (Tree b (leaves (pixels 11 10 60 ∷ [])) Empty)
+
+-- a column in borders, of which a hidden one is left out; the last is wider than all
+abbrev in_column : Forest Box
+in_column =
+    let kids = leaves (pixels 11 4 9 ∷ hidden (pixels 12 50 50) ∷ pixels 13 30 9 ∷ []) in
+    screen Free Start (Tree (scrolled 5 100 (box 10 (Pixels 20) (Pixels 14) Column 2)) kids Empty)
 
 abbrev row_of_two : Forest Box
 row_of_two =
@@ -100,3 +134,18 @@ pub record PlacesAreWorked : Type 0 where
   pub wrapped_from_the_last :
       places 10 9 three_and_one_hidden
       ≡ area 0 0 9 8 ∷ area 0 3 3 4 ∷ area 0 0 4 4 ∷ area 4 0 7 2 ∷ area 0 0 3 0 ∷ []
+  -- what is to be scrolled too far is scrolled as far as it reaches
+  pub reach_of_high : reaches 20 20 (high_child 100) ≡ span 0 0 ∷ span 0 40 ∷ span 0 0 ∷ []
+  pub scrolled_whole :
+      places 20 20 (high_child 100)
+      ≡ area 0 0 19 19 ∷ area 0 0 19 19 ∷ record { x1 = pos 0; y1 = negsuc 39; x2 = pos 9; y2 = pos 19 } ∷ []
+  -- what is not to be scrolled stands flat, and reaches as far, scrollable or not
+  pub flat : places 20 20 (high_child 0) ≡ area 0 0 19 19 ∷ area 0 0 19 19 ∷ area 0 0 9 59 ∷ []
+  pub reach_of_flat : reaches 20 20 (high_child 0) ≡ span 0 0 ∷ span 0 40 ∷ span 0 0 ∷ []
+  pub not_scrollable : places 20 20 (fixed 100) ≡ places 20 20 (high_child 0)
+  pub reach_of_fixed : reaches 20 20 (fixed 100) ≡ reaches 20 20 (high_child 0)
+  -- a flow is moved with all that is hidden in it, which counts for no reach
+  pub reach_of_column : reaches 20 20 in_column ≡ span 0 0 ∷ span 14 8 ∷ span 0 0 ∷ span 0 0 ∷ span 0 0 ∷ []
+  pub offset_of_column : offsets 20 20 in_column ≡ span 0 0 ∷ span 5 8 ∷ span 0 0 ∷ span 0 0 ∷ span 0 0 ∷ []
+  pub column_moved :
+      map (λ (a : Rect). a.x1) (places 20 20 in_column) ≡ pos 0 ∷ pos 0 ∷ negsuc 2 ∷ negsuc 2 ∷ negsuc 2 ∷ []

@@ -6,6 +6,7 @@ pub mod Laws
 pub mod MadeTrees
 pub mod OwnHeights
 pub mod Reach
+pub mod Scrolling
 pub mod Sizes
 pub mod Solving
 pub mod Tables

@@ -25,7 +25,7 @@ by main cross track = record { main = main; cross = cross; track = track }
 
 abbrev axis : Length → Side → ℤ → ℕ → ℕ → ℕ → Axis
 axis size side wanted before after gap =
-    record { size = size; side = side; wanted = wanted; before = before; after = after; gap = gap }
+    record { size = size; side = side; wanted = wanted; before = before; after = after; gap = gap; scroll = 0 }
 
 -- an object; the last numbers are its weight, its border and pads on the left, the right, the top and the
 -- bottom, and its gaps across and down
@@ -39,6 +39,7 @@ object h hidden width height align x y flow places grow left right top bottom co
   flow = flow;
   places = places;
   grow = grow;
+  scrollable = false;
   own_width = 0;
   own_height = λ _. 0;
 }

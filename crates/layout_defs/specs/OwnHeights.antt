@@ -2,7 +2,7 @@
 use Rattle.std.specs.Prelude.{◌≡◌, ℕ, List, map}
 use Rattle.gui_base.specs.Forest.{Forest, map_forest, roots}
 use Rattle.layout_defs.specs.Boxes.{Box, inner}
-use Rattle.layout_defs.specs.Solving.{Wide, Widened, Tall, Slot, Placed, place_of, solved}
+use Rattle.layout_defs.specs.Solving.{Wide, Widened, Tall, Slot, Placed, stand_of, solved}
 use Rattle.layout_defs.specs.Solving.{with_natural_widths, with_widths, with_natural_heights, with_slots}
 
 -- a box but for its own height
@@ -60,8 +60,8 @@ fixed_in width f =
     let wide = with_natural_widths f in
     map_forest (λ (w : Widened). fixed_at w.width w.box) (with_widths (map (λ _. width) (roots wide)) wide)
 
--- so all stand where they do with those
+-- so all stand where they do with those, and reach as far
 abbrev pub PlacesAskAtWidths : Type 0
 PlacesAskAtWidths =
     (width height : ℕ) (f : Forest Box) →
-    map_forest place_of (solved width height (fixed_in width f)) ≡ map_forest place_of (solved width height f)
+    map_forest stand_of (solved width height (fixed_in width f)) ≡ map_forest stand_of (solved width height f)

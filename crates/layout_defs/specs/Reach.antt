@@ -28,6 +28,7 @@ pub record IsAxis (axis : Axis) : Type 0 where
   pub wanted_most : axis.wanted ≤ℤ pos 4000
   pub before : axis.before ≤ 1100
   pub gap : axis.gap ≤ 1000
+  pub scroll : axis.scroll ≤ 8191
 
 pub record IsBox (box : Box) : Type 0 where
   pub across : IsAxis box.across

@@ -1,6 +1,6 @@
--- Where the boxes of a forest stand: natural widths upward, widths downward, natural heights upward, heights
--- and places downward.
-use Rattle.std.specs.Prelude.{ℕ, ◌+◌, ◌/◌, max, Bool, ◌==◌, if◌then◌else◌, List, [], ◌∷◌, map, reverse}
+-- Where the boxes of a forest stand: natural widths upward, widths downward, natural heights upward, heights,
+-- flat places, offsets and places downward.
+use Rattle.std.specs.Prelude.{ℕ, ◌+◌, ◌-◌, ◌/◌, max, min, Bool, ◌==◌, if◌then◌else◌, List, [], ◌∷◌, map, reverse}
 use Rattle.std.specs.Prelude.{ℤ, pos, negsuc, ◌+ℤ◌, ◌-ℤ◌}
 use Rattle.gui_base.specs.Area.{Rect, area_at, nat_of}
 use Rattle.gui_base.specs.Forest.{Forest, Empty, Tree, roots}
@@ -156,10 +156,6 @@ pub record Slot : Type 0 where
   pub y : ℤ
   pub height : ℕ
 
-pub record Placed : Type 0 where
-  pub tall : Tall
-  pub slot : Slot
-
 -- half of a number, rounded down
 abbrev pub half : ℤ → ℤ
 half (pos n) = pos (n / 2)
@@ -243,27 +239,94 @@ flow_slots box room kids =
     let back = is_reversed box.flow in
     in_order back (ordered_slots (course_of box.flow) box room (in_order back kids))
 
--- the slots of the children of an object in its slot
-abbrev pub kid_slots : Tall → Slot → List Tall → List Slot
-kid_slots tall slot kids =
+-- the flat slots of the children of an object in its slot: where they stand while nothing is scrolled
+abbrev pub flat_slots : Tall → Slot → List Tall → List Slot
+flat_slots tall slot kids =
     let room = room_of tall slot in
     dealt tall_box (own_slot room) kids (flow_slots tall.box room (taking_part tall_box kids))
 
+-- so many pixels across and down
+pub record Span : Type 0 where
+  pub across : ℕ
+  pub down : ℕ
+
+abbrev pub no_span : Span
+no_span = record { across = 0; down = 0 }
+
+-- the right and the bottom end of a child in its slot, counted from a content area's corner
+abbrev pub end_across : Room → Tall → Slot → ℕ
+end_across room kid slot = nat_of ((slot.x +ℤ pos kid.width) -ℤ room.x)
+
+abbrev pub end_down : Room → Tall → Slot → ℕ
+end_down room kid slot = nat_of ((slot.y +ℤ pos slot.height) -ℤ room.y)
+
+-- the greatest end of the children that are not hidden
+abbrev pub far_end : (Tall → Slot → ℕ) → List Tall → List Slot → ℕ
+far_end end [] slots = 0
+far_end end (kid ∷ kids) [] = 0
+far_end end (kid ∷ kids) (slot ∷ slots) =
+    if kid.box.hidden then far_end end kids slots else max (end kid slot) (far_end end kids slots)
+
+-- how far children in flat slots reach out of a content area, to the right and to the bottom
+abbrev pub reach_in : Room → List Tall → List Slot → Span
+reach_in room kids slots = record {
+  across = far_end (end_across room) kids slots - room.width;
+  down = far_end (end_down room) kids slots - room.height;
+}
+
+-- the reach of an object in its slot
+abbrev pub kid_reach : Tall → Slot → List Tall → Span
+kid_reach tall slot kids = reach_in (room_of tall slot) kids (flat_slots tall slot kids)
+
+-- how far an object with this reach moves its children, to the left and upward
+abbrev pub offset_of : Box → Span → Span
+offset_of box reach =
+    if box.scrollable then
+    record { across = min box.across.scroll reach.across; down = min box.down.scroll reach.down }
+    else no_span
+
+abbrev pub moved : Span → Slot → Slot
+moved offset slot =
+    record slot { x = slot.x -ℤ pos offset.across; y = slot.y -ℤ pos offset.down }
+
+-- the slots of the children of an object in its slot
+abbrev pub kid_slots : Tall → Slot → List Tall → List Slot
+kid_slots tall slot kids =
+    map (moved (offset_of tall.box (kid_reach tall slot kids))) (flat_slots tall slot kids)
+
 abbrev pub nowhere : Slot
 nowhere = record { x = pos 0; y = pos 0; height = 0 }
+
+pub record Placed : Type 0 where
+  pub tall : Tall
+  pub slot : Slot
+  pub reach : Span
 
 -- the trees, whose roots get these slots
 abbrev pub with_slots : List Slot → Forest Tall → Forest Placed
 with_slots slots Empty = Empty
 with_slots [] (Tree tall cs rest) =
-    Tree (record { tall = tall; slot = nowhere }) (with_slots [] cs) (with_slots [] rest)
+    Tree (record { tall = tall; slot = nowhere; reach = no_span }) (with_slots [] cs) (with_slots [] rest)
 with_slots (slot ∷ slots) (Tree tall cs rest) =
-    Tree (record { tall = tall; slot = slot }) (with_slots (kid_slots tall slot (roots cs)) cs)
-    (with_slots slots rest)
+    Tree (record { tall = tall; slot = slot; reach = kid_reach tall slot (roots cs) })
+    (with_slots (kid_slots tall slot (roots cs)) cs) (with_slots slots rest)
+
+-- its offset
+abbrev pub offset_at : Placed → Span
+offset_at p = offset_of p.tall.box p.reach
 
 -- where an object stands
 abbrev pub place_of : Placed → Rect
 place_of p = area_at p.slot.x p.slot.y p.tall.width p.slot.height
+
+-- what is found of an object: its place, its reach and its offset
+pub record Stand : Type 0 where
+  pub place : Rect
+  pub reach : Span
+  pub offset : Span
+
+abbrev pub stand_of : Placed → Stand
+stand_of p = record { place = place_of p; reach = p.reach; offset = offset_at p }
 
 -- All four: the roots fill a panel of these sizes.
 abbrev pub solved : ℕ → ℕ → Forest Box → Forest Placed

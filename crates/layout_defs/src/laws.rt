@@ -9,6 +9,7 @@ ghost use Rattle.layout_defs.specs.Laws.{SolvedKeepsBoxes, SolvedApart, SolvedBy
 ghost use Rattle.layout_defs.specs.MadeTrees.{MadeTreesAreSolved};
 ghost use Rattle.layout_defs.specs.OwnHeights.{NaturalWidthsAskNone, WidthsAskNone, SlotsAskNone};
 ghost use Rattle.layout_defs.specs.OwnHeights.{NaturalHeightsAskAtWidths, PlacesAskAtWidths};
+ghost use Rattle.layout_defs.specs.Scrolling.{StillStandsFlat, MovedAsTheirRoom, ReachesAnywhere, SizesAskNoScroll};
 ghost use Rattle.layout_defs.specs.Reach.{NaturalWidthsAreSizes, SolvedAreSizes, PlacesAreNear};
 
 /// Each item of a container stands in exactly one track, and keeps its order. No track is empty, and without
@@ -53,6 +54,16 @@ pub fn solved_sizes_are_small()
 /// Each number of a place lies within 1,000,000,000 pixels of the panel's corner.
 pub fn places_are_near()
     ensures { PlacesAreNear }
+{}
+
+/// The children of an object that is not to be scrolled stand flat. Those of another stand as in a content area
+/// that is moved. How far they reach does not go by where their parent stands, and no size goes by how far an
+/// object is to be scrolled.
+pub fn scrolled_children()
+    ensures flat { StillStandsFlat }
+    ensures moved { MovedAsTheirRoom }
+    ensures reach { ReachesAnywhere }
+    ensures sizes { SizesAskNoScroll }
 {}
 
 /// Trees are solved one by one: what lies at a root and below it comes from its tree alone.

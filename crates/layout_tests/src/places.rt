@@ -195,3 +195,41 @@ fn with_no_marks_all_places_stay(rt: HostRuntime) -> Result<(), Fail> {
     assert!(rt; places.place(Handle(13)).is_none());
     Ok(())
 }
+
+/// Whether the children of an object reach so far, and are moved so far.
+fn scrolls(places: &Places, h: u16, reach: (u32, u32), offset: (u32, u32)) -> bool {
+    places.reach(Handle(h)) == Some(reach) && places.offset(Handle(h)) == Some(offset)
+}
+
+const SCROLLED: [Change; 11] = [
+    Change::New(Handle(10), SCREEN, Kind::Obj),
+    Change::Size(Handle(10), Length::Pixels(20), Length::Pixels(20)),
+    Change::Flag(Handle(10), Flag::Scrollable, true),
+    Change::Scroll(Handle(10), 7, 15),
+    Change::New(Handle(11), Handle(10), Kind::Obj),
+    Change::Size(Handle(11), Length::Pixels(10), Length::Pixels(60)),
+    Change::New(Handle(12), Handle(11), Kind::Obj),
+    Change::Size(Handle(12), Length::Pixels(30), Length::Pixels(4)),
+    Change::New(Handle(13), Handle(10), Kind::Obj),
+    Change::Size(Handle(13), Length::Pixels(8), Length::Pixels(4)),
+    Change::Pos(Handle(13), 15, -6),
+];
+
+#[test]
+fn a_scrolled_parent_moves_its_children(rt: HostRuntime) -> Result<(), Fail> {
+    let store = changed(rt.alloc(), &Limits::with_sizes(20, 20, 8), &SCROLLED)?;
+    let places = solved(rt.alloc(), &store)?;
+    let wanted = [
+        (10, [0, 0, 19, 19]),
+        (11, [-3, -15, 6, 44]),
+        (12, [-3, -15, 26, -12]),
+        (13, [12, -21, 19, -18]),
+    ];
+    assert!(rt; stand(&places, &wanted));
+    assert!(rt; scrolls(&places, 10, (3, 40), (3, 15)));
+    // what is not scrollable reaches too, and moves nothing
+    assert!(rt; scrolls(&places, 11, (20, 0), (0, 0)));
+    assert!(rt; scrolls(&places, 12, (0, 0), (0, 0)));
+    assert!(rt; places.reach(Handle(99)).is_none() && places.offset(Handle(99)).is_none());
+    Ok(())
+}

@@ -75,6 +75,7 @@ goes o ids (change.Local a0 a1 a2 a3) r i d = record { new = refl; all = i }
 goes o ids (change.Align a0 a1 a2 a3) r i d = record { new = refl; all = i }
 goes o ids (change.Flex a0 a1) r i d = record { new = refl; all = i }
 goes o ids (change.Places a0 a1 a2 a3) r i d = record { new = refl; all = i }
+goes o ids (change.Scroll a0 a1 a2) r i d = record { new = refl; all = i }
 goes o ids (change.Grow a0 a1) r i d = record { new = refl; all = i }
 goes o ids (change.State a0 a1 a2) r i d = record { new = refl; all = i }
 goes o ids (change.Value a0 a1) r i d = record { new = refl; all = i }

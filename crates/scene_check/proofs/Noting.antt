@@ -45,6 +45,7 @@ quiet ids h kind (change.New n p other) e = cc
 quiet ids h kind (change.Align a0 a1 a2 a3) e = cc
 quiet ids h kind (change.Flex a0 a1) e = cc
 quiet ids h kind (change.Places a0 a1 a2 a3) e = cc
+quiet ids h kind (change.Scroll a0 a1 a2) e = cc
 quiet ids h kind (change.Grow a0 a1) e = cc
 quiet ids h kind (change.State a0 a1 a2) e = cc
 quiet ids h kind (change.Value a0 a1) e = cc

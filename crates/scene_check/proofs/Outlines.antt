@@ -137,6 +137,7 @@ steps scene (change.Local h selector prop value) r t = local_steps scene h selec
 steps scene (change.Align h align x y) r t = cc
 steps scene (change.Flex h flow) r t = cc
 steps scene (change.Places h main cross track) r t = cc
+steps scene (change.Scroll h x y) r t = cc
 steps scene (change.Grow h n) r t = cc
 steps scene (change.State h s on) r t = cc
 steps scene (change.Value h n) r t = cc

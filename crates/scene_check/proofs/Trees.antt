@@ -74,6 +74,7 @@ kept_once o (change.Local g selector prop value) k h e = record { there = e; dep
 kept_once o (change.Align g align x y) k is e = cc
 kept_once o (change.Flex g flow) k is e = cc
 kept_once o (change.Places g main cross track) k is e = cc
+kept_once o (change.Scroll g x y) k is e = cc
 kept_once o (change.Grow g n) k is e = cc
 kept_once o (change.State g s on) k is e = cc
 kept_once o (change.Value g n) k is e = cc
@@ -134,6 +135,7 @@ owned o h kind (change.New n p other) k t e = cc
 owned o h kind (change.Align a0 a1 a2 a3) k t e = cc
 owned o h kind (change.Flex a0 a1) k t e = cc
 owned o h kind (change.Places a0 a1 a2 a3) k t e = cc
+owned o h kind (change.Scroll a0 a1 a2) k t e = cc
 owned o h kind (change.Grow a0 a1) k t e = cc
 owned o h kind (change.State a0 a1 a2) k t e = cc
 owned o h kind (change.Value a0 a1) k t e = cc

@@ -6,8 +6,8 @@ use Rattle.std.proofs.lemmas.Bool.Decides.{nat_tests}
 use Rattle.std.proofs.lemmas.Int.{ints}
 use Rattle.scene_defs.specs.declared.Change.{Change}
 use Rattle.scene_defs.specs.declared.Change.TheVariants as change
-use Rattle.gui_base.specs.Intervals.{is_counted}
-use Rattle.gui_base.specs.declared.intervals.TheConstants.{GROW}
+use Rattle.gui_base.specs.Intervals.{is_counted, is_within}
+use Rattle.gui_base.specs.declared.intervals.TheConstants.{GROW, SCROLL}
 use Rattle.scene_defs.specs.Deeds.{row_after, is_in_range}
 use Rattle.scene_defs.specs.Row.{is_cross, is_ranged, brought_in}
 use Rattle.scene_defs.specs.declared.Row.{Row}
@@ -21,6 +21,8 @@ pub record Numbers (row : Row) : Type 0 where
   pub height : IsSize row.height
   pub cross : is_cross row.places.1 ≡ true
   pub grow : is_counted GROW row.grow ≡ true
+  pub scroll_x : is_within SCROLL row.scroll_x ≡ true
+  pub scroll_y : is_within SCROLL row.scroll_y ≡ true
   pub ranged : is_ranged row ≡ true
 
 pub numbers_of : (row : Row) → IsRow row → Numbers row

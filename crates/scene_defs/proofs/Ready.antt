@@ -6,6 +6,8 @@ use Rattle.std.proofs.lemmas.Bool.{cases_lt}
 use Rattle.std.proofs.lemmas.Bool.Decides.{nat_tests}
 use Rattle.std.proofs.lemmas.List.{get_or_past}
 use Rattle.std.proofs.lemmas.List.Elements.{All-nil, All-map, All-set, All-weaker, All-get_or}
+use Rattle.gui_base.specs.declared.words.Part.{Part}
+use Rattle.gui_base.specs.declared.words.Part.TheVariants.{Scrollbar}
 use Rattle.gui_base.specs.Area.{nat_of}
 use Rattle.gui_base.specs.Props.{default_of}
 use Rattle.gui_base.specs.declared.props.Prop.{Prop}
@@ -14,7 +16,7 @@ use Rattle.gui_base.specs.declared.words.Kind.{Kind}
 use Rattle.style_defs.specs.Book.{Book, empty_book, locals_of, is_for, forgotten, all_forgotten, a_setting, an_entry}
 use Rattle.style_defs.specs.Cascade.{Style, sets, selector_of}
 use Rattle.style_defs.specs.Firsts.{put_by, drop_by}
-use Rattle.style_defs.specs.Kinds.{entry_in, kind_rows}
+use Rattle.style_defs.specs.Kinds.{entry_in, kind_rows, part_rows}
 use Rattle.style_defs.specs.Value.{Styled}
 use Rattle.style_defs.specs.declared.Entry.{Entry}
 use Rattle.style_defs.specs.declared.Setting.{Setting}
@@ -107,8 +109,12 @@ ready_default : (fonts : List Font) (prop : Prop) → is_ready fonts prop (defau
 ready_default fonts TextFont = refl
 ready_default fonts prop = refl
 
-ready_kind : (fonts : List Font) (kind : Kind) → All (λ (e : Entry). is_ready fonts e.prop e.value ≡ true) (map entry_in (kind_rows kind))
-ready_kind fonts kind = search rules
+ready_rows : (fonts : List Font) (kind : Kind) → All (λ (e : Entry). is_ready fonts e.prop e.value ≡ true) (map entry_in (kind_rows kind))
+ready_rows fonts kind = search rules
+
+ready_kind : (fonts : List Font) (kind : Kind) (part : Part) → All (λ (e : Entry). is_ready fonts e.prop e.value ≡ true) (map entry_in (part_rows kind part))
+ready_kind fonts kind Scrollbar = search rules
+ready_kind fonts kind part = ready_rows fonts kind
 
 pub fonts_of_texts : FontsOfTextsAreFinished
 fonts_of_texts scene h part valid =

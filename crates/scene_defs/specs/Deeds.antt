@@ -7,7 +7,7 @@ use Rattle.gui_base.specs.Bits.{with_bit, flag_bit, state_bit}
 use Rattle.gui_base.specs.Intervals.{is_counted, is_within}
 use Rattle.gui_base.specs.Props.{is_value}
 use Rattle.gui_base.specs.declared.Handle.{Handle}
-use Rattle.gui_base.specs.declared.intervals.TheConstants.{HANDLE, NEW_HANDLE, INDEX, COORDINATE, GROW, VALUE}
+use Rattle.gui_base.specs.declared.intervals.TheConstants.{HANDLE, NEW_HANDLE, INDEX, COORDINATE, GROW, SCROLL, VALUE}
 use Rattle.gui_base.specs.declared.intervals.TheConstants.{STYLE, FONT, FONT_HEIGHT, ADVANCE, CODE}
 use Rattle.gui_base.specs.declared.intervals.TheConstants.{IMAGE, IMAGE_SIDE, IMAGE_ROW}
 use Rattle.gui_base.specs.declared.words.Kind.{Kind}
@@ -45,6 +45,9 @@ deed_of (change.Align h align x y) =
     (λ row. record row { align = align; x = x; y = y }))
 deed_of (change.Size h width height) =
     SetsRow (of_child h (is_size width && is_size height) (λ row. record row { width = width; height = height }))
+deed_of (change.Scroll h x y) =
+    SetsRow (of_any h (is_within SCROLL x && is_within SCROLL y)
+    (λ row. record row { scroll_x = x; scroll_y = y }))
 deed_of (change.Flex h flow) = SetsRow (of_any h true (λ row. record row { flow = flow }))
 deed_of (change.Places h main cross track) =
     SetsRow (of_any h (is_cross cross) (λ row. record row { places = (main, cross, track) }))

@@ -3,11 +3,13 @@ use Rattle.std.specs.Prelude.{ℕ, List, Some, None, option_map}
 use Rattle.std.specs.Str.{chars}
 use Rattle.std.specs.declared.option.Option.{Option}
 use Rattle.gui_base.specs.declared.props.Prop.TheVariants.{TextFont}
-use Rattle.gui_base.specs.declared.words.Part.TheVariants.{Main, Indicator, Knob}
+use Rattle.gui_base.specs.declared.words.Flag.TheVariants.{Scrollable}
+use Rattle.gui_base.specs.declared.words.Part.TheVariants.{Main, Scrollbar, Indicator, Knob}
 use Rattle.text_defs.specs.Fonts.{face}
 use Rattle.text_defs.specs.Images.{Image, size_in}
 use Rattle.widget_defs.specs.declared.ImageLook.{ImageLook}
 use Rattle.widget_defs.specs.Looks.{Look, number_of}
+use Rattle.scene_defs.specs.Row.{is_on}
 use Rattle.scene_defs.specs.Scene.{Object, Scene, value}
 
 -- the font of an object's text
@@ -23,11 +25,13 @@ abbrev pub image_look : List Image → Option ℕ → Option ImageLook
 image_look images None = None
 image_look images (Some i) = option_map (sized i) (size_in images i)
 
--- an object as its items show it
+-- an object as its items show it, before it is known how far its children reach: its items and its sizes do not
+-- go by that
 abbrev pub look_of : Scene → Object → Look
 look_of scene object = record {
   kind = object.row.kind;
   main = value scene object.handle Main;
+  scrollbar = value scene object.handle Scrollbar;
   indicator = value scene object.handle Indicator;
   knob = value scene object.handle Knob;
   text = chars object.text;
@@ -36,4 +40,7 @@ look_of scene object = record {
   min = object.row.min;
   max = object.row.max;
   image = image_look scene.images object.row.image;
+  scrollable = is_on object.row.flags Scrollable;
+  reach = (0, 0);
+  offset = (0, 0);
 }

@@ -4,13 +4,13 @@ use Rattle.std.specs.declared.option.Option.{Option}
 use Rattle.gui_base.specs.declared.props.Prop.{Prop}
 use Rattle.gui_base.specs.declared.props.Prop.TheVariants.{BorderWidth, PadLeft, PadRight, PadTop, PadBottom}
 use Rattle.gui_base.specs.declared.props.Prop.TheVariants.{PadRow, PadColumn}
-use Rattle.gui_base.specs.declared.words.Flag.TheVariants.{Hidden}
+use Rattle.gui_base.specs.declared.words.Flag.TheVariants.{Hidden, Scrollable}
 use Rattle.gui_base.specs.declared.words.Part.TheVariants.{Main}
 use Rattle.gui_base.specs.Area.{Rect, area_at, nat_of}
 use Rattle.gui_base.specs.Forest.{Forest, map_forest}
 use Rattle.layout_defs.specs.Boxes.{Axis, Box, side_across, side_down}
 use Rattle.layout_defs.specs.Laws.{row_by, is_placed_at}
-use Rattle.layout_defs.specs.Solving.{Placed, place_of, solved}
+use Rattle.layout_defs.specs.Solving.{Placed, Span, place_of, offset_at, solved}
 use Rattle.widget_defs.specs.Sizes.{own_width, own_height}
 use Rattle.scene_defs.specs.declared.Row.{Row}
 use Rattle.scene_defs.specs.Looks.{look_of}
@@ -37,6 +37,7 @@ across_of scene h row = record {
   before = inset_of scene h PadLeft;
   after = inset_of scene h PadRight;
   gap = pixels_of scene h PadColumn;
+  scroll = nat_of row.scroll_x;
 }
 
 abbrev pub down_of : Scene → ℕ → Row → Axis
@@ -47,6 +48,7 @@ down_of scene h row = record {
   before = inset_of scene h PadTop;
   after = inset_of scene h PadBottom;
   gap = pixels_of scene h PadRow;
+  scroll = nat_of row.scroll_y;
 }
 
 -- what layout knows of an object
@@ -59,6 +61,7 @@ box_of scene object = record {
   flow = object.row.flow;
   places = record { main = object.row.places.0; cross = object.row.places.1; track = object.row.places.2 };
   grow = object.row.grow;
+  scrollable = is_on object.row.flags Scrollable;
   own_width = own_width (look_of scene object);
   own_height = own_height (look_of scene object);
 }
@@ -73,3 +76,13 @@ solved_of scene = solved scene.limits.width scene.limits.height (boxes_of scene)
 -- the area of h, if it is there
 unfoldable pub place : Scene → ℕ → Option Rect
 place scene h = option_map place_of (row_by (is_placed_at h) (solved_of scene))
+
+abbrev reach_of : Placed → Span
+reach_of p = p.reach
+
+-- how far the children of h reach out of its content area, and how far it moves them, if it is there
+unfoldable pub reach : Scene → ℕ → Option Span
+reach scene h = option_map reach_of (row_by (is_placed_at h) (solved_of scene))
+
+unfoldable pub offset : Scene → ℕ → Option Span
+offset scene h = option_map offset_at (row_by (is_placed_at h) (solved_of scene))

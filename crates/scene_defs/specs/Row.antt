@@ -5,7 +5,7 @@ use Rattle.std.specs.declared.option.Option.{Option}
 use Rattle.gui_base.specs.Bits.{has_bit, flag_bit}
 use Rattle.gui_base.specs.Intervals.{is_counted, is_within}
 use Rattle.gui_base.specs.declared.Handle.{Handle}
-use Rattle.gui_base.specs.declared.intervals.TheConstants.{EXTENT, PERCENT, COORDINATE, GROW, VALUE}
+use Rattle.gui_base.specs.declared.intervals.TheConstants.{EXTENT, PERCENT, COORDINATE, GROW, SCROLL, VALUE}
 use Rattle.gui_base.specs.declared.words.Flag.{Flag}
 use Rattle.gui_base.specs.declared.words.Kind.{Kind}
 use Rattle.gui_base.specs.declared.words.Kind.TheVariants.{Screen, Layer, Label, Image, Bar, Slider, Checkbox}
@@ -52,6 +52,8 @@ new_row kind = record {
   flow = first_flow kind;
   places = (Start, Start, Start);
   grow = 0;
+  scroll_x = pos 0;
+  scroll_y = pos 0;
   value = pos 0;
   min = pos 0;
   max = pos 100;
@@ -89,7 +91,7 @@ abbrev pub is_row : Row → Bool
 is_row row =
     is_within COORDINATE row.x && (is_within COORDINATE row.y &&
     (is_size row.width && (is_size row.height && (is_cross row.places.1 && (is_counted GROW row.grow &&
-    is_ranged row)))))
+    (is_within SCROLL row.scroll_x && (is_within SCROLL row.scroll_y && is_ranged row)))))))
 
 -- a value, brought into a range
 abbrev pub brought_in : ℤ → ℤ → ℤ → ℤ

@@ -43,6 +43,9 @@ pub enum Change<'a> {
     Align(Handle, Align, i32, i32),
     /// The wanted width and height.
     Size(Handle, Length, Length),
+    /// How far the children of a scrollable object are to be scrolled, to the left and upward, in pixels from 0
+    /// to 8191. It takes effect as far as they reach out of its content area.
+    Scroll(Handle, i32, i32),
     /// How an object arranges its children.
     Flex(Handle, Flow),
     /// The placings of its flow: along its tracks, across each, which is one of start, end and center, and of
@@ -118,7 +121,7 @@ impl Feature {
 #[derive(Clone, Copy, Debug, PartialEq, Eq)]
 pub struct Row {
     pub kind: Kind,
-    /// The sum of the flags that are on: hidden is 1, clickable 2, checkable 4 and bubble 8.
+    /// The sum of the flags that are on: hidden is 1, clickable 2, checkable 4, bubble 8 and scrollable 16.
     pub flags: u8,
     /// The set of the states that it is in, by [`State::bit`].
     pub states: u16,
@@ -136,6 +139,10 @@ pub struct Row {
     pub places: (Placing, Placing, Placing),
     /// How much of the free space of its track it takes, beside the others that take some.
     pub grow: u8,
+    /// How far its children are to be scrolled where it is scrollable, to the left and upward, in pixels from 0
+    /// to 8191.
+    pub scroll_x: i32,
+    pub scroll_y: i32,
     /// What a bar or a slider shows, from `min` to `max`.
     pub value: i32,
     /// From -10,000 on.

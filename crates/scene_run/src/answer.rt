@@ -39,7 +39,7 @@ use std::marker::Brand;
 use std::sync::ledger::{Blank, Ledger};
 
 /// A line of the log: two numbers of ten digits and the words fit.
-type LogLine = ArrayVec<u8, 64>;
+pub type LogLine = ArrayVec<u8, 64>;
 
 /// The line of the log for a frame.
 fn frame_text(number: u32, frame: u32, end: FrameEnd) -> LogLine
@@ -73,7 +73,7 @@ fn pump_text(number: u32, answer: Pumped) -> LogLine
 }
 
 /// The line of the log for a reply.
-fn reply_text(number: u32, reply: Reply) -> LogLine
+pub fn reply_text(number: u32, reply: Reply) -> LogLine
     ensures { result.items ≡ reply_line number reply }
 {
     let mut text = ArrayVec::new();
@@ -90,7 +90,7 @@ fn reply_text(number: u32, reply: Reply) -> LogLine
 }
 
 /// Whether a reply is that of a refusal, or has one to note.
-fn is_noted(reply: Reply) -> bool
+pub fn is_noted(reply: Reply) -> bool
     ensures { result ≡ is_noted reply }
 {
     match reply {
@@ -107,7 +107,7 @@ fn is_refusal(reply: Reply) -> bool
 }
 
 /// Carries out a command, which writes what its events say, and writes the reply.
-fn make<L: Sink>(
+pub fn make<L: Sink>(
     gui: &mut Gui,
     command: &Command,
     number: u32,
@@ -138,7 +138,7 @@ fn make<L: Sink>(
 }
 
 /// Sends what is pending to the panel with an empty count of steps, which no clause of a run speaks of.
-fn refresh_counted<P: Panel, B: Ledger>(gui: &mut Gui, panel: &mut P, blank: Blank) -> Refreshed
+pub fn refresh_counted<P: Panel, B: Ledger>(gui: &mut Gui, panel: &mut P, blank: Blank) -> Refreshed
     requires name { blank.name ≡ B.name }
     requires parts { blank.parts ≡ B.parts }
     requires some { 0 < blank.parts }

@@ -9,5 +9,6 @@ mod runner;
 mod status;
 mod top;
 
+pub use answer::{LogLine, is_noted, make, refresh_counted, reply_text};
 pub use status::Status;
 pub use top::run_scene;

@@ -10,7 +10,7 @@ use crate::devices::device_command;
 use crate::fields::Fields;
 use gui_base::intervals::{
     ADVANCE, COORDINATE, FONT, FONT_HEIGHT, GLYPH_HEIGHT, GLYPH_WIDTH, GROW, IMAGE, IMAGE_ROW,
-    IMAGE_SIDE, INDEX, STYLE, VALUE,
+    IMAGE_SIDE, INDEX, SCROLL, STYLE, VALUE,
 };
 use gui_base::named;
 use gui_base::words::{
@@ -93,6 +93,9 @@ fn row_change<'a>(name: RowName, line: &mut Fields<'a>) -> Change<'a>
             line.number(COORDINATE),
         ),
         RowName::Size => Change::Size(line.handle(), line.extent(), line.extent()),
+        RowName::Scroll => {
+            Change::Scroll(line.handle(), line.number(SCROLL), line.number(SCROLL))
+        }
         RowName::Flex => Change::Flex(line.handle(), line.flow()),
         RowName::Places => Change::Places(
             line.handle(),

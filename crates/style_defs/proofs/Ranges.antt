@@ -8,7 +8,7 @@ use denote.Enum.Bare.{same_true}
 use Rattle.gui_base.specs.declared.words.Kind.{Kind}
 use Rattle.gui_base.specs.contracts.props.Prop.{the_type}
 use Rattle.gui_base.specs.declared.words.Part.{Part}
-use Rattle.gui_base.specs.declared.words.Part.TheVariants.{Main}
+use Rattle.gui_base.specs.declared.words.Part.TheVariants.{Main, Scrollbar}
 use Rattle.gui_base.specs.declared.props.Prop.{Prop}
 use Rattle.gui_base.specs.declared.words.Selector.{Selector}
 use Rattle.style_defs.specs.declared.Candidate.{Candidate}
@@ -17,7 +17,7 @@ use Rattle.style_defs.specs.declared.Setting.{Setting}
 use Rattle.style_defs.specs.declared.Use.{Use}
 use Rattle.gui_base.specs.Words.{same_prop}
 use Rattle.style_defs.specs.Cascade.{Style, is_numbered, settings_of, setting_of, selector_of, applies, candidate, of_entry, of_use, stronger, candidates, winner, winning}
-use Rattle.style_defs.specs.Kinds.{entry_in, kind_rows, kind_value, default_in}
+use Rattle.style_defs.specs.Kinds.{entry_in, kind_rows, part_rows, kind_value, default_in}
 use Rattle.gui_base.specs.Props.{default_of, is_value, inherits}
 use Rattle.style_defs.specs.Value.{Styled, won, inherited, given, value_on}
 use Rattle.style_defs.specs.InOrder.{IsEntry}
@@ -28,7 +28,7 @@ all_of P each [] = All-nil P
 all_of P each (x ∷ xs) = All-cons P x xs (each x) (all_of P each xs)
 
 -- Where each value that is set passes a test, and each default does, so does the value that wins.
-module _ (test : Prop → ℤ → Bool) (default_fits : (p : Prop) → test p (default_of p) ≡ true) (kind_fits : (kind : Kind) → All (λ (e : Entry). test e.prop e.value ≡ true) (map entry_in (kind_rows kind))) where
+module _ (test : Prop → ℤ → Bool) (default_fits : (p : Prop) → test p (default_of p) ≡ true) (kind_fits : (kind : Kind) (part : Part) → All (λ (e : Entry). test e.prop e.value ≡ true) (map entry_in (part_rows kind part))) where
   abbrev FitsSetting : Setting → Type 0
   FitsSetting setting = test setting.prop setting.value ≡ true
 
@@ -137,7 +137,7 @@ module _ (test : Prop → ℤ → Bool) (default_fits : (p : Prop) → test p (d
       pub value_fits : (objects : List Styled) (part : Part) → All FitsStyled objects → test prop (value_on styles objects part prop) ≡ true
       value_fits [] part all = default_fits prop
       value_fits (object ∷ above) part all =
-          let own = wins [] [] (map entry_in (kind_rows object.kind)) part object.states (All-nil FitsStyle) (kind_fits object.kind) in
+          let own = wins [] [] (map entry_in (part_rows object.kind part)) part object.states (All-nil FitsStyle) (kind_fits object.kind part) in
           let from_above : Fits (cond (inherits prop) (inherited styles (object ∷ above) prop) None) =
           elim (cases_Bool (inherits prop)) [
             | inl is ↦ rw is (inherited_fits (object ∷ above) all)
@@ -148,8 +148,12 @@ module _ (test : Prop → ℤ → Bool) (default_fits : (p : Prop) → test p (d
           (or_fits (won styles object part prop) (cond (inherits prop) (inherited styles (object ∷ above) prop) None) (won_fits object part (All-head FitsStyled object above all)) from_above)
           (else_fits (kind_value object.kind part object.states prop) (default_of prop) own (default_fits prop))
 
-kinds_in_range : (kind : Kind) → All IsEntry (map entry_in (kind_rows kind))
-kinds_in_range kind = search rules
+rows_in_range : (kind : Kind) → All IsEntry (map entry_in (kind_rows kind))
+rows_in_range kind = search rules
+
+kinds_in_range : (kind : Kind) (part : Part) → All IsEntry (map entry_in (part_rows kind part))
+kinds_in_range kind Scrollbar = search rules
+kinds_in_range kind part = rows_in_range kind
 
 defaults_in_range : (p : Prop) → is_value p (default_of p) ≡ true
 defaults_in_range p = search rules

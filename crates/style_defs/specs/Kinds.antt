@@ -3,8 +3,9 @@ use Rattle.std.specs.Prelude.{ℕ, ℤ, List, [], map, unwrap_or}
 use Rattle.std.specs.declared.option.Option.{Option}
 use Rattle.gui_base.specs.declared.words.Kind.{Kind}
 use Rattle.gui_base.specs.declared.words.Kind.TheVariants as kind
-use Rattle.style_defs.specs.declared.kinds.TheConstants.{SCREEN, BUTTON, BAR, SLIDER, CHECKBOX, LIST}
+use Rattle.style_defs.specs.declared.kinds.TheConstants.{SCREEN, BUTTON, BAR, SLIDER, CHECKBOX, LIST, SCROLLBAR}
 use Rattle.gui_base.specs.declared.words.Part.{Part}
+use Rattle.gui_base.specs.declared.words.Part.TheVariants.{Scrollbar}
 use Rattle.gui_base.specs.declared.props.Prop.{Prop}
 use Rattle.style_defs.specs.declared.Entry.{Entry}
 use Rattle.style_defs.specs.Cascade.{winning}
@@ -29,9 +30,14 @@ kind_rows kind.Slider = SLIDER
 kind_rows kind.Checkbox = CHECKBOX
 kind_rows kind.List = LIST
 
+-- what a kind sets for a part: all have the same bars
+abbrev pub part_rows : Kind → Part → List KindRow
+part_rows kind Scrollbar = SCROLLBAR
+part_rows kind part = kind_rows kind
+
 -- of what a kind sets, what wins for a part in these states
 abbrev pub kind_value : Kind → Part → ℕ → Prop → Option ℤ
-kind_value kind part states prop = winning [] [] (map entry_in (kind_rows kind)) part states prop
+kind_value kind part states prop = winning [] [] (map entry_in (part_rows kind part)) part states prop
 
 -- what a part has where nothing is set and nothing is inherited
 abbrev pub default_in : Kind → Part → ℕ → Prop → ℤ

@@ -1,6 +1,6 @@
 //! What each kind of object sets by itself: it holds where nothing else is set or inherited.
 ghost use Rattle.std.specs.Prelude.{◌≡◌};
-ghost use Rattle.style_defs.specs.Kinds.{kind_rows, entry_in, kind_value, default_in};
+ghost use Rattle.style_defs.specs.Kinds.{kind_rows, part_rows, entry_in, kind_value, default_in};
 
 use crate::Entry;
 use crate::cascade::{given_by, stronger};
@@ -18,6 +18,14 @@ const LIGHT_GREY: i32 = 0xE0E0E0;
 const BLUE: i32 = 0x2196F3;
 
 const DARK_BLUE: i32 = 0x1976D2;
+
+const GREY: i32 = 0x9E9E9E;
+
+/// The bars of every kind are filled.
+pub const SCROLLBAR: [KindRow; 2] = [
+    (Part::Scrollbar, 0, Prop::BgOpa, 255),
+    (Part::Scrollbar, 0, Prop::BgColor, GREY),
+];
 
 /// A screen is filled.
 pub const SCREEN: [KindRow; 1] = [(Part::Main, 0, Prop::BgOpa, 255)];
@@ -85,6 +93,16 @@ fn kind_rows(kind: Kind) -> &'static [KindRow]
     }
 }
 
+/// What a kind sets for a part: all have the same bars.
+fn part_rows(kind: Kind, part: Part) -> &'static [KindRow]
+    ensures { result.now ≡ part_rows kind part }
+{
+    match part {
+        Part::Scrollbar => &SCROLLBAR,
+        Part::Main | Part::Indicator | Part::Knob => kind_rows(kind),
+    }
+}
+
 fn entry_in(row: &KindRow) -> Entry
     ensures { result ≡ entry_in row.now }
 {
@@ -103,7 +121,7 @@ pub fn kind_value(kind: Kind, part: Part, states: u16, prop: Prop) -> Option<i32
     ensures { result ≡ kind_value kind part states prop }
 {
     let mut best = None;
-    for row in kind_rows(kind) {
+    for row in part_rows(kind, part) {
         if let Some(given) = given_by(&entry_in(row), part, states, prop) {
             best = Some(stronger(best, given));
         }

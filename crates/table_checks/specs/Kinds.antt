@@ -9,7 +9,8 @@ use Rattle.gui_base.specs.declared.words.Kind.TheVariants as kind
 use Rattle.gui_base.specs.declared.words.Length.{Length}
 use Rattle.gui_base.specs.declared.words.Length.TheVariants.{Pixels, Content}
 use Rattle.gui_base.specs.declared.words.Placing.TheVariants.{Start}
-use Rattle.style_defs.specs.Kinds.{KindRow, kind_rows}
+use Rattle.gui_base.specs.declared.words.Part.TheVariants.{Scrollbar}
+use Rattle.style_defs.specs.Kinds.{KindRow, kind_rows, part_rows}
 use Rattle.scene_defs.specs.Row.{new_row, no_name}
 use Rattle.scene_defs.specs.declared.Change.TheVariants as change
 use Rattle.scene_defs.specs.declared.Row.{Row}
@@ -31,6 +32,8 @@ fresh kind flags width height flow = record {
   flow = flow;
   places = (Start, Start, Start);
   grow = 0;
+  scroll_x = pos 0;
+  scroll_y = pos 0;
   value = pos 0;
   min = pos 0;
   max = pos 100;
@@ -38,7 +41,7 @@ fresh kind flags width height flow = record {
   text = no_name;
 }
 
--- Clickable is 2 and checkable 4. Roots have the size of the panel, whatever theirs is.
+-- Clickable is 2, checkable 4 and scrollable 16. Roots have the size of the panel, whatever theirs is.
 pub record NewRowsAreThese : Type 0 where
   pub screen : new_row kind.Screen ≡ fresh kind.Screen 2 (Pixels 100) (Pixels 50) Free
   pub layer : new_row kind.Layer ≡ fresh kind.Layer 0 (Pixels 100) (Pixels 50) Free
@@ -49,7 +52,7 @@ pub record NewRowsAreThese : Type 0 where
   pub bar : new_row kind.Bar ≡ fresh kind.Bar 0 (Pixels 100) (Pixels 10) Free
   pub slider : new_row kind.Slider ≡ fresh kind.Slider 2 (Pixels 100) (Pixels 10) Free
   pub checkbox : new_row kind.Checkbox ≡ fresh kind.Checkbox 6 Content Content Free
-  pub list : new_row kind.List ≡ fresh kind.List 2 (Pixels 100) (Pixels 100) Column
+  pub list : new_row kind.List ≡ fresh kind.List 18 (Pixels 100) (Pixels 100) Column
 
 -- what a line sets locally
 abbrev pub set_by : Said → Option KindRow
@@ -122,4 +125,11 @@ pub record KindsSetThese : Type 0 where
       ∷ codes "main pad_left 2"
       ∷ codes "main pad_right 2"
       ∷ codes "main pad_row 2"
+      ∷ [])
+  -- all have the same bars
+  pub bars :
+      (kind : Kind) → map (λ row. Some row) (part_rows kind Scrollbar)
+      ≡ set_locally (
+      codes "scrollbar bg_opa 255"
+      ∷ codes "scrollbar bg_color #9E9E9E"
       ∷ [])

@@ -44,6 +44,7 @@ pub record CountsAreThese : Type 0 where
 
 pub record IntervalsAreThese : Type 0 where
   pub coordinate : constant.COORDINATE ≡ around_zero 4000
+  pub scroll : constant.SCROLL ≡ up_to 8191
   pub opacity : constant.OPACITY ≡ up_to 255
   pub color : constant.COLOR ≡ up_to 16777215
   pub border : constant.BORDER ≡ up_to 100

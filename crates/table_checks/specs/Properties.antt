@@ -12,7 +12,7 @@ use Rattle.gui_base.specs.declared.props.Prop.TheVariants.{ImgOpa, TextColor, Te
 use Rattle.gui_base.specs.declared.props.Prop.TheVariants.{TextAlign, TextLetterSpace, TextLineSpace}
 use Rattle.gui_base.specs.declared.props.TheConstants.{PROPS}
 use Rattle.gui_base.specs.declared.words.Flag.{Flag}
-use Rattle.gui_base.specs.declared.words.Flag.TheVariants.{Hidden, Clickable, Checkable, Bubble}
+use Rattle.gui_base.specs.declared.words.Flag.TheVariants.{Hidden, Clickable, Checkable, Bubble, Scrollable}
 use Rattle.gui_base.specs.declared.words.State.{State}
 use Rattle.gui_base.specs.declared.words.State.TheVariants.{Checked, Focused, FocusKey, Edited, Hovered}
 use Rattle.gui_base.specs.declared.words.State.TheVariants.{Pressed, Scrolled, Disabled, User1, User2, User3}
@@ -85,4 +85,5 @@ FlagsAreThese =
     ∷ (codes "clickable", Clickable, 2)
     ∷ (codes "checkable", Checkable, 4)
     ∷ (codes "bubble", Bubble, 8)
+    ∷ (codes "scrollable", Scrollable, 16)
     ∷ []

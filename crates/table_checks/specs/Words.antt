@@ -135,7 +135,7 @@ pub record CommandsAreThese : Type 0 where
       names (table {A = Name} COMMANDS)
       ≡ words_of
       (codes "frame pump screen new delete parent index front back load flag state pos align size "
-      ++ codes "flex places grow text value range source style set unset use unuse local "
+      ++ codes "flex places grow scroll text value range source style set unset use unuse local "
       ++ codes "unlocal font glyph endfont image row on off send group join leave focus keypad "
       ++ codes "encoder touch release key turn push tick anim stop")
   pub actions :

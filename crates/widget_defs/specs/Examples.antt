@@ -1,11 +1,11 @@
 -- Items, own sizes and first values that were worked out by hand.
-use Rattle.std.specs.Prelude.{◌≡◌, ℕ, List, [], ◌∷◌, codes, Some, None, ℤ, pos, negsuc}
+use Rattle.std.specs.Prelude.{◌≡◌, ℕ, true, false, List, [], ◌∷◌, codes, Some, None, ℤ, pos, negsuc}
 use Rattle.gui_base.specs.declared.color.Rgb565.{Rgb565}
 use Rattle.gui_base.specs.declared.words.Kind.{Kind}
 use Rattle.gui_base.specs.declared.words.Kind.TheVariants as kind
 use Rattle.gui_base.specs.declared.words.Flow.TheVariants.{Free, Column}
 use Rattle.gui_base.specs.declared.words.Length.TheVariants.{Pixels, Content}
-use Rattle.gui_base.specs.declared.words.Part.TheVariants.{Main, Indicator, Knob}
+use Rattle.gui_base.specs.declared.words.Part.TheVariants.{Main, Scrollbar, Indicator, Knob}
 use Rattle.gui_base.specs.declared.words.TextAlign.{TextAlign}
 use Rattle.gui_base.specs.declared.words.TextAlign.TheVariants.{Left, Center}
 use Rattle.gui_base.specs.declared.props.Prop.TheVariants as prop
@@ -15,7 +15,7 @@ use Rattle.style_defs.specs.Kinds.{default_in}
 use Rattle.text_defs.specs.declared.TextLook.{TextLook}
 use Rattle.text_defs.specs.BuiltIn.{built_in}
 use Rattle.widget_defs.specs.declared.ItemPaint.TheVariants.{Fill, Ring, Ink, Picture}
-use Rattle.widget_defs.specs.Items.{Item, items}
+use Rattle.widget_defs.specs.Items.{Item, items, bars}
 use Rattle.widget_defs.specs.Kinds.{first_flags, first_width, first_height, first_flow}
 use Rattle.widget_defs.specs.Looks.{Look, PartValues}
 use Rattle.widget_defs.specs.Sizes.{own_width, own_height}
@@ -75,6 +75,7 @@ abbrev new : Kind → ℕ → List ℕ → Look
 new kind states text = record {
   kind = kind;
   main = default_in kind Main states;
+  scrollbar = default_in kind Scrollbar states;
   indicator = default_in kind Indicator states;
   knob = default_in kind Knob states;
   text = text;
@@ -83,6 +84,9 @@ new kind states text = record {
   min = pos 0;
   max = pos 100;
   image = None;
+  scrollable = false;
+  reach = (0, 0);
+  offset = (0, 0);
 }
 
 abbrev pressed : ℕ
@@ -238,6 +242,31 @@ pub record ItemsAreWorked : Type 0 where
   pub no_image :
       items (new kind.Image 0 []) (from_zero 3 1)
       ≡ item (from_zero 3 1) white 0 ∷ no_border (from_zero 3 1) ∷ []
+
+-- a scrollable object whose children reach so far and are moved so far
+abbrev scrolled : Kind → ℕ → ℕ → ℕ → ℕ → Look
+scrolled kind across down left up = record (new kind 0 []) {
+  scrollable = true;
+  reach = (across, down);
+  offset = (left, up);
+}
+
+abbrev dark_grey : Rgb565
+dark_grey = rgb 40179
+
+pub record BarsAreWorked : Type 0 where
+  -- a bar is eight pixels long at least
+  pub at_top : bars (scrolled kind.Obj 0 40 0 0) (from_zero 19 19) ≡ item (at 16 0 19 7) dark_grey 255 ∷ []
+  pub at_bottom :
+      bars (scrolled kind.Obj 0 40 0 40) (from_zero 19 19) ≡ item (at 16 12 19 19) dark_grey 255 ∷ []
+  -- and as long as the share of the children that is seen; the one at the right comes first
+  pub both_ways :
+      bars (scrolled kind.List 100 50 20 10) (at 10 20 109 119)
+      ≡ item (at 106 27 109 91) dark_grey 255 ∷ item (at 20 116 67 119) dark_grey 255 ∷ []
+  -- it is cut to a small object
+  pub in_small : bars (scrolled kind.Obj 9 9 9 0) (at 5 5 7 6) ≡ item (at 5 5 7 6) dark_grey 255 ∷ item (at 5 5 7 6) dark_grey 255 ∷ []
+  pub none_fitting : bars (scrolled kind.List 0 0 0 0) (from_zero 19 19) ≡ []
+  pub none_fixed : bars (record (scrolled kind.List 9 9 0 0) { scrollable = false }) (from_zero 19 19) ≡ []
 
 pub record SizesAreWorked : Type 0 where
   pub label_width : own_width (new kind.Label 0 (codes "ab cd")) ≡ 30

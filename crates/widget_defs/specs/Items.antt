@@ -1,5 +1,5 @@
 -- What an object paints.
-use Rattle.std.specs.Prelude.{ℕ, ◌+◌, ◌-◌, ◌*◌, ◌/◌, ◌%◌, min, List, [], ◌∷◌, ◌++◌, Some, None}
+use Rattle.std.specs.Prelude.{ℕ, ◌+◌, ◌-◌, ◌*◌, ◌/◌, ◌%◌, min, max, ◌==◌, if◌then◌else◌, List, [], ◌∷◌, ◌++◌, Some, None}
 use Rattle.std.specs.Prelude.{ℤ, pos, ◌+ℤ◌, ◌-ℤ◌}
 use Rattle.std.specs.declared.option.Option.{Option}
 use Rattle.gui_base.specs.declared.color.Rgb565.{Rgb565}
@@ -7,7 +7,7 @@ use Rattle.gui_base.specs.declared.words.Kind.{Kind}
 use Rattle.gui_base.specs.declared.words.Kind.TheVariants as kind
 use Rattle.gui_base.specs.declared.props.Prop.{Prop}
 use Rattle.gui_base.specs.declared.props.Prop.TheVariants as prop
-use Rattle.gui_base.specs.Area.{Rect, area_at, width_of, height_of}
+use Rattle.gui_base.specs.Area.{Rect, area_at, common, width_of, height_of}
 use Rattle.gui_base.specs.Color.{color}
 use Rattle.text_defs.specs.declared.TextLook.{TextLook}
 use Rattle.widget_defs.specs.declared.ImageLook.{ImageLook}
@@ -114,7 +114,43 @@ content_items kind.Checkbox look content =
     ++ ink_of (caption_area look content) look.main (left_look look.main) ∷ []
 content_items kind look content = []
 
--- all that an object of this area paints, from back to front
+-- what an object of this area paints behind its children, from back to front
 abbrev pub items : Look → Rect → List Item
 items look area =
     part_of area look.main ++ content_items look.kind look (content_of area look.main)
+
+-- Bars. So long is the bar of a direction in which an object, and in it its content area, are so large, and
+-- its children reach so far.
+abbrev pub bar_length : ℕ → ℕ → ℕ → ℕ
+bar_length size inner reach = min size (max 8 (size * inner / (inner + reach)))
+
+-- where it begins, if it is so long and the children are moved so far
+abbrev pub bar_start : ℕ → ℕ → ℕ → ℕ → ℕ
+bar_start size length reach offset = (size - length) * offset / reach
+
+-- the bar at the right of an object, and the one at its bottom, each four pixels wide and cut to the object
+abbrev pub right_bar : Look → Rect → Rect
+right_bar look area =
+    let high = height_of area in
+    let length = bar_length high (height_of (content_of area look.main)) look.reach.1 in
+    let start = bar_start high length look.reach.1 look.offset.1 in
+    common area (area_at (area.x2 -ℤ pos 3) (area.y1 +ℤ pos start) 4 length)
+
+abbrev pub bottom_bar : Look → Rect → Rect
+bottom_bar look area =
+    let wide = width_of area in
+    let length = bar_length wide (width_of (content_of area look.main)) look.reach.0 in
+    let start = bar_start wide length look.reach.0 look.offset.0 in
+    common area (area_at (area.x1 +ℤ pos start) (area.y2 -ℤ pos 3) length 4)
+
+-- the bar of a direction in which the children reach so far: none where they fit
+abbrev pub bar_if : ℕ → Rect → PartValues → List Item
+bar_if reach bar values = if reach == 0 then [] else fill_of bar values ∷ []
+
+-- what an object of this area paints over its children, from back to front
+abbrev pub bars : Look → Rect → List Item
+bars look area =
+    if look.scrollable then
+    bar_if look.reach.1 (right_bar look area) look.scrollbar
+    ++ bar_if look.reach.0 (bottom_bar look area) look.scrollbar
+    else []

@@ -2,7 +2,7 @@
 use Rattle.std.specs.Prelude.{ℕ, ◌+◌, ◌^◌}
 use Rattle.gui_base.specs.Bits.{flag_bit}
 use Rattle.gui_base.specs.declared.words.Flag.{Flag}
-use Rattle.gui_base.specs.declared.words.Flag.TheVariants.{Clickable, Checkable}
+use Rattle.gui_base.specs.declared.words.Flag.TheVariants.{Clickable, Checkable, Scrollable}
 use Rattle.gui_base.specs.declared.words.Flow.{Flow}
 use Rattle.gui_base.specs.declared.words.Flow.TheVariants.{Free, Column}
 use Rattle.gui_base.specs.declared.words.Kind.{Kind}
@@ -25,7 +25,7 @@ first_flags kind.Image = 0
 first_flags kind.Bar = 0
 first_flags kind.Slider = only Clickable
 first_flags kind.Checkbox = only Clickable + only Checkable
-first_flags kind.List = only Clickable
+first_flags kind.List = only Clickable + only Scrollable
 
 -- the wanted width and height; those of roots are not asked
 abbrev pub first_width : Kind → Length

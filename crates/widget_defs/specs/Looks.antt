@@ -1,5 +1,5 @@
 -- What the items of an object are made of: its kind, the values of its parts, and what it shows.
-use Rattle.std.specs.Prelude.{◌≡◌, ℕ, true, ◌==◌, if◌then◌else◌, List, slice_index_or, ℤ, pos, ◌≤ℤ◌, ◌<ℤ◌}
+use Rattle.std.specs.Prelude.{◌≡◌, ℕ, Bool, true, ◌==◌, if◌then◌else◌, List, slice_index_or, ℤ, pos, ◌≤ℤ◌, ◌<ℤ◌}
 use Rattle.std.specs.declared.option.Option.{Option}
 use Rattle.std.specs.Int.RustNames.{unsigned_abs}
 use Rattle.gui_base.specs.declared.words.Kind.{Kind}
@@ -51,6 +51,7 @@ AreValues values = (prop : Prop) → is_value prop (values prop) ≡ true
 pub record Look : Type 0 where
   pub kind : Kind
   pub main : PartValues
+  pub scrollbar : PartValues
   pub indicator : PartValues
   pub knob : PartValues
   -- the characters of its text, and the font of its main part
@@ -61,6 +62,11 @@ pub record Look : Type 0 where
   pub min : ℤ
   pub max : ℤ
   pub image : Option ImageLook
+  -- whether it is scrollable, how far its children reach out of its content area across and down, and how far
+  -- it moves them
+  pub scrollable : Bool
+  pub reach : ℕ × ℕ
+  pub offset : ℕ × ℕ
 
 -- the value lies in its range, which has two ends
 pub record IsRanged (look : Look) : Type 0 where

@@ -1,14 +1,14 @@
 -- Items and own sizes that a reference implementation gives, which follows the rules by itself. Each row has
 -- the kind of an object, its states, what is set at its main part, its indicator and its knob, its text, its
 -- value with its range, and its image; then its place.
-use Rattle.std.specs.Prelude.{◌≡◌, ℕ, ◌==◌, if◌then◌else◌, List, [], ◌∷◌, map, codes, Some, None}
+use Rattle.std.specs.Prelude.{◌≡◌, ℕ, false, ◌==◌, if◌then◌else◌, List, [], ◌∷◌, map, codes, Some, None}
 use Rattle.std.specs.Prelude.{ℤ, pos, negsuc}
 use Rattle.std.specs.declared.option.Option.{Option}
 use Rattle.gui_base.specs.declared.color.Rgb565.{Rgb565}
 use Rattle.gui_base.specs.declared.words.Kind.{Kind}
 use Rattle.gui_base.specs.declared.words.Kind.TheVariants as kind
 use Rattle.gui_base.specs.declared.words.Part.{Part}
-use Rattle.gui_base.specs.declared.words.Part.TheVariants.{Main, Indicator, Knob}
+use Rattle.gui_base.specs.declared.words.Part.TheVariants.{Main, Scrollbar, Indicator, Knob}
 use Rattle.gui_base.specs.declared.words.TextAlign.{TextAlign}
 use Rattle.gui_base.specs.declared.words.TextAlign.TheVariants.{Left, Center}
 use Rattle.gui_base.specs.declared.props.Prop.{Prop}
@@ -70,6 +70,7 @@ abbrev sample :
 sample kind states main indicator knob text value min max image = record {
   kind = kind;
   main = part_in kind Main states main;
+  scrollbar = part_in kind Scrollbar states [];
   indicator = part_in kind Indicator states indicator;
   knob = part_in kind Knob states knob;
   text = text;
@@ -78,6 +79,9 @@ sample kind states main indicator knob text value min max image = record {
   min = min;
   max = max;
   image = image;
+  scrollable = false;
+  reach = (0, 0);
+  offset = (0, 0);
 }
 
 abbrev an_image : ℕ → ℕ → Option ImageLook

@@ -8,14 +8,17 @@ const CLICKABLE: u8 = 2;
 
 const CHECKABLE: u8 = 4;
 
+const SCROLLABLE: u8 = 16;
+
 /// The flags that are on, a bit for each, as [`gui_base::Flag::bit`] says.
 pub fn first_flags(kind: Kind) -> u8
     ensures { result ≡ first_flags kind }
 {
     match kind {
         Kind::Layer | Kind::Label | Kind::Image | Kind::Bar => 0,
-        Kind::Screen | Kind::Obj | Kind::Button | Kind::Slider | Kind::List => CLICKABLE,
+        Kind::Screen | Kind::Obj | Kind::Button | Kind::Slider => CLICKABLE,
         Kind::Checkbox => CLICKABLE | CHECKABLE,
+        Kind::List => CLICKABLE | SCROLLABLE,
     }
 }
 

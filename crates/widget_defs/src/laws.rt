@@ -1,7 +1,7 @@
 //! What follows from the definitions. Each function does nothing: its contract is a law, which is proved.
 ghost use Rattle.widget_defs.specs.Laws.{SharesFollowValues, KnobsStayInside, CheckboxTextsStayWhole};
 ghost use Rattle.widget_defs.specs.Reference.{ReferenceItems, ReferenceSizes};
-ghost use Rattle.widget_defs.specs.Examples.{ItemsAreWorked, SizesAreWorked, FirstValuesAreWorked};
+ghost use Rattle.widget_defs.specs.Examples.{ItemsAreWorked, BarsAreWorked, SizesAreWorked, FirstValuesAreWorked};
 
 /// The share of a bar that is filled is empty at the least value and whole at the greatest, and a greater
 /// value never fills less.
@@ -22,6 +22,7 @@ pub fn checkbox_texts_stay_whole()
 /// Items, sizes and first values that were worked out by hand.
 pub fn worked_examples()
     ensures items { ItemsAreWorked }
+    ensures bars { BarsAreWorked }
     ensures sizes { SizesAreWorked }
     ensures first { FirstValuesAreWorked }
 {}

@@ -37,6 +37,9 @@ fn look(kind: Kind, fonts: &Fonts) -> Look<'_>
         min: 0,
         max: 100,
         image: Some(ImageLook { id: 1, w: 2, h: 3 }),
+        scrollable: false,
+        reach: (0, 0),
+        offset: (0, 0),
         fonts,
     }
 }

@@ -39,5 +39,13 @@ returns c = record {
     order = refl;
     parents = refl;
     load = refl;
+    scroll = refl;
+  };
+  scrolling = record {
+    scrolled = refl;
+    no_farther = refl;
+    let_go = refl;
+    joined = refl;
+    shorter = refl;
   };
 }

@@ -36,4 +36,5 @@ returns-clause-sets c = record {
   slider = refl;
   checkbox = refl;
   list = refl;
+  bars = λ kind. refl;
 }

@@ -2,6 +2,7 @@ use Rattle.std.proofs.Common.{◌≡◌, ◌∙◌, sym, ap, subst, refl, Option
 use Rattle.gui_base.specs.Forest.{Empty, Tree}
 use Rattle.gui_base.specs.declared.Handle.{Handle}
 use Rattle.gui_layout.specs.Layouts.{KeepsRest}
+use Rattle.gui_layout.specs.Scrolls.{HoldsScrolls}
 use Rattle.gui_layout.specs.Settled.{Layout, known, AllFit}
 use Rattle.gui_store.specs.Views.{scene_of}
 use Rattle.gui_layout.specs.Scenes.{scene_box}
@@ -11,7 +12,7 @@ use Rattle.gui_layout.specs.Tables.{Listing, IsListed, AreListed, told}
 use Rattle.gui_layout.proofs.Settling.{tree-in}
 use Rattle.gui_layout.proofs.Solves.{Solves, solves_none, solves_first}
 use Rattle.gui_layout.proofs.all.solve_trees.Goals as goal
-use Rattle.gui_layout.proofs.all.solve_trees.Goals.{In-Some, After-next-next}
+use Rattle.gui_layout.proofs.all.solve_trees.Goals.{In-Some, In_default, After-next-next}
 
 pub loop-next-init : goal.loop-next-init
 loop-next-init c =
@@ -74,6 +75,7 @@ loop-next-preserved c =
         fit = subst (λ t. AllFit (known box now t)) g.tree c.solve_tree.ensures.fit;
         fill = (record { is_wide = stands.width; at_corner = stands.slot }, tt);
       };
+      scrolled = subst (HoldsScrolls box now.widths now.natural_heights now.slots now.scrolls) g.tree c.solve_tree.ensures.scrolled;
       others = subst (KeepsRest was now) g.tree c.solve_tree.ensures.others;
     } in
     record {
@@ -86,10 +88,16 @@ loop-next-preserved c =
           (solves_first box c.args.width.pixels c.args.height.pixels was now last h g.children g.rest (distinct-part g.part (distinct_once f c.requires.once)) first (subst (Solves box c.args.width.pixels c.args.height.pixels now last) g.later all)));
     }
 
-pub returns-clause-settled : goal.returns-clause-settled
-returns-clause-settled c =
+all_solved : (c : In_default) → Solves (scene_box (scene_of c.args.store.now)) c.args.width.pixels c.args.height.pixels (told c.args.entries.now) (told c.loop-next.entries) c.args.tree.now.forest
+all_solved c =
     let f = c.args.tree.now.forest in
     let box = scene_box (scene_of c.args.store.now) in
     let now = told c.loop-next.entries in
     let none : trees_from c.loop-next.next f ≡ Empty = ap (λ (o : Option Handle). trees_from o f) c.in_default.is in
-    (c.loop-next.invariant.later now (subst (Solves box c.args.width.pixels c.args.height.pixels now now) (sym none) (solves_none box c.args.width.pixels c.args.height.pixels now))).settled
+    c.loop-next.invariant.later now (subst (Solves box c.args.width.pixels c.args.height.pixels now now) (sym none) (solves_none box c.args.width.pixels c.args.height.pixels now))
+
+pub returns-clause-settled : goal.returns-clause-settled
+returns-clause-settled c = (all_solved (goal.at.returns-clause-settled c).In_default).settled
+
+pub returns-clause-scrolled : goal.returns-clause-scrolled
+returns-clause-scrolled c = (all_solved (goal.at.returns-clause-scrolled c).In_default).scrolled

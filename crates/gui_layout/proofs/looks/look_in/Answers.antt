@@ -28,12 +28,15 @@ returns-clause-look c =
     let short = text.1 in
     record {
       main = c.values.ensures.in_range;
+      scrollbar = c.values-2.ensures.in_range;
       indicator = c.values-3.ensures.in_range;
       knob = c.values-4.ensures.in_range;
       short = grind (arith, nat_tests, short);
       ranged = record { ends = rw (min, max) k.ends; low = rw (min, value) k.low; high = rw (value, max) k.high };
       low = rw min k.least;
       high = rw max k.most;
+      across = omega arith;
+      down = omega arith;
     }
 
 pub returns-clause-shows : goal.returns-clause-shows
@@ -48,6 +51,7 @@ returns-clause-shows c =
     (λ i. Some (record {
       kind = row.kind;
       main = λ prop. c.values.ensures.values prop i;
+      scrollbar = λ prop. c.values-2.ensures.values prop i;
       indicator = λ prop. c.values-3.ensures.values prop i;
       knob = λ prop. c.values-4.ensures.values prop i;
       text = chars (c.text_of.ensures.text i);
@@ -56,6 +60,9 @@ returns-clause-shows c =
       min = min i;
       max = max i;
       image = image i;
+      scrollable = c.is_on.ensures i;
+      reach = (0, 0);
+      offset = (0, 0);
     }))
     ∙ sym (ap (option_map (look_of scene)) (object_found scene c.args.h.0 (shown_row row) c.requires.row))
 

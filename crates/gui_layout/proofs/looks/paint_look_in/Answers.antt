@@ -30,12 +30,15 @@ returns-clause-look c =
     let short = text.1 in
     record {
       main = c.main_values.ensures.in_range;
-      indicator = c.part_values.ensures.in_range;
-      knob = c.part_values-2.ensures.in_range;
+      scrollbar = c.part_values.ensures.in_range;
+      indicator = c.part_values-2.ensures.in_range;
+      knob = c.part_values-3.ensures.in_range;
       short = grind (arith, nat_tests, short);
       ranged = record { ends = rw (min, max) k.ends; low = rw (min, value) k.low; high = rw (value, max) k.high };
       low = rw min k.least;
       high = rw max k.most;
+      across = omega arith;
+      down = omega arith;
     }
 
 pub returns-clause-paints : goal.returns-clause-paints
@@ -52,8 +55,8 @@ returns-clause-paints c =
         fills = c.main_values.ensures.fills;
         main = λ paints i prop. c.main_values.ensures.all paints prop i;
         face = λ paints i. face (c.fonts.ensures i) (number_of (c.main_values.ensures.all paints TextFont i));
-        indicator = λ paints. c.part_values.ensures.fills (c.paints_indicator.ensures ∙ paints);
-        knob = λ paints. c.part_values-2.ensures.fills (c.paints_knob.ensures ∙ paints);
+        indicator = λ paints. c.part_values-2.ensures.fills (c.paints_indicator.ensures ∙ paints);
+        knob = λ paints. c.part_values-3.ensures.fills (c.paints_knob.ensures ∙ paints);
         text = ap chars c.text_of.ensures.text;
         value = fits row.value (omega (arith, ints, k.low, k.least)) (omega (arith, ints, k.high, k.most));
         min = fits row.min k.least (omega (arith, ints, k.low, k.high, k.most));

@@ -188,3 +188,10 @@ entry_of-own-requires t c = still t (goal.at.entry_of-own-requires t c).In_defau
 
 pub set_natural_width-requires-clause-listed : goal.set_natural_width-requires-clause-listed
 set_natural_width-requires-clause-listed t c = still t (goal.at.set_natural_width-requires-clause-listed t c).In_default
+
+-- each child before this one has added one at most
+pub with_kid-row-requires : goal.with_kid-row-requires
+with_kid-row-requires t c =
+    let e = head t (goal.at.with_kid-row-requires t c).In-Some in
+    let few : c.loop-next.row.count + size (Tree c.in-Some.child.0 e.children e.rest) ≤ 4000 = rw (c.in-Some.is, e.is) at c.loop-next.invariant.few in
+    record { count = omega arith }

@@ -3,12 +3,13 @@ use Rattle.std.specs.List.{All}
 use Rattle.gui_base.specs.Forest.{size, height, tree_at, children_of}
 use Rattle.layout_defs.specs.Solving.{Slot}
 use Rattle.gui_layout.specs.Tables.{told, listing_of}
-use Rattle.gui_layout.specs.Layouts.{ButSlots}
+use Rattle.gui_layout.specs.Layouts.{ButPlaces}
 use Rattle.gui_layout.specs.Views.{box_at}
 use Rattle.gui_layout.specs.Slots.{slot_at, at_roots, IsBelow}
 use Rattle.gui_layout.proofs.Parts.{IsNext, trees_from}
 use Rattle.gui_layout.proofs.Within.{LieIn}
-use Rattle.gui_layout.proofs.Stands.{Stands}
+use Rattle.gui_layout.specs.Scrolls.{Scrolled}
+use Rattle.gui_layout.proofs.Reached.{Reached}
 use Rattle.gui_layout.proofs.positions.+find_places.Given as goal
 
 abbrev pub decreases-find_places : goal.decreases-find_places
@@ -24,9 +25,9 @@ invariant-loop-next l =
       fewer : size (trees_from l.next f) < size (tree_at f l.fn.h.0);
       lower : height (trees_from l.next f) + 1 ≤ height (tree_at f l.fn.h.0);
       listed : listing_of l.entries ≡ listing_of l.fn.entries;
-      rest : ButSlots (told l.fn.entries) (told l.entries);
+      rest : ButPlaces (told l.fn.entries) (told l.entries);
       near : All (IsBelow (slot_at (told l.fn.entries).slots l.fn.h.0)) (at_roots (told l.entries).slots (trees_from l.next f));
-      later : (u : List Slot) → Stands box (told l.fn.entries).widths (told l.fn.entries).natural_heights (told l.entries).slots u (trees_from l.next f) → Stands box (told l.fn.entries).widths (told l.fn.entries).natural_heights (told l.initial.entries).slots u (children_of f l.fn.h.0);
+      later : (u : List Slot) (v : List Scrolled) → Reached box (told l.fn.entries).widths (told l.fn.entries).natural_heights (told l.entries).slots u (told l.entries).scrolls v (trees_from l.next f) → Reached box (told l.fn.entries).widths (told l.fn.entries).natural_heights (told l.initial.entries).slots u (told l.initial.entries).scrolls v (children_of f l.fn.h.0);
     }
 
 abbrev pub decreases-loop-next : goal.decreases-loop-next

@@ -18,7 +18,9 @@ use Rattle.gui_layout.specs.Views.{box_of, box_at}
 use Rattle.gui_layout.proofs.Bridges.{entry_set, keeps_set}
 use Rattle.gui_layout.proofs.Climbing.{in_own_tree}
 use Rattle.gui_layout.proofs.Fitting.{HoldsAll, fit_of}
+use Rattle.gui_layout.proofs.Alike.{scrolls-alike}
 use Rattle.gui_layout.proofs.Alone.{same_width, same_slot}
+use Rattle.gui_layout.specs.Scrolls.{HoldsScrolls, Scrolled, not_scrolled}
 use Rattle.gui_layout.proofs.Listed.{told_short}
 use Rattle.gui_layout.proofs.OwnHeights.{same_naturals, same_widths, same_heights, same_slots}
 use Rattle.gui_layout.proofs.Parts.{IsThere, IsFound, there, found, distinct_once, height-part, here}
@@ -162,16 +164,16 @@ module _ (c : After-find_places) where
       ∙ (ap (λ (ss : List Slot). record (told c.find_natural_heights.new.entries) { slots = ss }) (sym (ap (λ (k : Layout). k.slots) c.set_position.ensures.set))
       ∙ ap (λ (k : Layout). record k { slots = (told c.set_position.new.entries).slots }) passes_heights)
 
-  passes : l ≡ record fixed { natural_heights = (told c.find_natural_heights.new.entries).natural_heights; slots = l.slots }
-  passes = c.find_places.ensures.rest ∙ ap (λ (k : Layout). record k { slots = l.slots }) passes_set
+  passes : l ≡ record fixed { natural_heights = (told c.find_natural_heights.new.entries).natural_heights; slots = l.slots; scrolls = l.scrolls }
+  passes = c.find_places.ensures.rest ∙ ap (λ (k : Layout). record k { slots = l.slots; scrolls = l.scrolls }) passes_set
 
   -- so the widths and natural widths are those of the passes before
   same_w : l.widths ≡ (told c.find_widths.new.entries).widths
-  same_w = ap (λ (k : Layout). k.widths) (passes ∙ ap (λ (k : Layout). record k { natural_heights = (told c.find_natural_heights.new.entries).natural_heights; slots = l.slots }) c.set_own_heights.ensures.rest)
+  same_w = ap (λ (k : Layout). k.widths) (passes ∙ ap (λ (k : Layout). record k { natural_heights = (told c.find_natural_heights.new.entries).natural_heights; slots = l.slots; scrolls = l.scrolls }) c.set_own_heights.ensures.rest)
 
   same_n : l.natural_widths ≡ (told c.find_natural_widths.new.entries).natural_widths
   same_n =
-      ap (λ (k : Layout). k.natural_widths) (passes ∙ ap (λ (k : Layout). record k { natural_heights = (told c.find_natural_heights.new.entries).natural_heights; slots = l.slots }) c.set_own_heights.ensures.rest)
+      ap (λ (k : Layout). k.natural_widths) (passes ∙ ap (λ (k : Layout). record k { natural_heights = (told c.find_natural_heights.new.entries).natural_heights; slots = l.slots; scrolls = l.scrolls }) c.set_own_heights.ensures.rest)
       ∙ ap (λ (k : Layout). k.natural_widths) passes_widths
 
   same_h : l.natural_heights ≡ (told c.find_natural_heights.new.entries).natural_heights
@@ -219,6 +221,15 @@ module _ (c : After-find_places) where
       (subst (λ (xs : List ℕ). HoldsSlots (box_at fixed.boxes) xs ns (slot ∷ []) l.slots tree) (ap (λ (k : Layout). k.widths) c.set_own_heights.ensures.rest)
       (subst (λ (k : Layout). HoldsSlots (box_at k.boxes) k.widths k.natural_heights (slot ∷ []) l.slots tree) passes_set
       (subst (HoldsSlots (box_at (told c.set_position.new.entries).boxes) (told c.set_position.new.entries).widths (told c.set_position.new.entries).natural_heights (slot ∷ []) l.slots) is.tree c.find_places.ensures.found)))
+
+  scrolled : HoldsScrolls box l.widths l.natural_heights l.slots l.scrolls tree
+  scrolled =
+      subst (λ (xs : List ℕ). HoldsScrolls box xs l.natural_heights l.slots l.scrolls tree) (sym same_w)
+      (subst (λ (xs : List ℕ). HoldsScrolls box ws xs l.slots l.scrolls tree) (sym same_h)
+      (scrolls-alike (box_at fixed.boxes) box ws ns l.slots l.scrolls tree (λ k i. ap but_height (are_fixed k i))
+      (subst (λ (xs : List ℕ). HoldsScrolls (box_at fixed.boxes) xs ns l.slots l.scrolls tree) (ap (λ (k : Layout). k.widths) c.set_own_heights.ensures.rest)
+      (subst (λ (k : Layout). HoldsScrolls (box_at k.boxes) k.widths k.natural_heights l.slots l.scrolls tree) passes_set
+      (subst (HoldsScrolls (box_at (told c.set_position.new.entries).boxes) (told c.set_position.new.entries).widths (told c.set_position.new.entries).natural_heights l.slots l.scrolls) is.tree c.find_places.ensures.scrolled)))))
 
   all : HoldsAll box l tree
   all =
@@ -269,6 +280,11 @@ returns-clause-boxes c =
     ap (λ (j : Layout). but_height (box_at j.boxes k)) (passes d)
     ∙ c.set_own_heights.ensures.boxes k (ap (λ (j : Layout). but_height (box_at j.boxes k)) (passes_widths d) ∙ was)
 
+pub returns-clause-scrolled : goal.returns-clause-scrolled
+returns-clause-scrolled c =
+    let e = (goal.at.returns-clause-scrolled c).After-find_places in
+    subst (HoldsScrolls (box e) (l e).widths (l e).natural_heights (l e).slots (l e).scrolls) (sym (is e).tree) (scrolled e)
+
 pub returns-clause-fit : goal.returns-clause-fit
 returns-clause-fit c =
     let e = (goal.at.returns-clause-fit c).After-find_places in
@@ -310,6 +326,9 @@ returns-clause-others c =
     let heights_start : fixed_heights e ≡ start.natural_heights = ap (λ (k : Layout). k.natural_heights) (c.set_own_heights.ensures.rest ∙ ap (λ (k : Layout). record k { boxes = (told c.set_own_heights.new.entries).boxes }) (passes_widths e)) in
     let slots_start : (told c.find_natural_heights.new.entries).slots ≡ start.slots =
     ap (λ (k : Layout). k.slots) (passes_heights e ∙ ap (λ (k : Layout). record k { natural_heights = ns e }) (c.set_own_heights.ensures.rest ∙ ap (λ (k : Layout). record k { boxes = (told c.set_own_heights.new.entries).boxes }) (passes_widths e))) in
+    let scrolls_start : (told c.set_position.new.entries).scrolls ≡ start.scrolls =
+    ap (λ (k : Layout). k.scrolls) c.set_position.ensures.set
+    ∙ ap (λ (k : Layout). k.scrolls) (passes_heights e ∙ ap (λ (k : Layout). record k { natural_heights = ns e }) (c.set_own_heights.ensures.rest ∙ ap (λ (k : Layout). record k { boxes = (told c.set_own_heights.new.entries).boxes }) (passes_widths e))) in
     record {
       natural_widths = subst (λ (xs : List ℕ). KeepsOthers 0 start.natural_widths xs t) (sym (same_n e)) c.find_natural_widths.ensures.others;
       widths = subst (λ (xs : List ℕ). KeepsOthers 0 start.widths xs t) (sym (same_w e)) (keeps_set 0 start.widths (told c.set_width.new.entries).widths (ws e) h _ t inside set_w c.find_widths.ensures.others);
@@ -318,4 +337,5 @@ returns-clause-others c =
           keeps_set nowhere start.slots (told c.set_position.new.entries).slots (l e).slots h _ t inside
           (ap (λ (k : Layout). k.slots) c.set_position.ensures.set ∙ ap (λ (ss : List Slot). set ss h (slot_of c.framed_position-position.result)) slots_start)
           c.find_places.ensures.others;
+      scrolls = subst (λ (rs : List Scrolled). KeepsOthers not_scrolled rs (l e).scrolls t) scrolls_start c.find_places.ensures.other_scrolls;
     }

@@ -1,6 +1,6 @@
-use Rattle.std.proofs.Common.{◌≡◌, ◌∙◌, sym, ◌<◌, arith, pos, ◌+ℤ◌, ◌-ℤ◌, FitsSigned, w32, to_z, of_z}
+use Rattle.std.proofs.Common.{◌≡◌, ◌∙◌, sym, ◌<◌, ◌≤◌, arith, pos, ◌+ℤ◌, ◌-ℤ◌, FitsSigned, w32, to_z, of_z}
 use Rattle.std.proofs.lemmas.Int.{ints, to_z-of_z}
-use Rattle.gui_play.proofs.Columns.{along}
+use Rattle.gui_play.proofs.Columns.{along, along_first}
 use Rattle.gui_play.proofs.Values.{ranged}
 use Rattle.gui_play.proofs.pointing.value_along.Goals as goal
 use Rattle.gui_play.proofs.pointing.value_along.Goals.{After-column}
@@ -27,6 +27,14 @@ overflow_add-result c =
     let r = ranged c.args.row.now c.requires.row in
     let low = r.lowest in let above = r.above in let high = r.highest in
     let small = c.share-above.ensures.small in omega (arith, ints)
+
+pub returns-then-count-le1 : goal.returns-then-count-le1
+returns-then-count-le1 c =
+    let r = ranged c.args.row.now c.requires.row in
+    let low = r.lowest in let above = r.above in let high = r.highest in
+    let one : c.args.count ≤ 1 = omega arith in
+    let first : to_z w32 (of_z w32 c.args.row.now.min) ≡ c.args.row.now.min = omega (arith, ints) in
+    first ∙ sym (along_first c.args.row.now c.args.first c.args.count c.args.x one)
 
 pub returns : goal.returns
 returns c =

@@ -9,6 +9,15 @@ returns-clause-by_hand c = record {
   two_too_wide = refl;
   nested_contents = refl;
   wrapped_from_the_last = refl;
+  reach_of_high = refl;
+  scrolled_whole = refl;
+  flat = refl;
+  reach_of_flat = refl;
+  not_scrollable = refl;
+  reach_of_fixed = refl;
+  reach_of_column = refl;
+  offset_of_column = refl;
+  column_moved = refl;
 }
 
 pub returns-clause-made : goal.returns-clause-made

@@ -25,6 +25,16 @@ returns-clause-items c = record {
   no_image = refl;
 }
 
+pub returns-clause-bars : goal.returns-clause-bars
+returns-clause-bars c = record {
+  at_top = refl;
+  at_bottom = refl;
+  both_ways = refl;
+  in_small = refl;
+  none_fitting = refl;
+  none_fixed = refl;
+}
+
 pub returns-clause-sizes : goal.returns-clause-sizes
 unfolding lines run_width greatest
 returns-clause-sizes c = record {

@@ -64,6 +64,24 @@ returns-clause-right c = c.settle_listed.ensures.settles.right
 pub returns-clause-settled : goal.returns-clause-settled
 returns-clause-settled c = c.settle_listed.ensures.settles.settled
 
+pub returns-clause-reaches : goal.returns-clause-reaches
+returns-clause-reaches c = c.settle_listed.ensures.settles.scrolls.reaches
+
+pub returns-clause-gone_reaches : goal.returns-clause-gone_reaches
+returns-clause-gone_reaches c = c.settle_listed.ensures.settles.scrolls.gone_reaches
+
+pub returns-clause-other_reaches : goal.returns-clause-other_reaches
+returns-clause-other_reaches c = c.settle_listed.ensures.settles.scrolls.other_reaches
+
+pub returns-clause-offsets : goal.returns-clause-offsets
+returns-clause-offsets c = c.settle_listed.ensures.settles.scrolls.offsets
+
+pub returns-clause-gone_offsets : goal.returns-clause-gone_offsets
+returns-clause-gone_offsets c = c.settle_listed.ensures.settles.scrolls.gone_offsets
+
+pub returns-clause-other_offsets : goal.returns-clause-other_offsets
+returns-clause-other_offsets c = c.settle_listed.ensures.settles.scrolls.other_offsets
+
 pub returns-clause-naturals : goal.returns-clause-naturals
 returns-clause-naturals c = c.settle_listed.ensures.settles.naturals
 

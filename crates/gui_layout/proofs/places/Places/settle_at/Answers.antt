@@ -12,6 +12,9 @@ use Rattle.gui_layout.specs.Settled.{known_at, AllFit}
 use Rattle.gui_layout.specs.Solved.{limits_of, layout_of}
 use Rattle.gui_layout.specs.Tables.{told}
 use Rattle.gui_layout.specs.Views.{box_at}
+use Rattle.gui_layout.specs.Scrolls.{HoldsScrolls}
+use Rattle.gui_layout.proofs.Alike.{distinct-tree, tree-scrolled}
+use Rattle.gui_layout.proofs.Parts.{distinct_once}
 use Rattle.gui_layout.proofs.Climbing.{in_own_tree, is_above}
 use Rattle.gui_layout.proofs.Entering.{few, flat}
 use Rattle.gui_layout.proofs.Stepping.{lets-stand, root-fills}
@@ -98,6 +101,9 @@ returns c =
       there = there;
       encloses = encloses;
       fit = subst (λ (g : Forest ℕ). AllFit (map_forest (known_at box m) (tree_at g u))) forest done.fit;
+      scrolled = λ k i.
+          let distinct = distinct_once f once in
+          tree-scrolled box m f u k distinct (distinct-tree f u distinct there) (subst (λ (g : Forest ℕ). HoldsScrolls box m.widths m.natural_heights m.slots m.scrolls (tree_at g u)) forest done.scrolled) i;
       keeps = subst (λ (g : Forest ℕ). KeepsRest l m (tree_at g u)) forest done.others;
       lets = lets-stand scene l.boxes l m u scene.limits frame (parent_of f u) done.stands is_frame renewed;
       fills = root-fills scene l.boxes l m u scene.limits frame (parent_of f u) done.stands is_frame;

@@ -23,7 +23,8 @@ use Rattle.gui_layout.proofs.Listed.{some_listed}
 use Rattle.gui_layout.proofs.Marking.{marked-has}
 use Rattle.gui_layout.proofs.Renewals.{some-kept}
 use Rattle.gui_layout.specs.SettledBut.{in_marked}
-use Rattle.gui_layout.proofs.Staying.{box-alike, known-alike}
+use Rattle.gui_layout.specs.Scrolls.{scrolled_at}
+use Rattle.gui_layout.proofs.Staying.{box-alike, known-alike, scrolled-alike}
 use Rattle.gui_layout.proofs.Stepping.{mark-own}
 use Rattle.gui_layout.proofs.places.Places.settle_changed.Goals as goal
 use Rattle.gui_layout.proofs.places.Places.settle_changed.Goals.{After-enter_marked, After-renew_marked, After-settle_marked}
@@ -114,6 +115,29 @@ returns-clause-moves c =
           ∙ place-alike k old mid scene (alike e k there off) (sym (some-kept c.enter_marked.new.self.entries mid.entries k c.renew_marked.ensures.listed ∙ ap is_some (same g k there off)));
     }
 
+-- and so it is with what is told of how far children are scrolled
+pub returns-clause-scrolls : goal.returns-clause-scrolls
+returns-clause-scrolls c =
+    let e = (goal.at.returns-clause-scrolls c).After-renew_marked in
+    let g = (goal.at.returns-clause-scrolls c).After-enter_marked in
+    let scene = scene_of c.args.store.now in
+    let f = handles_of scene.trees in
+    let m = is_pending c.args.pending.now in
+    let us = c.settle_marked.new.solved.items in
+    let scrolls = c.settle_marked.ensures.scrolls in
+    let off : (k : ℕ) → has f k ≡ true → in_trees_at f us k ≡ false → m k ≡ false =
+    λ k there out. false_from_ne_true (m k) (λ on. both_ways (in_trees_at f us k) out (c.settle_marked.ensures.solves.whole k there on (c.settle_marked.ensures.all k there))) in
+    record {
+      scrolled = scrolls.scrolled;
+      kept = λ k there out.
+          scrolls.kept k there out
+          ∙ (ap (λ (l : Layout). scrolled_at l.scrolls k) c.renew_marked.ensures.rest
+          ∙ scrolled-alike k c.args.self.now.entries c.enter_marked.new.self.entries (same g k there (off k there out)));
+      known = λ k there out. scrolls.known k there out ∙ alike e k there (off k there out);
+      steady = scrolls.steady;
+      marked = scrolls.marked;
+    }
+
 pub returns-clause-settles : goal.returns-clause-settles
 returns-clause-settles c =
     let d = (goal.at.returns-clause-settles c).After-settle_marked in
@@ -145,6 +169,10 @@ returns-clause-settles c =
       gone_naturals = λ k is out.
           none-of naturals_in (value_at new.entries k) (gone k out (c.leave_gone.ensures.gone k (c.requires.listed k is) (subst (λ (t : Forest ℕ). has t k ≡ false) (sym c.tree-tree.ensures.forest) out)));
       other_naturals = λ k is out. naturals-alike k mid new scene (settles.others k is out) (standing k) ∙ naturals-alike k old mid scene (alike e k is (un k is out)) (stood k is (un k is out));
+      other_scrolls = λ k is out.
+          settles.scrolls k is out
+          ∙ (ap (λ (l : Layout). scrolled_at l.scrolls k) c.renew_marked.ensures.rest
+          ∙ scrolled-alike k old.entries c.enter_marked.new.self.entries (same g k is (un k is out)));
       right = λ s was. right scene old mid new m n (alike e) (boxed e) (renewed e) stands settles c.settle_marked.ensures.all s was;
       settled = λ was.
           let some : (k : ℕ) → is_some (value_at new.entries k) ≡ has f k =

@@ -1,18 +1,45 @@
-use Rattle.std.proofs.Common.{◌≡◌, ◌∙◌, sym, subst, ℕ, true, false, inl, inr}
+use Rattle.std.proofs.Common.{◌≡◌, ◌∙◌, ◌<◌, refl, sym, ap, subst, ℕ, zero, suc, Bool, true, false, Option, Some, None, List, get_or, inl, inr, arith}
+use Rattle.std.specs.Prelude.{is_some, option_map, IsSome}
+use Rattle.gui_layout.specs.declared.layout_box.LayoutBox.{LayoutBox}
+use Rattle.scene_defs.specs.Scene.{Scene}
+use Rattle.layout_defs.specs.OwnHeights.{but_height}
+use Rattle.gui_layout.specs.declared.places.Places.{Places}
+use Rattle.gui_layout.specs.declared.entry.Entry.{Entry}
+use Rattle.gui_layout.specs.Listing.{times}
+use Rattle.gui_layout.specs.Marked.{AllFillBut, AllFitBut, marked_trees}
+use Rattle.gui_layout.specs.Scenes.{scene_box}
+use Rattle.gui_layout.specs.Scrolls.{scrolled_at}
+use Rattle.gui_layout.specs.Scrolled.{IsScrolledIn}
+use Rattle.gui_layout.specs.Settled.{IsSettled, Known, Layout, known_at}
+use Rattle.gui_layout.specs.Settles.{known_in}
+use Rattle.gui_layout.specs.Solved.{AreStanding, layout_of, offset_in, place_at, reach_in}
+use Rattle.gui_layout.specs.Tables.{IsListed, area_in, listing_of}
+use Rattle.gui_layout.specs.Tops.{is_over}
+use Rattle.gui_layout.specs.Views.{box_at}
+use Rattle.gui_layout.proofs.Apart.{naturals-alike, none-of, place-alike}
+use Rattle.gui_layout.proofs.Climbing.{in_own_tree}
+use Rattle.gui_layout.proofs.Listed.{some_listed}
+use Rattle.gui_layout.proofs.Marking.{marked-has}
+use Rattle.gui_layout.proofs.Overs.{over-is}
+use Rattle.gui_layout.proofs.ReachSizes.{all-reached, marked-reached, offset-alike, reach-alike}
+use Rattle.gui_layout.proofs.Renewals.{some-kept}
+use Rattle.gui_layout.proofs.Rescrolled.{nobody-root, right-scrolled}
+use Rattle.gui_layout.proofs.Before.{marked-closed}
 use Rattle.std.proofs.lemmas.Bool.{cases_Bool, both_ways, false_from_ne_true}
-use Rattle.gui_base.specs.Forest.{Forest, has}
+use Rattle.gui_base.specs.Forest.{Forest, StandsOnce, children_of, has, map_forest}
 use Rattle.gui_pool.specs.Table.{value_at}
 use Rattle.gui_store.specs.Views.{scene_of}
 use Rattle.scene_defs.specs.Scene.{handles_of}
 use Rattle.gui_layout.specs.Pending.{is_marked_in, is_partly, is_pending}
 use Rattle.gui_layout.specs.Raised.{Rests}
-use Rattle.gui_layout.specs.SettledBut.{in_marked}
-use Rattle.gui_layout.proofs.Closing.{marked-places, marked-sizes}
+use Rattle.gui_layout.specs.SettledBut.{AreRightBut, AreRightButChanged, AreScrolledBut, anyone, in_marked, nobody}
+use Rattle.gui_layout.proofs.Closing.{marked-places, marked-settled, marked-sizes}
+use Rattle.gui_layout.proofs.Parts.{distinct_once}
 use Rattle.gui_layout.proofs.Pendings.{all-any, any-part, part-any}
 use Rattle.gui_layout.proofs.Grades.{narrowed, right-both, right-raised, settled-raised}
-use Rattle.gui_layout.proofs.Stepping.{marked-fewer}
+use Rattle.gui_layout.proofs.Stepping.{mark-inside, mark-own, marked-fewer}
 use Rattle.gui_layout.proofs.places.Places.settle_listed.Goals as goal
-use Rattle.gui_layout.proofs.places.Places.settle_listed.Goals.{After-raise_marks}
+use Rattle.gui_layout.proofs.places.Places.settle_listed.Goals.{After-raise_marks, After-settle_changed, After-renew_reaches}
 
 -- what is pending now was marked
 were : (c : After-raise_marks) (k : ℕ) → is_pending c.raise_marks.new.pending k ≡ true → is_marked_in c.args.pending.now k ≡ true
@@ -47,38 +74,192 @@ settle_changed-requires-clause-but c =
     narrowed c.args.self.now scene (in_marked w scene) (in_marked n scene) n (λ k i. marked-fewer w n k (handles_of scene.trees) (were d) i)
     (right-raised c.args.self.now scene (is_pending c.args.pending.now) (is_partly c.args.pending.now) n c.raise_marks.ensures.more (half d) (in_marked w scene) c.requires.but)
 
+-- all objects of the marked trees have entries then
+module _ (c : After-settle_changed) where
+  abbrev scene : Scene
+  scene = scene_of c.args.store.now
+
+  abbrev f : Forest ℕ
+  f = handles_of scene.trees
+
+  abbrev w : ℕ → Bool
+  w = is_marked_in c.args.pending.now
+
+  abbrev n : ℕ → Bool
+  n = is_pending c.raise_marks.new.pending
+
+  abbrev mid : Places
+  mid = c.settle_changed.new.self
+
+  abbrev raised : After-raise_marks
+  raised = (goal.at.After-settle_changed c).After-raise_marks
+
+  once : StandsOnce f
+  once = c.args.store.now.kept.valid.trees.once
+
+  -- what is looked at is right
+  right-mid : (s : ℕ → Bool) → AreRightBut c.args.self.now scene s (is_pending c.args.pending.now) (is_partly c.args.pending.now) → AreRightButChanged mid scene s nobody
+  right-mid s was = c.settle_changed.ensures.settles.right s (right-raised c.args.self.now scene (is_pending c.args.pending.now) (is_partly c.args.pending.now) n c.raise_marks.ensures.more (half raised) s was)
+
+  placed : (k : ℕ) → has (marked_trees w f) k ≡ true → IsListed (listing_of mid.entries) k
+  placed k is = some_listed mid.entries k ((right-mid (in_marked w scene) c.requires.but).placed k (marked-has w k f is) is refl)
+
+pub renew_reaches-requires-clause-there : goal.renew_reaches-requires-clause-there
+renew_reaches-requires-clause-there c u some = c.settle_changed.ensures.moves.tops u (subst (λ us. 0 < times us u) c.as_slice.ensures.value some)
+
+pub renew_reaches-requires-clause-above : goal.renew_reaches-requires-clause-above
+renew_reaches-requires-clause-above c u q some up k is =
+    let d = (goal.at.renew_reaches-requires-clause-above c).After-settle_changed in
+    placed d k (marked-fewer (w d) (n d) k (f d) (were (raised d)) (c.settle_changed.ensures.scrolls.marked u q (subst (λ us. 0 < times us u) c.as_slice.ensures.value some) up k is))
+
+pub renew_reaches-requires-clause-own : goal.renew_reaches-requires-clause-own
+renew_reaches-requires-clause-own c h some there k is =
+    let d = (goal.at.renew_reaches-requires-clause-own c).After-settle_changed in
+    placed d k (mark-inside (w d) h h k (f d) (c.requires.marked h some) (in_own_tree (f d) h (once d) there) is)
+
+-- Then reaches are read, and nothing else changes.
+module _ (c : After-renew_reaches) where
+  abbrev d : After-settle_changed
+  d = (goal.at.After-renew_reaches c).After-settle_changed
+
+  abbrev last : Places
+  last = c.renew_reaches.new.self
+
+  but_scrolls : layout_of last ≡ record (layout_of (mid d)) { scrolls = (layout_of last).scrolls }
+  but_scrolls = c.renew_reaches.ensures.reads.rest
+
+  some : (k : ℕ) → is_some (value_at (mid d).entries k) ≡ is_some (value_at last.entries k)
+  some k = sym (some-kept (mid d).entries last.entries k c.renew_reaches.ensures.listed)
+
+  knows : known_in last (scene d) ≡ known_in (mid d) (scene d)
+  knows = ap (λ (l : Layout). known_at (scene_box (scene d)) l) but_scrolls
+
+  known-last : (k : ℕ) → known_in last (scene d) k ≡ known_in (mid d) (scene d) k
+  known-last k = ap (λ (l : Layout). known_at (scene_box (scene d)) l k) but_scrolls
+
+  stands : (k : ℕ) → place_at last k ≡ place_at (mid d) k
+  stands k = place-alike k (mid d) last (scene d) (known-last k) (some k)
+
+  scrolled : (s : ℕ → Bool) → AreRightBut c.args.self.now (scene d) s (is_pending c.args.pending.now) (is_partly c.args.pending.now) → AreScrolledBut last (scene d) s nobody nobody
+  scrolled s was =
+      right-scrolled (scene d) c.args.self.now (mid d) last (is_pending c.args.pending.now) (is_partly c.args.pending.now) (n d) c.settle_changed.new.solved.items c.args.marked.now (once d)
+      c.settle_changed.ensures.scrolls c.settle_changed.ensures.moves.whole c.raise_marks.ensures.more (half (raised d)) c.renew_reaches.ensures.reads
+      (λ u q some up still. c.renew_reaches.ensures.above u q (subst (λ us. 0 < times us u) (sym c.as_slice.ensures.value) some) up still)
+      c.renew_reaches.ensures.own (λ k part. c.requires.listed k (part-any (value_at c.args.pending.now k) part)) s was (right-mid d s was)
+
+  right-last : (s : ℕ → Bool) → AreRightButChanged (mid d) (scene d) s nobody → AreRightButChanged last (scene d) s nobody
+  right-last s now = record {
+    boxes = λ k there looked un. ap (λ (l : Layout). but_height (box_at l.boxes k)) but_scrolls ∙ now.boxes k there looked un;
+    placed = λ k there looked un. sym (some k) ∙ now.placed k there looked un;
+    fit = subst (λ (known : ℕ → Known). AllFitBut s nobody known (f d)) (sym knows) now.fit;
+    fill = subst (λ (known : ℕ → Known). AllFillBut s nobody (scene d).limits.width (scene d).limits.height known (f d)) (sym knows) now.fill;
+  }
+
+  -- outside of the marked trees what is told of how far children are scrolled stays
+  kept : (k : ℕ) → has (f d) k ≡ true → in_marked (w d) (scene d) k ≡ false → scrolled_at (layout_of last).scrolls k ≡ scrolled_at (layout_of c.args.self.now).scrolls k
+  kept k there out =
+      let us = c.settle_changed.new.solved.items in
+      let unmarked : times c.args.marked.now k ≡ 0 = none-times (times c.args.marked.now k) (λ some. both_ways (in_marked (w d) (scene d) k) out (mark-own (w d) k (f d) (c.requires.marked k some) there)) in
+      let out_n : in_marked (n d) (scene d) k ≡ false = false_from_ne_true (in_marked (n d) (scene d) k) (λ i. both_ways (in_marked (w d) (scene d) k) out (marked-fewer (w d) (n d) k (f d) (were (raised d)) i)) in
+      let not_over : is_over (f d) us k ≡ false =
+      false_from_ne_true (is_over (f d) us k) (λ i.
+      let o = over-is (f d) us k i in
+      both_ways (in_marked (n d) (scene d) k) out_n (c.settle_changed.ensures.scrolls.marked o.top k o.listed o.parent k (in_own_tree (f d) k (once d) there))) in
+      c.renew_reaches.ensures.others k (subst (λ vs. is_over (f d) vs k ≡ false) (sym c.as_slice.ensures.value) not_over) unmarked
+      ∙ c.settle_changed.ensures.settles.other_scrolls k there out_n
+    where
+      none-times : (m : ℕ) → (0 < m → ⊥) → m ≡ 0
+      none-times zero not = refl
+      none-times (suc m) not = absurd (not (omega arith))
+
+  -- all that stood right stands so
+  standing-last : AreStanding (mid d) (scene d) → AreStanding last (scene d)
+  standing-last stand = record {
+    boxes = λ k boxed.
+        let was : IsSome (get_or (layout_of (mid d)).boxes k None) = subst (λ (bs : List (Option LayoutBox)). IsSome (get_or bs k None)) (ap (λ (l : Layout). l.boxes) but_scrolls) boxed in
+        ap (λ (l : Layout). but_height (box_at l.boxes k)) but_scrolls ∙ stand.boxes k was;
+    settled = subst (λ (known : ℕ → Known). IsSettled (scene d).limits.width (scene d).limits.height (map_forest known (f d))) (sym knows) stand.settled;
+    there = λ k. sym (some k) ∙ stand.there k;
+    solved = λ k. stands k ∙ stand.solved k;
+  }
+
 pub returns-clause-moves : goal.returns-clause-moves
 returns-clause-moves c =
+    let e = (goal.at.returns-clause-moves c).After-renew_reaches in
     let moves = c.settle_changed.ensures.moves in
     record {
       tops = moves.tops;
       whole = λ k there is. moves.whole k there (c.raise_marks.ensures.more k is);
-      stays = moves.stays;
+      stays = λ k there out. stands e k ∙ moves.stays k there out;
     }
+
+-- where there is no place, there is no entry
+no-entry : (t : Option Entry) → option_map area_in t ≡ None → is_some t ≡ false
+no-entry None none = refl
+no-entry (Some e) none = cc
 
 pub returns-clause-settles : goal.returns-clause-settles
 returns-clause-settles c =
-    let d = (goal.at.returns-clause-settles c).After-raise_marks in
+    let e = (goal.at.returns-clause-settles c).After-renew_reaches in
+    let d = (goal.at.returns-clause-settles c).After-settle_changed in
     let scene = scene_of c.args.store.now in
     let f = handles_of scene.trees in
+    let valid = c.args.store.now.kept.valid in
+    let distinct = distinct_once f valid.trees.once in
     let old = c.args.self.now in
-    let new = c.settle_changed.new.self in
+    let mid = c.settle_changed.new.self in
+    let new = c.renew_reaches.new.self in
     let w = is_marked_in c.args.pending.now in
     let m = is_pending c.args.pending.now in
     let p = is_partly c.args.pending.now in
     let n = is_pending c.raise_marks.new.pending in
     let more = c.raise_marks.ensures.more in
+    let raised = (goal.at.returns-clause-settles c).After-raise_marks in
     let done = c.settle_changed.ensures.settles in
-    let now = done.right (in_marked w scene) (right-raised old scene m p n more (half d) (in_marked w scene) c.requires.but) in
-    let unmarked : (k : ℕ) → in_marked w scene k ≡ false → in_marked n scene k ≡ false = λ k out. false_from_ne_true (in_marked n scene k) (λ i. both_ways (in_marked w scene k) out (marked-fewer w n k f (were d) i)) in
-    let pending : (k : ℕ) → w k ≡ true → has f k ≡ false → n k ≡ true = λ k is out. elim (cases_Bool (n k)) [ inl on ↦ on | inr none ↦ absurd (both_ways (has f k) out (rest d k is none).there) ] in
+    let s = in_marked w scene in
+    let now = right-last e s (right-mid d s c.requires.but) in
+    let settled = marked-settled scene new w now in
+    let scrolls : (k : ℕ) → s k ≡ true → IsScrolledIn (known_in new scene) (layout_of new).scrolls f k =
+    λ k is. scrolled e s c.requires.but k (marked-has w k f is) is refl refl (record { looked = λ j kid. marked-closed w k j f distinct is kid; unchanged = nobody-root (children_of f k) }) in
+    let reached = λ (k : ℕ) (is : s k ≡ true). marked-reached scene valid new.entries w settled scrolls k is (now.placed k (marked-has w k f is) is refl) in
+    let unmarked : (k : ℕ) → in_marked w scene k ≡ false → in_marked n scene k ≡ false = λ k out. false_from_ne_true (in_marked n scene k) (λ i. both_ways (in_marked w scene k) out (marked-fewer w n k f (were raised) i)) in
+    let pending : (k : ℕ) → w k ≡ true → has f k ≡ false → n k ≡ true = λ k is out. elim (cases_Bool (n k)) [ inl on ↦ on | inr none ↦ absurd (both_ways (has f k) out (rest raised k is none).there) ] in
+    let gone : (k : ℕ) → w k ≡ true → has f k ≡ false → is_some (value_at new.entries k) ≡ false = λ k is out. sym (some e k) ∙ no-entry (value_at mid.entries k) (done.gone k (pending k is out) out) in
+    let same : (k : ℕ) → has f k ≡ true → in_marked w scene k ≡ false → is_some (value_at old.entries k) ≡ is_some (value_at new.entries k) =
+    λ k there out. sym (same-place (value_at old.entries k) (value_at mid.entries k) (done.others k there (unmarked k out))) ∙ some e k in
     record {
-      solved = marked-places scene new w now c.tree.ensures.valid;
-      gone = λ k is out. done.gone k (pending k is out) out;
-      others = λ k there out. done.others k there (unmarked k out);
-      naturals = marked-sizes scene new w now c.tree.ensures.valid;
-      gone_naturals = λ k is out. done.gone_naturals k (pending k is out) out;
-      other_naturals = λ k there out. done.other_naturals k there (unmarked k out);
-      right = λ s was. right-both new scene s (done.right s (right-raised old scene m p n more (half d) s was));
-      settled = λ was. done.settled (settled-raised old scene m p n more (half d) was);
+      solved = marked-places scene new w now valid;
+      gone = λ k is out. stands e k ∙ done.gone k (pending k is out) out;
+      others = λ k there out. stands e k ∙ done.others k there (unmarked k out);
+      naturals = marked-sizes scene new w now valid;
+      gone_naturals = λ k is out. naturals-alike k mid new scene (known-last e k) (some e k) ∙ done.gone_naturals k (pending k is out) out;
+      other_naturals = λ k there out. naturals-alike k mid new scene (known-last e k) (some e k) ∙ done.other_naturals k there (unmarked k out);
+      scrolls = record {
+        reaches = λ k is. (reached k is).reaches;
+        offsets = λ k is. (reached k is).offsets;
+        gone_reaches = λ k is out. none-of reach_in (value_at new.entries k) (gone k is out);
+        gone_offsets = λ k is out. none-of offset_in (value_at new.entries k) (gone k is out);
+        other_reaches = λ k there out. reach-alike k old.entries new.entries (kept e k there out) (same k there out);
+        other_offsets = λ k there out. offset-alike k old.entries new.entries (kept e k there out) (same k there out);
+      };
+      right = λ s was. right-both new scene s (right-last e s (right-mid d s was)) (scrolled e s was);
+      settled = λ was.
+          let stand = done.settled (settled-raised old scene m p n more (half raised) was) in
+          let stands_now = standing-last e stand in
+          let told_right = λ (k : ℕ) (there : has f k ≡ true). scrolled e anyone was.right k there refl refl refl (record { looked = λ j kid. refl; unchanged = nobody-root (children_of f k) }) in
+          let shown = all-reached scene valid new.entries stands_now.settled told_right stands_now.there in
+          record {
+            boxes = stands_now.boxes;
+            settled = stands_now.settled;
+            there = stands_now.there;
+            solved = stands_now.solved;
+            scrolled = told_right;
+            reached = record { reaches = λ h. (shown h).reaches; offsets = λ h. (shown h).offsets };
+          };
     }
+  where
+    same-place : (t u : Option Entry) → option_map area_in u ≡ option_map area_in t → is_some u ≡ is_some t
+    same-place None None is = refl
+    same-place None (Some e) is = cc
+    same-place (Some e) None is = cc
+    same-place (Some e) (Some g) is = refl

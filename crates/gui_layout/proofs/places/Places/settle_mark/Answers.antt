@@ -5,6 +5,7 @@ use Rattle.scene_defs.specs.Scene.{handles_of}
 use Rattle.gui_layout.specs.Pending.{is_pending}
 use Rattle.gui_layout.proofs.Climbing.{in_own_tree}
 use Rattle.gui_layout.proofs.Stepping.{mark-inside, settles-none, settles-one}
+use Rattle.gui_layout.proofs.Overs.{scrolls-none, scrolls-one}
 use Rattle.gui_layout.proofs.Tops.{solves-none, solves-one}
 use Rattle.gui_layout.proofs.places.Places.settle_mark.Goals as goal
 
@@ -35,6 +36,19 @@ returns-then-not-is_pending-clause-solves c = solves-none (scene_of c.args.store
 
 pub returns-then-not-has-clause-solves : goal.returns-then-not-has-clause-solves
 returns-then-not-has-clause-solves c = solves-none (scene_of c.args.store.now) c.args.self.now (is_pending c.args.pending.now)
+
+pub returns-then-not-is_pending-clause-scrolls : goal.returns-then-not-is_pending-clause-scrolls
+returns-then-not-is_pending-clause-scrolls c = scrolls-none (scene_of c.args.store.now) c.args.self.now (is_pending c.args.pending.now)
+
+pub returns-then-not-has-clause-scrolls : goal.returns-then-not-has-clause-scrolls
+returns-then-not-has-clause-scrolls c = scrolls-none (scene_of c.args.store.now) c.args.self.now (is_pending c.args.pending.now)
+
+pub returns-clause-scrolls : goal.returns-clause-scrolls
+returns-clause-scrolls c =
+    let scene = scene_of c.args.store.now in
+    let h = c.args.h.0 in
+    let there : has (handles_of scene.trees) h ≡ true = subst (λ (g : Forest ℕ). has g h ≡ true) c.tree-tree.ensures.forest (sym c.has.ensures ∙ c.if-not-has.false) in
+    scrolls-one scene c.tree-tree.ensures.valid.trees.once c.args.self.now c.settle_at-top.new.self (is_pending c.args.pending.now) h c.settle_at-top.result (sym c.is_pending.ensures ∙ c.if-not-is_pending.false) there c.settle_at-top.ensures
 
 pub returns-clause-solves : goal.returns-clause-solves
 returns-clause-solves c =

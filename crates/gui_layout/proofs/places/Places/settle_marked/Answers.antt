@@ -10,7 +10,8 @@ use Rattle.gui_layout.specs.Pending.{is_pending}
 use Rattle.gui_layout.specs.Tables.{Listing, IsListed}
 use Rattle.gui_layout.proofs.Stepping.{marked-fewer, settles-none, settles-then}
 use Rattle.gui_layout.proofs.Tops.{one-listed, solves-none, solves-then}
-use Rattle.gui_layout.specs.Tops.{SolvesAt}
+use Rattle.gui_layout.specs.Tops.{ScrollsAt, SolvesAt}
+use Rattle.gui_layout.proofs.Overs.{scrolls-none, scrolls-then}
 use Rattle.std.specs.Option.{option_to_list}
 use Rattle.gui_layout.proofs.places.Places.settle_marked.Goals as goal
 
@@ -29,6 +30,7 @@ pub loop-h-init : goal.loop-h-init
 loop-h-init c = record {
   settles = settles-none (scene_of c.args.store.now) c.args.self.now (is_pending c.args.pending.now);
   solves = subst (λ us. SolvesAt c.args.self.now c.args.self.now (scene_of c.args.store.now) (is_pending c.args.pending.now) (is_pending c.args.pending.now) us) (sym c.requires.empty) (solves-none (scene_of c.args.store.now) c.args.self.now (is_pending c.args.pending.now));
+  scrolls = subst (λ us. ScrollsAt c.args.self.now c.args.self.now (scene_of c.args.store.now) (is_pending c.args.pending.now) us) (sym c.requires.empty) (scrolls-none (scene_of c.args.store.now) c.args.self.now (is_pending c.args.pending.now));
   few = rw c.requires.empty (omega arith);
   left = λ k is there. c.requires.marked k is;
   marks = refl;
@@ -62,6 +64,8 @@ loop-h-preserved c =
       settles = settles-then scene c.args.self.now c.loop-h.self c.settle_mark-top.new.self (is_pending c.args.pending.now) (is_pending c.loop-h.pending) (is_pending pending) inv.settles done.settles;
       solves = subst (λ us. SolvesAt c.args.self.now c.settle_mark-top.new.self scene (is_pending c.args.pending.now) (is_pending pending) us) (sym c.add_any.ensures.items)
           (solves-then scene c.args.self.now c.loop-h.self c.settle_mark-top.new.self (is_pending c.args.pending.now) (is_pending c.loop-h.pending) (is_pending pending) c.loop-h.solved.items (option_to_list c.settle_mark-top.result) inv.solves done.solves);
+      scrolls = subst (λ us. ScrollsAt c.args.self.now c.settle_mark-top.new.self scene (is_pending c.args.pending.now) us) (sym c.add_any.ensures.items)
+          (scrolls-then scene c.args.store.now.kept.valid.trees.once c.args.self.now c.loop-h.self c.settle_mark-top.new.self (is_pending c.args.pending.now) (is_pending c.loop-h.pending) c.loop-h.solved.items (option_to_list c.settle_mark-top.result) inv.settles.fewer inv.scrolls done.scrolls);
       few =
           let more = one-listed c.loop-h.solved.items c.settle_mark-top.result in
           let before = inv.few in

@@ -1,13 +1,18 @@
-use Rattle.std.proofs.Common.{◌≡◌, ◌≤◌, ap, sym, subst, ℕ, arith}
+use Rattle.std.proofs.Common.{◌≡◌, ◌≤◌, ap, sym, subst, ℕ, true, arith}
 use Rattle.std.specs.Prelude.{is_some}
 use Rattle.gui_base.specs.Forest.{has, size}
 use Rattle.gui_base.specs.Limits.{Bounds}
 use Rattle.scene_defs.specs.Scene.{handles_of}
 use Rattle.gui_store.specs.Views.{scene_of}
 use Rattle.gui_pool.specs.Table.{value_at}
-use Rattle.gui_layout.specs.Settled.{known, IsSettled}
+use Rattle.gui_layout.specs.Settled.{known, known_at, IsSettled}
 use Rattle.gui_layout.specs.Tables.{listing_of, AreListed, told}
 use Rattle.gui_layout.specs.Scenes.{scene_box}
+use Rattle.gui_layout.specs.Scrolled.{IsScrolledIn}
+use Rattle.gui_layout.specs.Scrolls.{HoldsScrolls}
+use Rattle.gui_layout.proofs.Alike.{all-scrolled}
+use Rattle.gui_layout.proofs.Parts.{distinct_once}
+use Rattle.gui_layout.proofs.ReachSizes.{all-reached}
 use Rattle.gui_layout.proofs.Entering.{few, flat, all_placed}
 use Rattle.gui_layout.proofs.NaturalSizes.{all-naturals}
 use Rattle.gui_layout.proofs.Fitting.{settled_placed}
@@ -59,6 +64,14 @@ settled c =
     let high : self.limits.height ≡ scene.limits.height = ap (λ (b : Bounds). b.height) c.requires.limits in
     rw (← wide, ← high, ← c.tree.ensures.forest) c.solve_trees.ensures.settled
 
+scrolled : (c : After-solve_trees) (k : ℕ) → let scene = scene_of c.args.store.now in
+    has (handles_of scene.trees) k ≡ true → IsScrolledIn (known_at (scene_box scene) (told c.solve_trees.new.entries)) (told c.solve_trees.new.entries).scrolls (handles_of scene.trees) k
+scrolled c k there =
+    let scene = scene_of c.args.store.now in
+    let l = told c.solve_trees.new.entries in
+    all-scrolled (scene_box scene) l (handles_of scene.trees) k (distinct_once (handles_of scene.trees) c.tree.ensures.valid.trees.once)
+    (subst (HoldsScrolls (scene_box scene) l.widths l.natural_heights l.slots l.scrolls) c.tree.ensures.forest c.solve_trees.ensures.scrolled) there
+
 some : (c : After-solve_trees) (h : ℕ) → is_some (value_at c.solve_trees.new.entries h) ≡ has (handles_of (scene_of c.args.store.now).trees) h
 some c =
     let self = c.args.self.now in
@@ -75,6 +88,10 @@ returns-clause-settled c =
       settled = settled d;
       there = some d;
       solved = all_placed scene c.tree.ensures.valid t (some d) (settled_placed (scene_box scene) (told t) scene.limits.width scene.limits.height (handles_of scene.trees) (settled d));
+      scrolled = scrolled d;
+      reached =
+          let shown = all-reached scene c.tree.ensures.valid t (settled d) (scrolled d) (some d) in
+          record { reaches = λ h. (shown h).reaches; offsets = λ h. (shown h).offsets };
     }
 
 pub returns-clause-naturals : goal.returns-clause-naturals

@@ -4,4 +4,6 @@
 #[cfg(test)]
 mod hearing;
 #[cfg(test)]
+mod panel;
+#[cfg(test)]
 mod pixels;

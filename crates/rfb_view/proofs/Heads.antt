@@ -1,9 +1,10 @@
 -- The first bytes of a part tell its size.
-use Rattle.std.proofs.Common.{◌≡◌, ◌∙◌, sym, ap, refl, ℕ, zero, suc, ◌+◌, ◌<◌, ◌≤◌, nat_lt, List, [], ◌∷◌, ◌++◌, length, take, length-take, arith}
+use Rattle.std.proofs.Common.{◌≡◌, ◌∙◌, sym, ap, refl, ℕ, zero, suc, ◌+◌, ◌<◌, ◌≤◌, ◌==◌, nat_lt, List, [], ◌∷◌, ◌++◌, length, take, length-take, arith}
 use Rattle.std.proofs.lemmas.Bool.Decides.{nat_tests}
 use Rattle.std.proofs.lemmas.List.{get_or-take, take_all, take-append-le, length_push}
 use Rattle.session_defs.specs.Messages.{size_of_message, message_of}
 use Rattle.session_defs.specs.Parts.{size_after}
+use Rattle.session_defs.specs.Sessions.{is_none_left}
 use Rattle.rfb_view.specs.Hearing.{HearingState, HasHeard}
 
 short_same : (bytes : List ℕ) (n : ℕ) → n < 20 → nat_lt (length (take 20 bytes)) n ≡ nat_lt (length bytes) n
@@ -71,3 +72,8 @@ head_full bytes byte h = let long : 20 ≤ length bytes = omega (arith, length-t
 -- a part of few bytes is all there
 pub whole_head : (hearing : HearingState) (bytes : List ℕ) → HasHeard hearing bytes → hearing.count ≤ 20 → hearing.head ≡ bytes
 whole_head hearing bytes h few = h.head ∙ take_all 20 bytes (omega (arith, h.count))
+
+-- nothing was heard where no byte was counted
+pub none_heard : (hearing : HearingState) (bytes : List ℕ) → HasHeard hearing bytes → (hearing.count == 0) ≡ is_none_left bytes
+none_heard hearing [] h = rw h.count (grind (arith, nat_tests))
+none_heard hearing (b ∷ bytes) h = rw h.count (grind (arith, nat_tests))

@@ -17,7 +17,7 @@ use Rattle.session_defs.specs.Updates.{Sight, has_pixel, pixel_area, is_news, is
 use Rattle.session_defs.proofs.Reading.{nat_is, end_is, corners_are}
 use Rattle.rfb_view.specs.Sights.{is_untold, with_untold}
 
-range_split : (a m n : ℕ) → range_with_len a (m + n) ≡ range_with_len a m ++ range_with_len (a + m) n
+pub range_split : (a m n : ℕ) → range_with_len a (m + n) ≡ range_with_len a m ++ range_with_len (a + m) n
 range_split a zero n =
     let many : 0 + n ≡ n = omega arith in
     let here : a ≡ a + 0 = omega arith in
@@ -50,23 +50,23 @@ abbrev pub block : ℕ → ℕ → ℕ → ℕ → Rect
 block left top columns lines = area_at (pos left) (pos top) columns lines
 
 -- which pixels it has
-has_in : (l t c n x y : ℕ) → l ≤ x → x < l + c → t ≤ y → y < t + n → has (block l t c n) (pos x) (pos y) ≡ true
+pub has_in : (l t c n x y : ℕ) → l ≤ x → x < l + c → t ≤ y → y < t + n → has (block l t c n) (pos x) (pos y) ≡ true
 has_in l t c n x y left right up down = grind (arith, ints, nat_tests)
 
-out_left : (l t c n x y : ℕ) → x < l → has (block l t c n) (pos x) (pos y) ≡ false
+pub out_left : (l t c n x y : ℕ) → x < l → has (block l t c n) (pos x) (pos y) ≡ false
 out_left l t c n x y h = grind (arith, ints, nat_tests)
 
-out_right : (l t c n x y : ℕ) → l + c ≤ x → has (block l t c n) (pos x) (pos y) ≡ false
+pub out_right : (l t c n x y : ℕ) → l + c ≤ x → has (block l t c n) (pos x) (pos y) ≡ false
 out_right l t c n x y h = grind (arith, ints, nat_tests)
 
-out_up : (l t c n x y : ℕ) → y < t → has (block l t c n) (pos x) (pos y) ≡ false
+pub out_up : (l t c n x y : ℕ) → y < t → has (block l t c n) (pos x) (pos y) ≡ false
 out_up l t c n x y h = grind (arith, ints, nat_tests)
 
-out_down : (l t c n x y : ℕ) → t + n ≤ y → has (block l t c n) (pos x) (pos y) ≡ false
+pub out_down : (l t c n x y : ℕ) → t + n ≤ y → has (block l t c n) (pos x) (pos y) ≡ false
 out_down l t c n x y h = grind (arith, ints, nat_tests)
 
 -- a pixel of a line
-has_at : (width : ℕ) (area : Rect) (y x i : ℕ) → x < width → i ≡ y * width + x → has_pixel width area i ≡ has area (pos x) (pos y)
+pub has_at : (width : ℕ) (area : Rect) (y x i : ℕ) → x < width → i ≡ y * width + x → has_pixel width area i ≡ has area (pos x) (pos y)
 has_at width area y x i h e = rw (e, mod-mul-add y width x h, div-mul-add y width x h) refl
 
 -- an area inside of a panel

@@ -1,6 +1,14 @@
+pub mod Blocks
+pub mod Cuts
+pub mod Endings
+pub mod Greetings
 pub mod Hearing
 pub mod Messages
 pub mod Reading
+pub mod Running
 pub mod Sights
 pub mod Status
+pub mod Talking
+pub mod Telling
 pub mod ViewPanel
+pub mod Words

@@ -1,11 +1,11 @@
 //! Hears what a viewer says, part by part: its version, the choice of a security, a byte on sharing, and
 //! messages.
-ghost use Rattle.std.specs.Prelude.{◌≡◌, ◌<◌, ◌+◌, ◌^◌, ◌==◌, ◌∷◌, ◌++◌, [], List, ℕ, length, bytes_eq};
+ghost use Rattle.std.specs.Prelude.{◌≡◌, ◌<◌, ◌+◌, ◌^◌, ◌==◌, ◌∷◌, ◌++◌, [], List, ℕ, length, bytes_eq, true};
 ghost use Rattle.session_defs.specs.Messages.{size_of_message, message_of};
 ghost use Rattle.session_defs.specs.Parts.{size_after};
-ghost use Rattle.session_defs.specs.Sessions.{version};
+ghost use Rattle.session_defs.specs.Sessions.{version, is_none_left};
 ghost use Rattle.rfb_view.specs.Hearing.{HasHeard};
-ghost use Rattle.rfb_view.specs.Messages.{meaning_of};
+ghost use Rattle.rfb_view.specs.Messages.{meaning_of, IsSayable};
 
 use crate::messages::{Message, message_of};
 use arrayvec::ArrayVec;
@@ -61,11 +61,20 @@ impl Hearing {
         }
     }
 
+    /// Whether nothing is heard yet.
+    #[tactic(auto, using(crate::proofs::Heads::none_heard))]
+    pub fn is_new(&self) -> bool
+        ensures { (bytes : List ℕ) → HasHeard self.now bytes → result ≡ is_none_left bytes }
+    {
+        self.count == 0
+    }
+
     /// How many bytes the part has that comes after so many others, as far as its first bytes tell.
     #[tactic(auto, using(crate::proofs::Heads::size_by_head))]
     fn size(&self, parts: u8) -> u64
         requires { 0 < length self.now.head }
-        ensures { (bytes : List ℕ) → HasHeard self.now bytes → result ≡ size_after parts bytes }
+        ensures all { (bytes : List ℕ) → HasHeard self.now bytes → result ≡ size_after parts bytes }
+        ensures head { result ≡ size_after parts self.now.head }
     {
         match parts {
             0 => 12,
@@ -97,6 +106,7 @@ impl Hearing {
             HasHeard self.new (bytes ++ byte ∷ []) }
         ensures whole { (bytes : List ℕ) → HasHeard self.old bytes →
             result ≡ (length (bytes ++ byte ∷ []) == size_after parts (bytes ++ byte ∷ [])) }
+        ensures size { result ≡ true → self.new.count ≡ size_after parts self.new.head }
         ensures counts { self.new.count ≡ self.old.count + 1 }
     {
         self.take(byte);
@@ -124,7 +134,8 @@ impl Hearing {
     /// What a message says that was heard whole.
     #[tactic(auto, using(crate::proofs::Heads::said_by_head))]
     pub fn message(&self) -> Message
-        ensures { (heard : List ℕ) → HasHeard self.now heard → meaning_of result ≡ message_of heard }
+        ensures meaning { (heard : List ℕ) → HasHeard self.now heard → meaning_of result ≡ message_of heard }
+        ensures sayable { IsSayable result }
     {
         message_of(self.head.as_slice())
     }

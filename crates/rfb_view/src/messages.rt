@@ -1,11 +1,12 @@
 //! What a viewer says in a message.
-ghost use Rattle.std.specs.Prelude.{◌≡◌, pos};
+ghost use Rattle.std.specs.Prelude.{◌≡◌, pos, true, IfSome};
 ghost use Rattle.gui_base.specs.Area.{area_at};
 ghost use Rattle.gui_base.specs.Corners.{rect_of};
+ghost use Rattle.run_defs.specs.Step.{IsCommand};
 ghost use Rattle.session_defs.specs.Bytes.{sixteen_at};
 ghost use Rattle.session_defs.specs.Formats.{is_channel, is_format, read_format, format_at};
 ghost use Rattle.session_defs.specs.Messages.{key_of, pressed, pointed, message_of};
-ghost use Rattle.rfb_view.specs.Messages.{meaning_of};
+ghost use Rattle.rfb_view.specs.Messages.{meaning_of, IsSayable};
 
 use crate::bytes::{byte_at, sixteen_at, thirty_two_at};
 use gui_base::{Area, Key};
@@ -31,8 +32,10 @@ pub enum Message {
 const FARTHEST: u16 = 4000;
 
 /// What a message says, by its first twenty bytes or by all that it has.
+#[tactic(auto, using(crate::proofs::Sayings::sayable_input, crate::proofs::Sayings::sayable_format))]
 pub fn message_of(head: &[u8]) -> Message
-    ensures { meaning_of result ≡ message_of head.now }
+    ensures meaning { meaning_of result ≡ message_of head.now }
+    ensures sayable { IsSayable result }
 {
     match byte_at(head, 0) {
         0 => match format_in(head) {
@@ -56,7 +59,8 @@ pub fn message_of(head: &[u8]) -> Message
 
 /// The format that a message asks for, where it may be asked for.
 fn format_in(head: &[u8]) -> Option<Format>
-    ensures { result ≡ format_at head.now 4 }
+    ensures format { result ≡ format_at head.now 4 }
+    ensures may { IfSome result (λ format. is_format format ≡ true) }
 {
     let format = read_format(head);
     if byte_at(head, 7) != 0 && is_format(format) {
@@ -134,7 +138,8 @@ fn key_of(symbol: u32) -> Option<Key>
 
 /// The input of a key that goes down, or up.
 fn pressed(symbol: u32, down: bool) -> Option<Command<'static>>
-    ensures { result ≡ pressed (key_of symbol) down }
+    ensures input { result ≡ pressed (key_of symbol) down }
+    ensures command { IfSome result IsCommand }
 {
     match key_of(symbol) {
         Some(key) => Some(Command::Key(key, down)),
@@ -144,7 +149,8 @@ fn pressed(symbol: u32, down: bool) -> Option<Command<'static>>
 
 /// The input of a pointer: it is down where the first bit of the mask of its buttons is set.
 fn pointed(mask: u8, x: u16, y: u16) -> Command<'static>
-    ensures { result ≡ pointed mask x y }
+    ensures input { result ≡ pointed mask x y }
+    ensures command { IsCommand result }
 {
     if mask % 2 == 1 {
         Command::Touch(i32::from(x.min(FARTHEST)), i32::from(y.min(FARTHEST)))

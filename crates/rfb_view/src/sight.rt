@@ -1,14 +1,21 @@
 //! What a viewer was told of a picture, and what of the picture is news.
-ghost use Rattle.std.specs.Prelude.{◌≡◌, ◌+◌, ◌*◌, ◌≤◌, ◌<◌, length, true, pos, IfOk};
+ghost use Rattle.std.specs.Prelude.{◌≡◌, ◌+◌, ◌*◌, ◌≤◌, ◌<◌, length, true, pos, IfOk, OnOk, OnErr};
+ghost use Rattle.std.specs.Io.KnownBytes.{Appends};
 ghost use Rattle.gui_base.specs.Area.{area_at, is_within};
 ghost use Rattle.gui_base.specs.Corners.{rect_of};
 ghost use Rattle.gui_color.specs.Buffer.{no_pixel};
+ghost use Rattle.gui_edge.specs.Causes.{HasCause};
+ghost use Rattle.gui_edge.specs.Sink.{AppendsPrefix};
 ghost use Rattle.session_defs.specs.Formats.{is_format, number};
-ghost use Rattle.session_defs.specs.Updates.{in_format, asked, is_number, known_at, news_area};
-ghost use Rattle.rfb_view.specs.Sights.{untold, with_untold};
+ghost use Rattle.session_defs.specs.Updates.{in_format, asked, is_number, known_at, news_area, answered};
+ghost use Rattle.rfb_view.specs.Blocks.{block_area};
+ghost use Rattle.rfb_view.specs.Sights.{untold, with_untold, IsSight, area_due, told, told_run};
 
+use crate::block::{Block, block_of};
 use crate::pixels::number;
+use crate::update::put_update;
 use gui_base::{Area, NoMemory, Rgb565};
+use gui_edge::{Failed, Sink};
 use session_defs::{Channel, Format};
 use std::alloc::Global;
 use std::marker::Model;
@@ -60,31 +67,6 @@ fn no_pixel() -> Area
         y1: 0,
         x2: -1,
         y2: -1,
-    }
-}
-
-/// An area inside of a panel: its first column and line, and how many of each it has.
-#[derive(Clone, Copy)]
-struct Block {
-    left: u16,
-    top: u16,
-    columns: u16,
-    lines: u16,
-}
-
-/// The columns and lines of an area inside of a panel with these sizes.
-fn block_of(width: u16, height: u16, area: Area) -> Block
-    requires { is_within (area_at (pos 0) (pos 0) width height) (rect_of area) ≡ true }
-    ensures block { rect_of area ≡ area_at (pos result.left) (pos result.top) result.columns result.lines }
-    ensures wide { result.left + result.columns ≤ width }
-    ensures high { result.top + result.lines ≤ height }
-    ensures some { 0 < width }
-{
-    Block {
-        left: area.x1 as u16,
-        top: area.y1 as u16,
-        columns: area.width() as u16,
-        lines: area.height() as u16,
     }
 }
 
@@ -187,6 +169,80 @@ impl Sight {
         match self.sent[place] {
             None => false,
             Some(sent) => number(self.format, sent) == number(self.format, color),
+        }
+    }
+
+    /// The area that is to be sent now: that of the open request, or where changes are wanted the least one
+    /// with what is news of it. It has no pixel where nothing is to be sent.
+    fn area_due(&self, changes: bool, width: u16, height: u16, colors: &[Rgb565]) -> Area
+        requires each { length colors.now ≡ width * height }
+        requires ready { IsSight width height self.now }
+        ensures { rect_of result ≡ area_due width colors.now changes self.now }
+    {
+        match self.request {
+            None => no_pixel(),
+            Some(area) => {
+                if changes {
+                    self.news_area(width, height, colors, area)
+                } else {
+                    area
+                }
+            }
+        }
+    }
+
+    /// Answers the open request, if there is one: at once with its area, or where changes are wanted with what
+    /// changed of it, if anything did. `colors` are those of the panel, row by row.
+    pub fn answer<O: Sink>(
+        &mut self,
+        changes: bool,
+        width: u16,
+        height: u16,
+        colors: &[Rgb565],
+        out: &mut O,
+    ) -> Result<(), Failed>
+        requires few { width ≤ 1024 }
+        requires each { length colors.now ≡ width * height }
+        requires ready { IsSight width height self.old }
+        ensures ready { OnOk result (IsSight width height self.new) }
+        ensures sight { OnOk result (self.new ≡ (answered width colors.now changes self.old).sight) }
+        ensures ok { OnOk result (Appends (O.state out.old).held (O.state out.new).held
+            (answered width colors.now changes self.old).bytes) }
+        ensures err { OnErr result (AppendsPrefix (O.state out.old).held (O.state out.new).held
+            (answered width colors.now changes self.old).bytes) }
+        ensures cause { HasCause (O.state out.old).faults (O.state out.new).faults result }
+    {
+        let area = self.area_due(changes, width, height, colors);
+        if area.is_empty() {
+            return Ok(());
+        }
+        let block = block_of(width, height, area);
+        put_update(out, self.format, block, width, colors)?;
+        self.tell(block, width, colors);
+        Ok(())
+    }
+
+    /// The pixels of a block were sent, which closes the request.
+    fn tell(&mut self, block: Block, width: u16, colors: &[Rgb565])
+        requires known { length self.old.sent ≡ length colors.now }
+        requires wide { block.left + block.columns ≤ width }
+        requires high { (block.top + block.lines) * width ≤ length colors.now }
+        ensures { self.new ≡ told width colors.now (block_area block) self.old }
+    {
+        for line in 0..block.lines {
+            self.tell_line(block.first(width, line), usize::from(block.columns), colors);
+        }
+        self.request = None;
+    }
+
+    /// Some pixels of a line were sent.
+    fn tell_line(&mut self, first: usize, count: usize, colors: &[Rgb565])
+        requires known { length self.old.sent ≡ length colors.now }
+        requires within { first + count ≤ length colors.now }
+        ensures { self.new ≡ told_run first count colors.now self.old }
+    {
+        for place in first..first + count {
+            self.sent[place] = Some(colors[place]);
         }
     }
 }

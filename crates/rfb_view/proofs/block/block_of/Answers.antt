@@ -3,7 +3,7 @@ use Rattle.std.proofs.lemmas.Int.{to_z-of_z}
 use Rattle.gui_base.specs.Corners.{rect_of}
 use Rattle.rfb_view.proofs.Lines.{block_is, block_fits, abs_is}
 use lib.Signed.{yes_non_neg}
-use Rattle.rfb_view.proofs.sight.block_of.Goals as goal
+use Rattle.rfb_view.proofs.block.block_of.Goals as goal
 
 pub overflow_cast-result-2 : goal.overflow_cast-result-2
 overflow_cast-result-2 c =

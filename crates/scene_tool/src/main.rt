@@ -1,7 +1,7 @@
 //! Reads a script from standard input, and writes the frames to standard output and the log to standard error.
 //! Where the first word is `dcs` the panel is one behind a controller in memory, turned as the next word says. Where it
 //! is `bdf` it reads a font instead, and where it is `json` a tree of objects, and writes the lines of a script that
-//! make it.
+//! make it. Where it is `rfb` what follows the script is what a viewer sends, and standard output is what it gets.
 #![tactic(auto)]
 
 use bdf_font::run_bdf;
@@ -9,6 +9,7 @@ use gui_edge::{SimPanel, SimPlan, StdSink, StdSource};
 use panel_dcs::SimBus;
 use scene_dcs::run_dcs;
 use scene_json::run_json;
+use scene_rfb::run_rfb;
 use scene_run::{Status, run_scene};
 use std::alloc::{AllocError, Global};
 use std::io::ErrorKind;
@@ -73,6 +74,15 @@ fn write_scene(rt: &HostRuntime, words: &[&str]) -> u8 {
     run_json(rt.alloc(), words, &mut source, &mut out).number()
 }
 
+/// Runs a session with a viewer, whose bytes come after the script on standard input. The first word is how many
+/// milliseconds pass at each of its requests.
+fn serve(rt: &HostRuntime, words: &[&str]) -> u8 {
+    let mut source = StdSource::new(rt.stdin());
+    let mut out = StdSink::new(rt.stdout());
+    let mut log = StdSink::new(rt.stderr());
+    run_rfb(rt.alloc(), words, &mut source, &mut out, &mut log).number()
+}
+
 /// Does what the first word asks for, and answers the exit status.
 fn run(rt: &HostRuntime, words: &[String]) -> u8 {
     let Ok(texts) = texts(rt.alloc(), words) else {
@@ -82,6 +92,7 @@ fn run(rt: &HostRuntime, words: &[String]) -> u8 {
         ["dcs", words @ ..] => run_turned(rt, words) as u8,
         ["bdf", words @ ..] => write_font(rt, words),
         ["json", words @ ..] => write_scene(rt, words),
+        ["rfb", words @ ..] => serve(rt, words),
         words => run_script(rt, words) as u8,
     }
 }

@@ -1,0 +1,5 @@
+//! Tests over sessions with a viewer.
+#![tactic(auto)]
+
+#[cfg(test)]
+mod sessions;

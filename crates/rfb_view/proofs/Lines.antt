@@ -1,5 +1,5 @@
 -- What is news of an area lies in its lines.
-use Rattle.std.proofs.Common.{◌≡◌, ◌∙◌, sym, ap, refl, ℕ, zero, suc, ◌+◌, ◌*◌, ◌-◌, ◌/◌, ◌%◌, ◌<◌, ◌≤◌, ℤ, pos, negsuc, ◌+ℤ◌, ◌-ℤ◌, ◌≤ℤ◌, Bool, true, false, not, ◌&&◌, cond, if◌then◌else◌, List, [], ◌∷◌, ◌++◌, length, map, fold, replicate, Option, option_map, slice_index_or, get_or, nat_abs, Some, None, arith}
+use Rattle.std.proofs.Common.{◌≡◌, ◌∙◌, sym, ap, refl, ℕ, zero, suc, ◌+◌, ◌*◌, ◌-◌, ◌/◌, ◌%◌, ◌<◌, ◌≤◌, ℤ, pos, negsuc, ◌+ℤ◌, ◌-ℤ◌, ◌≤ℤ◌, ◌==◌, Bool, true, false, not, ◌&&◌, cond, if◌then◌else◌, List, [], ◌∷◌, ◌++◌, length, map, fold, replicate, Option, option_map, slice_index_or, get_or, nat_abs, Some, None, arith, rules}
 use Rattle.std.specs.List.{filter, range_with_len}
 use Rattle.std.proofs.lemmas.Bool.Decides.{nat_tests}
 use Rattle.std.proofs.lemmas.Int.{ints}
@@ -189,6 +189,10 @@ untold_more width sight colors from n area =
     last : (b : Bool) → fold (step width sight colors) (with_untold width sight colors from n area) (cond b ((from + n) ∷ []) []) ≡ (if b then joined (with_untold width sight colors from n area) (pixel_area width (from + n)) else with_untold width sight colors from n area)
     last true = refl
     last false = refl
+
+-- equal colours have the same number
+pub same_number : (f : Format) (a b : Rgb565) → a ≡ b → (number f a == number f b) ≡ true
+same_number f a b e = rw e (search rules)
 
 -- what was told of a pixel
 pub known_is : (f : Format) (sent : List (Option Rgb565)) (i : ℕ) → i < length sent → known_at (map (option_map (number f)) sent) i ≡ option_map (number f) (slice_index_or sent i None)

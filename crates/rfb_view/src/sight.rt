@@ -1,5 +1,5 @@
 //! What a viewer was told of a picture, and what of the picture is news.
-ghost use Rattle.std.specs.Prelude.{◌≡◌, ◌+◌, ◌*◌, ◌≤◌, ◌<◌, length, true, pos, IfOk, OnOk, OnErr};
+ghost use Rattle.std.specs.Prelude.{◌≡◌, ◌+◌, ◌*◌, ◌≤◌, ◌<◌, ◌==◌, length, true, pos, IfOk, OnOk, OnErr};
 ghost use Rattle.std.specs.Io.KnownBytes.{Appends};
 ghost use Rattle.gui_base.specs.Area.{area_at, is_within};
 ghost use Rattle.gui_base.specs.Corners.{rect_of};
@@ -68,6 +68,15 @@ fn no_pixel() -> Area
         x2: -1,
         y2: -1,
     }
+}
+
+/// Whether two colours have the same number. Most pixels stay as they were, and need none.
+#[tactic(auto, using(crate::proofs::Lines::same_number))]
+fn is_same(format: Format, sent: Rgb565, color: Rgb565) -> bool
+    requires { is_format format ≡ true }
+    ensures { result ≡ (number format sent == number format color) }
+{
+    sent == color || number(format, sent) == number(format, color)
 }
 
 impl Sight {
@@ -168,7 +177,7 @@ impl Sight {
     {
         match self.sent[place] {
             None => false,
-            Some(sent) => number(self.format, sent) == number(self.format, color),
+            Some(sent) => is_same(self.format, sent, color),
         }
     }
 

@@ -11,6 +11,16 @@ fn key(key: Key, down: bool) -> Option<KeyReading> {
     Some(KeyReading { key, down })
 }
 
+/// What a pointer tells that is so far from where it went down, and so far from where it was read before.
+fn hold(from_x: i32, from_y: i32, step_x: i32, step_y: i32) -> InputEvent {
+    InputEvent::Hold {
+        from_x,
+        from_y,
+        step_x,
+        step_y,
+    }
+}
+
 /// Whether a pointer that is pressed at 0 tells these events at a tick.
 fn tells_at(pointer: &mut Pointer, now: u64, wanted: &[InputEvent]) -> bool {
     pointer.feed(None, now).as_slice() == wanted
@@ -25,10 +35,24 @@ fn a_press_becomes_long_and_is_repeated(rt: HostRuntime) {
     assert!(rt; tells_at(&mut pointer, 499, &[]));
     assert!(rt; tells_at(&mut pointer, 500, &[InputEvent::Repeat]));
     assert!(rt; tells_at(&mut pointer, 501, &[]));
-    assert!(rt; pointer.feed(touch(true), 502).as_slice() == [InputEvent::Hold].as_slice());
+    assert!(rt; pointer.feed(touch(true), 502).as_slice() == [hold(0, 0, 0, 0)].as_slice());
     let ends = [InputEvent::Release { long: true }];
     assert!(rt; pointer.feed(touch(false), 503).as_slice() == ends.as_slice());
     assert!(rt; pointer.feed(touch(false), 504).is_empty());
+}
+
+#[test]
+fn a_pointer_tells_how_far_it_goes(rt: HostRuntime) {
+    let mut pointer = Pointer::new();
+    let down = |x: i32, y: i32| Some(PointerReading { x, y, down: true });
+    assert!(rt; pointer.feed(down(5, 15), 0).as_slice() == [InputEvent::Press].as_slice());
+    assert!(rt; pointer.feed(down(5, 10), 0).as_slice() == [hold(0, -5, 0, -5)].as_slice());
+    assert!(rt; pointer.feed(down(7, 4), 0).as_slice() == [hold(2, -11, 2, -6)].as_slice());
+    assert!(rt;
+        pointer.feed(touch(false), 0).as_slice() == [InputEvent::Release { long: false }].as_slice()
+    );
+    assert!(rt; pointer.feed(down(-4000, 9), 0).as_slice() == [InputEvent::Press].as_slice());
+    assert!(rt; pointer.feed(down(4000, 9), 0).as_slice() == [hold(8000, 0, 8000, 0)].as_slice());
 }
 
 #[test]

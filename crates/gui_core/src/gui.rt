@@ -3,7 +3,7 @@ ghost use Rattle.std.specs.Prelude.{◌≡◌, ◌↔◌, ◌<◌, ◌∷◌, []
 ghost use Rattle.gui_base.specs.declared.refusal.Refusal.{Refusal};
 ghost use Rattle.gui_edge.specs.Panel.{PanelState, HasSizes};
 ghost use Rattle.gui_store.specs.Views.{scene_of};
-ghost use Rattle.gui_layout.specs.Solved.{AreSolved};
+ghost use Rattle.gui_layout.specs.Solved.{AreReached, AreSolved};
 ghost use Rattle.gui_refresh.specs.Refreshes.{IsAtRest};
 ghost use Rattle.gui_refresh.specs.Stages.{sizes_of, progress_of};
 ghost use Rattle.gui_play.specs.Boards.{machine_of as machine_on};
@@ -107,9 +107,10 @@ impl Gui {
         self.board.store()
     }
 
-    /// The places of the scene's objects.
+    /// The places of the scene's objects, and how far their children reach and are moved.
     pub fn places(&self) -> &Places
-        ensures { AreSolved result.now (machine_of self.now).scene }
+        ensures solved { AreSolved result.now (machine_of self.now).scene }
+        ensures reached { AreReached result.now (machine_of self.now).scene }
     {
         self.board.places()
     }

@@ -10,14 +10,17 @@ pub mod Groups
 pub mod Handled
 pub mod Hits
 pub mod NoHandlers
+pub mod Offsets
 pub mod Plays
 pub mod Points
 pub mod Regrouped
 pub mod Removals
+pub mod Scrolling
 pub mod Sending
 pub mod Shown
 pub mod Sliding
 pub mod Stepped
+pub mod Touching
 pub mod Turning
 pub mod Values
 pub mod Walks

@@ -27,6 +27,7 @@ machine_with scene handlers groups anims inputs = record {
   groups = groups;
   time = inputs.time;
   pointer = pointer_of inputs;
+  scrolling = inputs.scrolling;
   keypad = keypad_of inputs;
   encoder = encoder_of inputs;
   keypad_group = inputs.keypad_group;

@@ -1,6 +1,7 @@
 pub mod Animated
 pub mod Boards
 pub mod Commands
+pub mod Dragging
 pub mod Handling
 pub mod Hiding
 pub mod Hits

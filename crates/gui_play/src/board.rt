@@ -7,7 +7,7 @@ ghost use Rattle.gui_base.specs.Refusing.{result_of};
 ghost use Rattle.gui_change.specs.Canvas.{scene_in, removed_in};
 ghost use Rattle.gui_damage.specs.Pending.{IsPending};
 ghost use Rattle.gui_edge.specs.Sink.{SinkState};
-ghost use Rattle.gui_layout.specs.Solved.{AreSolved};
+ghost use Rattle.gui_layout.specs.Solved.{AreReached, AreSolved};
 ghost use Rattle.gui_refresh.specs.Stages.{sizes_of, stage as sending};
 ghost use Rattle.gui_store.specs.Removed.{removed_by};
 ghost use Rattle.gui_store.specs.Views.{scene_of};
@@ -112,9 +112,10 @@ impl Board {
         self.canvas.store()
     }
 
-    /// The places of the scene's objects.
+    /// The places of the scene's objects, and how far their children reach and are moved.
     pub fn places(&self) -> &Places
-        ensures { AreSolved result.now (machine_of self.now).scene }
+        ensures solved { AreSolved result.now (machine_of self.now).scene }
+        ensures reached { AreReached result.now (machine_of self.now).scene }
     {
         self.canvas.places()
     }

@@ -107,7 +107,7 @@ impl Board {
         self.handlers.forget(h);
     }
 
-    /// What is held on it is held on nothing.
+    /// What is held on it is held on nothing, and what scrolls it scrolls nothing.
     fn forget_targets(&mut self, h: Handle)
         ensures done { Quiet self.old self.new (with (without_targets h)) }
         ensures gone { removed_in self.new.canvas ≡ removed_in self.old.canvas }

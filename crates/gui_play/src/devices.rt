@@ -1,16 +1,18 @@
 //! The input devices: what the machine does at what they tell.
-ghost use Rattle.std.specs.Prelude.{◌≡◌, None, false, unsigned_abs};
+ghost use Rattle.std.specs.Prelude.{◌≡◌, IfSome, None, false, unsigned_abs};
 ghost use Rattle.gui_edge.specs.Sink.{SinkState};
+ghost use Rattle.gui_input.specs.Points.{IsPoint};
 ghost use Rattle.play_defs.specs.Input.{encoder_fed, keypad_fed, pointer_fed};
 ghost use Rattle.run_defs.specs.Devices.{arrow_in, arrow_to, change_editing, edit, edit_by, encoder_at};
 ghost use Rattle.run_defs.specs.Devices.{encoder_holds, encoder_tells, feed_encoder, feed_keypad};
-ghost use Rattle.run_defs.specs.Devices.{feed_pointer, hit_by, keypad_at, keypad_holds, keypad_tells};
-ghost use Rattle.run_defs.specs.Devices.{long_push, pointer_at, pointer_holds, pointer_tells, press_encoder};
+ghost use Rattle.run_defs.specs.Devices.{feed_pointer, hit_by, hold_pointer, keypad_at, keypad_holds};
+ghost use Rattle.run_defs.specs.Devices.{keypad_tells, long_push, pointer_at, pointer_holds, pointer_tells, press_encoder};
 ghost use Rattle.run_defs.specs.Devices.{press_keypad, press_pointer, release_push, times, turn, turn_once};
 ghost use Rattle.run_defs.specs.Events.{send_input};
 ghost use Rattle.run_defs.specs.Focusing.{step_focus};
 ghost use Rattle.run_defs.specs.Making.{with_groups};
-ghost use Rattle.run_defs.specs.Play.{aimed, each, with};
+ghost use Rattle.run_defs.specs.Dragging.{serve_drag};
+ghost use Rattle.run_defs.specs.Play.{◌▷◌, aimed, each, with};
 ghost use Rattle.run_defs.specs.Reactions.{arrow, hold, press, release};
 ghost use Rattle.play_defs.specs.Focus.{with_editing};
 
@@ -18,7 +20,7 @@ use crate::board::Board;
 use gui_base::{EventKind, Handle, Key, State};
 use gui_edge::Sink;
 use gui_input::Tells;
-use play_defs::{EncoderReading, InputEvent, KeyReading, PointerReading};
+use play_defs::{Drag, EncoderReading, InputEvent, KeyReading, PointerReading};
 
 /// The arrow of a step of a turn.
 fn arrow_to(forwards: bool) -> Key
@@ -62,7 +64,7 @@ impl Board {
 
     /// Releases an object, if there is one.
     #[tactic(auto, unfolding(run_defs::specs::Play::aimed), using(crate::proofs::Plays::idle))]
-    fn release_aimed<S: Sink>(&mut self, target: Option<Handle>, long: bool, log: &mut S)
+    pub(crate) fn release_aimed<S: Sink>(&mut self, target: Option<Handle>, long: bool, log: &mut S)
         ensures { Plays self.old self.new (S.state log.old) (S.state log.new) (aimed target (release long)) }
     {
         if let Some(h) = target {
@@ -72,7 +74,12 @@ impl Board {
 
     /// Sends an event of input to an object, if there is one.
     #[tactic(auto, unfolding(run_defs::specs::Play::aimed), using(crate::proofs::Plays::idle))]
-    fn send_aimed<S: Sink>(&mut self, target: Option<Handle>, kind: EventKind, log: &mut S)
+    pub(crate) fn send_aimed<S: Sink>(
+        &mut self,
+        target: Option<Handle>,
+        kind: EventKind,
+        log: &mut S,
+    )
         ensures { Plays self.old self.new (S.state log.old) (S.state log.new)
             (aimed target (send_input kind)) }
     {
@@ -106,7 +113,7 @@ impl Board {
         self.inputs.pointer_target = target;
     }
 
-    /// What is hit becomes the target, and is pressed.
+    /// What is hit becomes the target, nothing is scrolled yet, and the target is pressed.
     fn press_pointer<S: Sink>(
         &mut self,
         at: Option<PointerReading>,
@@ -116,7 +123,24 @@ impl Board {
         ensures { Plays self.old self.new (S.state log.old) (S.state log.new) (press_pointer at target) }
     {
         self.aim_pointer(target);
+        self.set_scrolling(None);
         self.press_aimed(target, at, log);
+    }
+
+    /// The target of the pointer is held.
+    fn hold_pointer<S: Sink>(&mut self, at: Option<PointerReading>, log: &mut S)
+        ensures { Plays self.old self.new (S.state log.old) (S.state log.new) (hold_pointer at) }
+    {
+        self.hold_aimed(self.inputs.pointer_target, at, log);
+    }
+
+    /// A pointer that is down has gone on: what it drags is scrolled first, then its target is held.
+    fn drag_pointer<S: Sink>(&mut self, drag: Drag, at: Option<PointerReading>, log: &mut S)
+        ensures { Plays self.old self.new (S.state log.old) (S.state log.new)
+            (serve_drag drag ▷ hold_pointer at) }
+    {
+        self.serve_drag(drag);
+        self.hold_pointer(at, log);
     }
 
     /// What the machine does at one thing that the pointer tells.
@@ -125,21 +149,38 @@ impl Board {
         ensures { Plays self.old self.new (S.state log.old) (S.state log.new) (pointer_tells at tell) }
     {
         let target = self.inputs.pointer_target;
+        let scrolling = self.inputs.scrolling;
         match tell {
             InputEvent::Press => {
                 let hit = self.hit_by(at);
                 self.press_pointer(at, hit, log);
             }
-            InputEvent::Hold => self.hold_aimed(target, at, log),
-            InputEvent::Release { long } => self.release_aimed(target, long, log),
-            InputEvent::Long => self.send_aimed(target, EventKind::LongPressed, log),
-            InputEvent::Repeat => self.send_aimed(target, EventKind::LongPressedRepeat, log),
+            InputEvent::Hold {
+                from_x,
+                from_y,
+                step_x,
+                step_y,
+            } => {
+                let drag = Drag {
+                    from_x,
+                    from_y,
+                    step_x,
+                    step_y,
+                };
+                self.drag_pointer(drag, at, log);
+            }
+            InputEvent::Release { long } => self.end_press(scrolling, long, target, log),
+            InputEvent::Long => self.tell_press(scrolling, EventKind::LongPressed, target, log),
+            InputEvent::Repeat => {
+                self.tell_press(scrolling, EventKind::LongPressedRepeat, target, log)
+            }
             InputEvent::Key(_) | InputEvent::Turn(_) | InputEvent::Next | InputEvent::Prev => {}
         }
     }
 
     /// The pointer takes a reading, or time passes for it; what it tells of that.
     fn read_pointer(&mut self, reading: Option<PointerReading>) -> Tells
+        requires { IfSome reading IsPoint }
         ensures device { Quiet self.old self.new (with (pointer_holds
             (pointer_fed (machine_of self.old).pointer.held reading (machine_of self.old).time).device)) }
         ensures tells { result.items
@@ -165,6 +206,7 @@ impl Board {
 
     /// A reading of the pointer, or none where only time passed.
     pub(crate) fn feed_pointer<S: Sink>(&mut self, reading: Option<PointerReading>, log: &mut S)
+        requires { IfSome reading IsPoint }
         ensures { Plays self.old self.new (S.state log.old) (S.state log.new) (feed_pointer reading) }
     {
         let tells = self.read_pointer(reading);
@@ -207,7 +249,7 @@ impl Board {
             }
             InputEvent::Next => self.step_focus(true, id, log),
             InputEvent::Prev => self.step_focus(false, id, log),
-            InputEvent::Hold | InputEvent::Turn(_) => {}
+            InputEvent::Hold { .. } | InputEvent::Turn(_) => {}
         }
     }
 
@@ -386,7 +428,7 @@ impl Board {
             InputEvent::Release { long } => self.release_push_aimed(target, long, log),
             InputEvent::Long => self.long_push(target, id),
             InputEvent::Turn(n) => self.turn(n, id, log),
-            InputEvent::Hold
+            InputEvent::Hold { .. }
             | InputEvent::Repeat
             | InputEvent::Key(_)
             | InputEvent::Next

@@ -7,6 +7,7 @@ mod board;
 mod changes;
 mod commands;
 mod devices;
+mod dragging;
 mod events;
 mod focus;
 mod inputs;

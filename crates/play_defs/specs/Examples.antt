@@ -80,12 +80,18 @@ told core device (r ∷ rs) = (core device r.0 r.1).tells ++ told core (core dev
 abbrev tick : {R : Type 0} → ℕ → Option R × ℕ
 tick now = (None, now)
 
+abbrev down_at : ℕ → ℕ → ℕ → Option PointerReading × ℕ
+down_at x y now = (Some (record { x = pos x; y = pos y; down = true }), now)
+
 abbrev touch : Bool → ℕ → Option PointerReading × ℕ
 touch down now = (Some (record { x = pos 5; y = pos 7; down = down }), now)
 
 pub record PressesAreWorked : Type 0 where
   pub short : told pointer_fed None (touch true 7 ∷ tick 406 ∷ touch true 406 ∷ touch false 500 ∷ [])
-      ≡ Press ∷ Hold ∷ Release false ∷ []
+      ≡ Press ∷ Hold (pos 0) (pos 0) (pos 0) (pos 0) ∷ Release false ∷ []
+  -- a pointer that goes on tells how far it is, and how far it went
+  pub goes : told pointer_fed None (down_at 5 15 0 ∷ down_at 5 10 1 ∷ down_at 7 4 2 ∷ [])
+      ≡ Press ∷ Hold (pos 0) (negsuc 4) (pos 0) (negsuc 4) ∷ Hold (pos 2) (negsuc 10) (pos 2) (negsuc 5) ∷ []
   pub long :
       told pointer_fed None (touch true 7 ∷ tick 407 ∷ touch false 407 ∷ [])
       ≡ Press ∷ Long ∷ Release true ∷ []

@@ -1,6 +1,6 @@
 -- The three devices before a target is known: what readings and passing time make of them, and what they
 -- tell.
-use Rattle.std.specs.Prelude.{ℕ, ◌-◌, Bool, true, false, nat_le, if◌then◌else◌}
+use Rattle.std.specs.Prelude.{ℕ, ◌-◌, Bool, true, false, nat_le, if◌then◌else◌, ◌-ℤ◌}
 use Rattle.std.specs.Prelude.{List, [], ◌∷◌, ◌++◌, Some, None}
 use Rattle.std.specs.declared.option.Option.{Option}
 use Rattle.gui_base.specs.declared.events.Key.{Key}
@@ -14,6 +14,7 @@ use Rattle.play_defs.specs.declared.InputEvent.TheVariants.{Key as Keyed, Turn, 
 use Rattle.play_defs.specs.declared.KeyReading.{KeyReading}
 use Rattle.play_defs.specs.declared.PointerReading.{PointerReading}
 use Rattle.play_defs.specs.declared.Press.{Press}
+use Rattle.play_defs.specs.declared.Touch.{Touch}
 use Rattle.play_defs.specs.declared.TheConstants.{LONG_AFTER, REPEAT_AFTER}
 use Rattle.play_defs.specs.Same.{same_key}
 
@@ -43,19 +44,43 @@ abbrev pub still_pressed : Fed Press → Fed (Option Press)
 still_pressed after = fed (Some after.device) after.tells
 
 -- The pointer.
-abbrev pub touched : Option Press → Bool → ℕ → Fed (Option Press)
-touched None true now = fed (Some (pressed_at now)) (Presses ∷ [])
-touched None false now = fed None []
-touched (Some press) true now = fed (Some press) (Hold ∷ [])
-touched (Some press) false now = fed None (Release press.long ∷ [])
+-- a press that begins where the pointer is
+abbrev pub touch_at : PointerReading → ℕ → Touch
+touch_at reading now = record {
+  press = pressed_at now;
+  from_x = reading.x;
+  from_y = reading.y;
+  last_x = reading.x;
+  last_y = reading.y;
+}
 
-abbrev pub waited : Option Press → ℕ → Fed (Option Press)
+-- a press whose pointer has gone there
+abbrev pub touch_on : Touch → PointerReading → Touch
+touch_on touch reading = record touch { last_x = reading.x; last_y = reading.y }
+
+-- how far it has gone: from where it went down, and from where it was read last
+abbrev pub held_to : Touch → PointerReading → InputEvent
+held_to touch reading =
+    Hold (reading.x -ℤ touch.from_x) (reading.y -ℤ touch.from_y) (reading.x -ℤ touch.last_x)
+    (reading.y -ℤ touch.last_y)
+
+abbrev pub touched : Option Touch → PointerReading → ℕ → Fed (Option Touch)
+touched None reading now =
+    if reading.down then fed (Some (touch_at reading now)) (Presses ∷ []) else fed None []
+touched (Some touch) reading now =
+    if reading.down then fed (Some (touch_on touch reading)) (held_to touch reading ∷ [])
+    else fed None (Release touch.press.long ∷ [])
+
+abbrev pub still_touched : Touch → Fed Press → Fed (Option Touch)
+still_touched touch after = fed (Some (record touch { press = after.device })) after.tells
+
+abbrev pub waited : Option Touch → ℕ → Fed (Option Touch)
 waited None now = fed None []
-waited (Some press) now = still_pressed (held_on press now)
+waited (Some touch) now = still_touched touch (held_on touch.press now)
 
-abbrev pub pointer_fed : Option Press → Option PointerReading → ℕ → Fed (Option Press)
-pointer_fed press (Some reading) now = touched press reading.down now
-pointer_fed press None now = waited press now
+abbrev pub pointer_fed : Option Touch → Option PointerReading → ℕ → Fed (Option Touch)
+pointer_fed touch (Some reading) now = touched touch reading now
+pointer_fed touch None now = waited touch now
 
 -- The keypad, of which one key may be held.
 abbrev pub is_enter : Key → Bool

@@ -13,6 +13,9 @@ pub const LONG_AFTER: u64 = 400;
 /// How long it lasts then from one repeat to the next, in milliseconds.
 pub const REPEAT_AFTER: u64 = 100;
 
+/// How far a pointer goes from where it went down, across or down, until it drags, in pixels.
+pub const DRAG_AFTER: u32 = 10;
+
 /// The parts in which the time and the way of an animation are measured.
 pub const WHOLE: u32 = 1024;
 
@@ -87,6 +90,35 @@ pub struct Press {
     pub told: u64,
 }
 
+/// A press of a pointer: where it went down, and where it was read last, in pixels.
+#[derive(Clone, Copy, Debug, Drop)]
+pub struct Touch {
+    pub press: Press,
+    pub from_x: i32,
+    pub from_y: i32,
+    pub last_x: i32,
+    pub last_y: i32,
+}
+
+/// How far a pointer that is down is from where it went down, and how far from where it was read before, in
+/// pixels.
+#[derive(Clone, Copy, Debug, Drop)]
+pub struct Drag {
+    pub from_x: i32,
+    pub from_y: i32,
+    pub step_x: i32,
+    pub step_y: i32,
+}
+
+/// Scrolling that has begun in a press of the pointer.
+#[derive(Clone, Copy, Debug, Drop)]
+pub struct Scrolling {
+    /// The object that is scrolled, until it is gone.
+    pub object: Option<Handle>,
+    /// Whether it goes up and down, and not across.
+    pub down: bool,
+}
+
 /// A key that is held.
 #[derive(Clone, Copy, Debug, Drop)]
 pub struct Held {
@@ -100,10 +132,18 @@ pub enum InputEvent {
     /// A press begins.
     #[default]
     Press,
-    /// A pointer that is down was read once more.
-    Hold,
+    /// A pointer that is down was read once more: how far it is from where it went down, and how far from
+    /// where it was read before, in pixels.
+    Hold {
+        from_x: i32,
+        from_y: i32,
+        step_x: i32,
+        step_y: i32,
+    },
     /// A press ends. `long` tells whether it had become a long one.
-    Release { long: bool },
+    Release {
+        long: bool,
+    },
     /// A press becomes a long one.
     Long,
     /// A long press goes on.

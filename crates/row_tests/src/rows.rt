@@ -1,7 +1,7 @@
 //! Places and values after lines, worked out by hand.
 
 use crate::playing::{Want, is_so_after};
-use gui_base::Limits;
+use gui_base::{Limits, State};
 use std::test::Fail;
 
 /// Three objects that grow share a row of ten pixels.
@@ -53,6 +53,20 @@ fn a_percentage_counts_nothing_in_a_content(rt: HostRuntime) -> Result<(), Fail>
         Want::Seen(12, [33, 3, 35, 12]),
     ];
     assert!(rt; is_so_after(rt.alloc(), &Limits::with_sizes(64, 32, 8), script, &wanted)?);
+    Ok(())
+}
+
+/// A pointer that goes eleven pixels scrolls by its last step, and a tap scrolls nothing.
+#[test]
+fn a_drag_scrolls_by_its_last_step(rt: HostRuntime) -> Result<(), Fail> {
+    let script =
+        "new 10 3 obj\nsize 10 20 20\nflag 10 scrollable on\nnew 11 10 obj\nsize 11 10 60\ntouch 5 15\nrelease\ntouch 5 15\ntouch 5 10\ntouch 5 4\n";
+    let wanted = [
+        Want::Place(11, [0, -6, 9, 53]),
+        Want::States(10, State::Scrolled.bit()),
+        Want::States(11, State::Pressed.bit()),
+    ];
+    assert!(rt; is_so_after(rt.alloc(), &Limits::with_sizes(20, 20, 20), script, &wanted)?);
     Ok(())
 }
 

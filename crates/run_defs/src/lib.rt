@@ -5,6 +5,7 @@
 ghost use Rattle.std.specs.Prelude.{◌≡◌};
 ghost use Rattle.run_defs.specs.AnimationExamples.{AnimationsAreWorked};
 ghost use Rattle.run_defs.specs.DeviceExamples.{DevicesAreWorked};
+ghost use Rattle.run_defs.specs.DragExamples.{DragsAreWorked};
 ghost use Rattle.run_defs.specs.Examples.{StepsAreWorked};
 ghost use Rattle.run_defs.specs.Laws.{ShowsOutcomes, SaysInRange, NoStandIn, FaultStays, ReturnSaysNothing};
 ghost use Rattle.run_defs.specs.Laws.{SameWordsSaySame, StepsChangeTheScene, StepsAsk, RefusedStepIsNone};
@@ -192,6 +193,11 @@ pub fn worked_steps()
 /// Commands on input devices that were worked out by hand.
 pub fn worked_devices()
     ensures { DevicesAreWorked }
+{}
+
+/// Drags that were worked out by hand.
+pub fn worked_drags()
+    ensures { DragsAreWorked }
 {}
 
 /// Commands on animations that were worked out by hand.

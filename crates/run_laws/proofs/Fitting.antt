@@ -107,6 +107,7 @@ keeps_closed = record {
   aside = keeps_aside;
   value = λ h n. keeps_make (change.Value h n);
   place = λ h x y. keeps_make (change.Pos h x y);
+  scroll = λ h x y. keeps_make (change.Scroll h x y);
   size = λ h width height. keeps_make (change.Size h width height);
   state = λ h state on. keeps_make (change.State h state on);
   acted = λ kind target current a. keeps_asked kind target current (asked target a);

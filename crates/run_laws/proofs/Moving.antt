@@ -145,6 +145,7 @@ keeps_closed = record {
   aside = λ f is. keeps_with [] f is.scene is.anims;
   value = λ h n. keeps_make [] (change.Value h n) tt (λ scene k. refl);
   place = λ h x y. keeps_make [] (change.Pos h x y) tt (λ scene k. refl);
+  scroll = λ h x y. keeps_make [] (change.Scroll h x y) tt (λ scene k. refl);
   size = λ h width height. keeps_make [] (change.Size h width height) tt (λ scene k. refl);
   state = λ h state on. keeps_make [] (change.State h state on) tt (λ scene k. refl);
   acted = λ kind target current a. keeps_asked kind target current (asked target a) (asked_is target a);

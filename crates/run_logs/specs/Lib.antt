@@ -4,3 +4,4 @@ pub mod CornerSamples
 pub mod DeviceSamples
 pub mod Reference
 pub mod Samples
+pub mod ScrollSamples

@@ -24,6 +24,9 @@ use Rattle.run_logs.specs.CornerSamples.{corner_1, corner_2, corner_3, corner_4,
 use Rattle.run_logs.specs.CornerSamples.{corner_7, corner_8, corner_9, corner_10, corner_11, corner_12}
 use Rattle.run_logs.specs.DeviceSamples.{device_1, device_2, device_3, device_4, device_5, device_6}
 use Rattle.run_logs.specs.DeviceSamples.{device_7, device_8, device_9, device_10, device_11, device_12}
+use Rattle.run_logs.specs.ScrollSamples.{scroll_1, scroll_2, scroll_3, scroll_4, scroll_5, scroll_6}
+use Rattle.run_logs.specs.ScrollSamples.{scroll_7, scroll_8, scroll_9, scroll_10, scroll_11, scroll_12}
+use Rattle.run_logs.specs.ScrollSamples.{drag_corner_1, drag_corner_2, drag_corner_3}
 use Rattle.run_logs.specs.Samples.{Sample, opening, sample_1, sample_2, sample_3, sample_4, sample_5}
 use Rattle.run_logs.specs.Samples.{sample_6, sample_7, sample_8, sample_9, sample_10, sample_11, sample_12}
 
@@ -135,6 +138,27 @@ pub record AnimationCornerLogs : Type 0 where
   pub corners_8 : IsItsLog small_machine animated_corner_8
   pub corners_9 : IsItsLog small_machine animated_corner_9
   pub corners_10 : IsItsLog small_machine animated_corner_10
+
+-- and for those of scrolling
+pub record ScrollLogs : Type 0 where
+  pub scrolls_1 : IsItsLog small_machine scroll_1
+  pub scrolls_2 : IsItsLog small_machine scroll_2
+  pub scrolls_3 : IsItsLog small_machine scroll_3
+  pub scrolls_4 : IsItsLog small_machine scroll_4
+  pub scrolls_5 : IsItsLog small_machine scroll_5
+  pub scrolls_6 : IsItsLog small_machine scroll_6
+  pub scrolls_7 : IsItsLog small_machine scroll_7
+  pub scrolls_8 : IsItsLog small_machine scroll_8
+  pub scrolls_9 : IsItsLog small_machine scroll_9
+  pub scrolls_10 : IsItsLog small_machine scroll_10
+  pub scrolls_11 : IsItsLog small_machine scroll_11
+  pub scrolls_12 : IsItsLog small_machine scroll_12
+
+-- and for those at the corners of the rules of dragging
+pub record DragCornerLogs : Type 0 where
+  pub corners_1 : IsItsLog small_machine drag_corner_1
+  pub corners_2 : IsItsLog small_machine drag_corner_2
+  pub corners_3 : IsItsLog small_machine drag_corner_3
 
 -- a settings screen, whose two frames are done
 abbrev pub SettingsLog : Type 0

@@ -3,7 +3,7 @@
 #![tactic(auto)]
 
 ghost use Rattle.run_logs.specs.Reference.{ReferenceLogs, FirstReferenceLog};
-ghost use Rattle.run_logs.specs.Reference.{DeviceLogs, CornerLogs};
+ghost use Rattle.run_logs.specs.Reference.{DeviceLogs, CornerLogs, ScrollLogs, DragCornerLogs};
 ghost use Rattle.run_logs.specs.Reference.{AnimationLogs, AnimationCornerLogs, SettingsLog};
 
 /// Twelve scripts of a hundred lines, twelve more of input devices, and twelve at the corners of their rules
@@ -23,4 +23,11 @@ pub fn animation_logs()
     ensures animations { AnimationLogs }
     ensures corners { AnimationCornerLogs }
     ensures settings { SettingsLog }
+{}
+
+/// The same of twelve scripts of sixty lines in which scrollable objects are dragged, and of three at the
+/// corners of the rules of dragging.
+pub fn scroll_logs()
+    ensures logs { ScrollLogs }
+    ensures corners { DragCornerLogs }
 {}

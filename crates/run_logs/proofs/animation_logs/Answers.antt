@@ -8,15 +8,16 @@ use Rattle.gui_base.specs.Names.{named}
 use Rattle.play_defs.specs.Animation.{in_round}
 use Rattle.text_defs.specs.Fonts.{face}
 use Rattle.text_defs.specs.Lines.{lines, run_width, greatest}
-use Rattle.scene_defs.specs.Place.{place}
+use Rattle.scene_defs.specs.Place.{place, reach, offset}
 use Rattle.scene_defs.specs.Quoted.{text_in_quotes}
 use Rattle.run_defs.specs.Animating.{put_var, animate, animate_all}
 use Rattle.run_defs.specs.Commands.{command_says, state, property, align, flow, event, aim_said, action_name, key, var, path, repeat_said}
 use Rattle.run_defs.specs.Lengths.{length_said}
-use Rattle.run_defs.specs.Devices.{press_pointer, pointer_tells, feed_pointer, press_keypad, keypad_tells, feed_keypad, times, arrow_in, turn_once, turn, edit, edit_by, change_editing, long_push, release_push, press_encoder, encoder_tells, feed_encoder}
+use Rattle.run_defs.specs.Devices.{press_pointer, hold_pointer, pointer_tells, feed_pointer, press_keypad, keypad_tells, feed_keypad, times, arrow_in, turn_once, turn, edit, edit_by, change_editing, long_push, release_push, press_encoder, encoder_tells, feed_encoder}
 use Rattle.run_defs.specs.Pointing.{hit}
 use Rattle.run_defs.specs.Reactions.{put_value, slide, slide_to, tell_change, tell_after, react, react_input, press, hold, toggle, click, let_up, short_click, release, nudge, check_by, arrow}
 use Rattle.run_defs.specs.Ticks.{tick}
+use Rattle.run_defs.specs.Dragging.{begin_on, begin, begin_once, put_scroll, scroll_by, follow, begin_drag, follow_drag, serve_drag, end_press, tell_press}
 use Rattle.run_defs.specs.Events.{say, act, run_at, send, send_there, send_input}
 use Rattle.run_defs.specs.Fields.{over, value, past}
 use Rattle.run_defs.specs.Focusing.{unfocus, refocus, hand_over, move_from, move_focus, step_focus, focus, join, leave}
@@ -31,7 +32,7 @@ use Rattle.run_defs.specs.Words.{with_width, setting_of, sets_a_pool, with_pool,
 use Rattle.run_logs.proofs.animation_logs.Goals as goal
 
 pub returns-clause-animations : goal.returns-clause-animations
-unfolding digits chars face lines run_width greatest place key length_said send_input step_focus press_pointer pointer_tells feed_pointer press_keypad keypad_tells feed_keypad times arrow_in turn_once turn edit edit_by change_editing long_push release_push press_encoder encoder_tells feed_encoder hit put_value slide slide_to tell_change tell_after react react_input press hold toggle click let_up short_click release nudge check_by arrow tick decode_pairs has_bit with_bit named command_says state property align flow event aim_said action_name say act run_at send send_there over value past unfocus refocus hand_over move_from move_focus focus join leave make put_state leave_from leave_group forget made note attempt number natural color with ◌⊳◌ ◌▷◌ each aimed line_says selector_named state_named step with_width setting_of sets_a_pool with_pool with_further put_var animate animate_all in_round var path repeat_said
+unfolding digits chars face lines run_width greatest place key length_said send_input step_focus reach offset press_pointer hold_pointer pointer_tells begin_on begin begin_once put_scroll scroll_by follow begin_drag follow_drag serve_drag end_press tell_press feed_pointer press_keypad keypad_tells feed_keypad times arrow_in turn_once turn edit edit_by change_editing long_push release_push press_encoder encoder_tells feed_encoder hit put_value slide slide_to tell_change tell_after react react_input press hold toggle click let_up short_click release nudge check_by arrow tick decode_pairs has_bit with_bit named command_says state property align flow event aim_said action_name say act run_at send send_there over value past unfocus refocus hand_over move_from move_focus focus join leave make put_state leave_from leave_group forget made note attempt number natural color with ◌⊳◌ ◌▷◌ each aimed line_says selector_named state_named step with_width setting_of sets_a_pool with_pool with_further put_var animate animate_all in_round var path repeat_said
 returns-clause-animations c = record {
   animations_1 = refl;
   animations_2 = refl;
@@ -48,7 +49,7 @@ returns-clause-animations c = record {
 }
 
 pub returns-clause-corners : goal.returns-clause-corners
-unfolding digits chars face lines run_width greatest place key length_said send_input step_focus press_pointer pointer_tells feed_pointer press_keypad keypad_tells feed_keypad times arrow_in turn_once turn edit edit_by change_editing long_push release_push press_encoder encoder_tells feed_encoder hit put_value slide slide_to tell_change tell_after react react_input press hold toggle click let_up short_click release nudge check_by arrow tick decode_pairs has_bit with_bit named command_says state property align flow event aim_said action_name say act run_at send send_there over value past unfocus refocus hand_over move_from move_focus focus join leave make put_state leave_from leave_group forget made note attempt number natural color with ◌⊳◌ ◌▷◌ each aimed line_says selector_named state_named step with_width setting_of sets_a_pool with_pool with_further put_var animate animate_all in_round var path repeat_said
+unfolding digits chars face lines run_width greatest place key length_said send_input step_focus reach offset press_pointer hold_pointer pointer_tells begin_on begin begin_once put_scroll scroll_by follow begin_drag follow_drag serve_drag end_press tell_press feed_pointer press_keypad keypad_tells feed_keypad times arrow_in turn_once turn edit edit_by change_editing long_push release_push press_encoder encoder_tells feed_encoder hit put_value slide slide_to tell_change tell_after react react_input press hold toggle click let_up short_click release nudge check_by arrow tick decode_pairs has_bit with_bit named command_says state property align flow event aim_said action_name say act run_at send send_there over value past unfocus refocus hand_over move_from move_focus focus join leave make put_state leave_from leave_group forget made note attempt number natural color with ◌⊳◌ ◌▷◌ each aimed line_says selector_named state_named step with_width setting_of sets_a_pool with_pool with_further put_var animate animate_all in_round var path repeat_said
 returns-clause-corners c = record {
   corners_1 = refl;
   corners_2 = refl;
@@ -63,5 +64,5 @@ returns-clause-corners c = record {
 }
 
 pub returns-clause-settings : goal.returns-clause-settings
-unfolding digits chars face lines run_width greatest place key length_said send_input step_focus press_pointer pointer_tells feed_pointer press_keypad keypad_tells feed_keypad times arrow_in turn_once turn edit edit_by change_editing long_push release_push press_encoder encoder_tells feed_encoder hit put_value slide slide_to tell_change tell_after react react_input press hold toggle click let_up short_click release nudge check_by arrow tick decode_pairs has_bit with_bit named command_says state property align flow event aim_said action_name say act run_at send send_there over value past unfocus refocus hand_over move_from move_focus focus join leave make put_state leave_from leave_group forget made note attempt number natural color with ◌⊳◌ ◌▷◌ each aimed line_says selector_named state_named step with_width setting_of sets_a_pool with_pool with_further put_var animate animate_all in_round var path repeat_said is_utf8 encode text_said text_in_quotes
+unfolding digits chars face lines run_width greatest place key length_said send_input step_focus reach offset press_pointer hold_pointer pointer_tells begin_on begin begin_once put_scroll scroll_by follow begin_drag follow_drag serve_drag end_press tell_press feed_pointer press_keypad keypad_tells feed_keypad times arrow_in turn_once turn edit edit_by change_editing long_push release_push press_encoder encoder_tells feed_encoder hit put_value slide slide_to tell_change tell_after react react_input press hold toggle click let_up short_click release nudge check_by arrow tick decode_pairs has_bit with_bit named command_says state property align flow event aim_said action_name say act run_at send send_there over value past unfocus refocus hand_over move_from move_focus focus join leave make put_state leave_from leave_group forget made note attempt number natural color with ◌⊳◌ ◌▷◌ each aimed line_says selector_named state_named step with_width setting_of sets_a_pool with_pool with_further put_var animate animate_all in_round var path repeat_said is_utf8 encode text_said text_in_quotes
 returns-clause-settings c = refl

@@ -8,14 +8,15 @@ use Rattle.style_defs.specs.Book.{no_lists}
 use Rattle.play_defs.specs.Handlers.{no_handlers}
 use Rattle.text_defs.specs.Fonts.{face}
 use Rattle.text_defs.specs.Lines.{lines, run_width, greatest}
-use Rattle.scene_defs.specs.Place.{place}
+use Rattle.scene_defs.specs.Place.{place, reach, offset}
 use Rattle.run_defs.specs.Commands.{command_says, state, property, align, flow, event, aim_said, action_name, key}
 use Rattle.run_defs.specs.Lengths.{length_said}
 use Rattle.run_defs.specs.Animating.{animate_all}
-use Rattle.run_defs.specs.Devices.{press_pointer, pointer_tells, feed_pointer, press_keypad, keypad_tells, feed_keypad, times, arrow_in, turn_once, turn, edit, edit_by, change_editing, long_push, release_push, press_encoder, encoder_tells, feed_encoder}
+use Rattle.run_defs.specs.Devices.{press_pointer, hold_pointer, pointer_tells, feed_pointer, press_keypad, keypad_tells, feed_keypad, times, arrow_in, turn_once, turn, edit, edit_by, change_editing, long_push, release_push, press_encoder, encoder_tells, feed_encoder}
 use Rattle.run_defs.specs.Pointing.{hit}
 use Rattle.run_defs.specs.Reactions.{put_value, slide, slide_to, tell_change, tell_after, react, react_input, press, hold, toggle, click, let_up, short_click, release, nudge, check_by, arrow}
 use Rattle.run_defs.specs.Ticks.{tick}
+use Rattle.run_defs.specs.Dragging.{begin_on, begin, begin_once, put_scroll, scroll_by, follow, begin_drag, follow_drag, serve_drag, end_press, tell_press}
 use Rattle.run_defs.specs.Events.{say, act, run_at, send, send_there, send_input}
 use Rattle.run_defs.specs.Fields.{over, value, past}
 use Rattle.run_defs.specs.Focusing.{unfocus, refocus, hand_over, move_from, move_focus, step_focus, focus, join, leave}
@@ -46,7 +47,7 @@ returns-clause-logs c = record {
 }
 
 pub returns-clause-devices : goal.returns-clause-devices
-unfolding digits chars face lines run_width greatest place key length_said send_input step_focus press_pointer pointer_tells feed_pointer press_keypad keypad_tells feed_keypad times arrow_in turn_once turn edit edit_by change_editing long_push release_push press_encoder encoder_tells feed_encoder hit put_value slide slide_to tell_change tell_after react react_input press hold toggle click let_up short_click release nudge check_by arrow tick animate_all decode_pairs has_bit with_bit named command_says state property align flow event aim_said action_name say act run_at send send_there over value past unfocus refocus hand_over move_from move_focus focus join leave make put_state leave_from leave_group forget made note attempt number natural color with ◌⊳◌ ◌▷◌ each aimed line_says selector_named state_named step with_width setting_of sets_a_pool with_pool with_further
+unfolding digits chars face lines run_width greatest place key length_said send_input step_focus reach offset press_pointer hold_pointer pointer_tells begin_on begin begin_once put_scroll scroll_by follow begin_drag follow_drag serve_drag end_press tell_press feed_pointer press_keypad keypad_tells feed_keypad times arrow_in turn_once turn edit edit_by change_editing long_push release_push press_encoder encoder_tells feed_encoder hit put_value slide slide_to tell_change tell_after react react_input press hold toggle click let_up short_click release nudge check_by arrow tick animate_all decode_pairs has_bit with_bit named command_says state property align flow event aim_said action_name say act run_at send send_there over value past unfocus refocus hand_over move_from move_focus focus join leave make put_state leave_from leave_group forget made note attempt number natural color with ◌⊳◌ ◌▷◌ each aimed line_says selector_named state_named step with_width setting_of sets_a_pool with_pool with_further
 returns-clause-devices c = record {
   devices_1 = refl;
   devices_2 = refl;
@@ -63,7 +64,7 @@ returns-clause-devices c = record {
 }
 
 pub returns-clause-corners : goal.returns-clause-corners
-unfolding digits chars face lines run_width greatest place key length_said send_input step_focus press_pointer pointer_tells feed_pointer press_keypad keypad_tells feed_keypad times arrow_in turn_once turn edit edit_by change_editing long_push release_push press_encoder encoder_tells feed_encoder hit put_value slide slide_to tell_change tell_after react react_input press hold toggle click let_up short_click release nudge check_by arrow tick animate_all decode_pairs has_bit with_bit named command_says state property align flow event aim_said action_name say act run_at send send_there over value past unfocus refocus hand_over move_from move_focus focus join leave make put_state leave_from leave_group forget made note attempt number natural color with ◌⊳◌ ◌▷◌ each aimed line_says selector_named state_named step with_width setting_of sets_a_pool with_pool with_further
+unfolding digits chars face lines run_width greatest place key length_said send_input step_focus reach offset press_pointer hold_pointer pointer_tells begin_on begin begin_once put_scroll scroll_by follow begin_drag follow_drag serve_drag end_press tell_press feed_pointer press_keypad keypad_tells feed_keypad times arrow_in turn_once turn edit edit_by change_editing long_push release_push press_encoder encoder_tells feed_encoder hit put_value slide slide_to tell_change tell_after react react_input press hold toggle click let_up short_click release nudge check_by arrow tick animate_all decode_pairs has_bit with_bit named command_says state property align flow event aim_said action_name say act run_at send send_there over value past unfocus refocus hand_over move_from move_focus focus join leave make put_state leave_from leave_group forget made note attempt number natural color with ◌⊳◌ ◌▷◌ each aimed line_says selector_named state_named step with_width setting_of sets_a_pool with_pool with_further
 returns-clause-corners c = record {
   corners_1 = refl;
   corners_2 = refl;

@@ -1,4 +1,19 @@
+use Rattle.std.proofs.Common.{sym, subst, FitsSigned, w32, rules}
+use Rattle.std.proofs.lemmas.Int.{to_z-of_z}
+use Rattle.gui_input.specs.Points.{IsPoint}
+use Rattle.gui_play.specs.Boards.{machine_of}
+use Rattle.gui_play.proofs.Touching.{lifted_point, touched_point}
 use Rattle.gui_play.proofs.board.Board.carry_out.Goals as goal
+
+pub feed_pointer-requires : goal.feed_pointer-requires
+feed_pointer-requires g c =
+    let x : FitsSigned w32 c.in-Touch.x = search rules in
+    let y : FitsSigned w32 c.in-Touch.y = search rules in
+    let is = simp to_z-of_z at c.down_at.ensures in
+    subst IsPoint (sym is) (touched_point (machine_of c.args.self.now) c.in-Touch.x c.in-Touch.y (rw c.in-Touch.is at c.requires.answer))
+
+pub feed_pointer-requires-in-Release : goal.feed_pointer-requires-in-Release
+feed_pointer-requires-in-Release g c = subst IsPoint (sym c.lifted.ensures) lifted_point
 
 pub returns-in-On : goal.returns-in-On
 returns-in-On g c = rw c.in-On.is (c.add_handler.ensures (g.S.Sink.state c.args.log.now))

@@ -4,4 +4,6 @@ use Rattle.gui_play.proofs.board.Board.press_pointer.Goals as goal
 
 pub returns : goal.returns
 unfolding press_pointer
-returns g c = played_then _ _ _ _ _ (c.aim_pointer.ensures (g.S.Sink.state c.args.log.now)) c.press_aimed.ensures
+returns g c =
+    let log = g.S.Sink.state c.args.log.now in
+    played_then _ _ _ _ _ (played_then _ _ _ _ _ (c.aim_pointer.ensures log) (c.set_scrolling.ensures log)) c.press_aimed.ensures

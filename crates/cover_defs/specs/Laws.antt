@@ -4,7 +4,7 @@ use Rattle.gui_base.specs.Area.{Rect, has}
 use Rattle.gui_base.specs.Color.{black, parts}
 use Rattle.scene_defs.specs.Picture.{paint, paint_seen}
 use Rattle.scene_defs.specs.Scene.{Scene}
-use Rattle.scene_defs.specs.Shown.{order, shown}
+use Rattle.scene_defs.specs.Shown.{order, painted}
 use Rattle.scene_defs.specs.Walk.{IsShowable}
 use Rattle.cover_defs.specs.Cover.{cover, uncovered}
 use Rattle.cover_defs.specs.Steps.{handles}
@@ -30,10 +30,10 @@ EachIsCounted =
 abbrev pub RememberedIsLast : Type 0
 RememberedIsLast =
     (scene : Scene) (part : Rect) →
-    fold (remembered scene part) None (shown scene) ≡ cover scene part
+    fold (remembered scene part) None (painted scene) ≡ cover scene part
 
--- A walk that waits for the cover, and goes on from there, meets the cover and all that is shown after it.
+-- A walk that waits for the cover, and goes on from there, meets the cover and all that is painted after it.
 abbrev pub WaitedIsUncovered : Type 0
 WaitedIsUncovered =
     (scene : Scene) (part : Rect) → IsShowable scene →
-    from_handle (cover scene part) (shown scene) ≡ uncovered scene part
+    from_handle (cover scene part) (painted scene) ≡ uncovered scene part

@@ -6,6 +6,7 @@ use Rattle.std.proofs.lemmas.Bool.{cases_Bool, or_parts, or_left, or_right, not-
 use Rattle.std.proofs.lemmas.Bool.Decides.{nat_tests, eqb_tells}
 use Rattle.std.proofs.lemmas.List.Folds.{list_any-append}
 use Rattle.gui_base.specs.Area.{Rect, has}
+use Rattle.scene_defs.specs.Shown.{Entry}
 use Rattle.scene_defs.specs.Visible.{holds}
 use Rattle.debt_defs.specs.Look.{Look, is_among, IsLook, laid_by}
 use Rattle.debt_defs.specs.Same.{same_visible}
@@ -79,14 +80,15 @@ module _ {I : Type 0} (same : I → I → Bool) (named : Option ℕ) (before aft
   named-area-out None e = (refl, refl)
   named-area-out (Some h) e = named-out h e
 
-  -- each object lays the same
-  pub laid-same : LaySame same named before after → (k : ℕ) → laid_by before x y k ≡ laid_by after x y k
-  laid-same lays k = elim (cases_Bool (is_touched same named before after k)) [
-    | inl touches ↦ let out = touched-out k touches in rw (out.0, out.1) refl
+  -- each entry lays the same
+  pub laid-same : LaySame same named before after → (e : Entry) → laid_by before x y e ≡ laid_by after x y e
+  laid-same lays e = elim (cases_Bool (is_touched same named before after e.handle)) [
+    | inl touches ↦ let out = touched-out e.handle touches in rw (out.0, out.1) refl
     | inr untouched ↦
         let p = or_parts _ _ untouched in
         let q = or_parts _ _ p.1 in
-        let seen = visible-is (before.visible k) (after.visible k) (not-false _ q.0) in
-        let items = lays k x y p.0 (not-false _ q.1) in
-        rw (seen, items) refl
+        let r = or_parts _ _ q.1 in
+        let seen = visible-is (before.visible e.handle) (after.visible e.handle) (not-false _ q.0) in
+        let laid = lays e x y p.0 (not-false _ r.0) (not-false _ r.1) in
+        rw (seen, laid) refl
   ]

@@ -3,52 +3,58 @@ use Rattle.std.proofs.Common.{◌≡◌, sym, ap, ℕ, true, cond, ◌||◌, Opt
 use Rattle.std.specs.List.{filter}
 use Rattle.std.proofs.lemmas.Bool.{cases_Bool, and_left, and_right, not_from_true, false≢true}
 use Rattle.gui_base.specs.declared.refusal.Refusal.{Refusal}
-use Rattle.gui_base.specs.Forest.{Forest, Empty, Tree, cut_by, preorder, with_row_by}
+use Rattle.gui_base.specs.Forest.{Forest, Empty, Tree, and_then, cut_by, preorder, with_row_by}
 use Rattle.gui_base.proofs.Forests.{map-with_row_by}
 use Rattle.style_defs.specs.Book.{Book}
 use Rattle.scene_defs.specs.declared.Change.{Change}
 use Rattle.scene_defs.specs.declared.Change.TheVariants as change
-use Rattle.scene_defs.specs.Scene.{Object, Scene, handle_of, is_at, new_object}
+use Rattle.scene_defs.specs.Scene.{Object, Scene, handle_of, handles_of, is_at, new_object}
 use Rattle.scene_defs.specs.Row.{Setter}
 use Rattle.scene_defs.specs.Deeds.{setter_of}
 use Rattle.scene_defs.specs.Assets.{AssetChange}
 use Rattle.scene_defs.specs.Styling.{Styling}
 use Rattle.scene_defs.specs.Change.{answer_of, after_by, styling_in, asset_change_in, scene_after, scene_by}
 use Rattle.scene_defs.specs.Edits.{over_row, over_text, parent_object, last_below, at_index_below}
-use Rattle.scene_defs.specs.Visible.{root_tree}
-use Rattle.scene_defs.specs.Shown.{order}
+use Rattle.scene_defs.specs.Visible.{root_tree, shown_trees}
+use Rattle.scene_defs.specs.Shown.{entries_in}
 use Rattle.scene_defs.specs.Valid.{IsValid}
 use Rattle.scene_defs.proofs.Distinct.{IsDistinct, distinct_once, distinct-three, three}
 use Rattle.scene_defs.proofs.Validity.{change_keeps_valid}
 use Rattle.debt_defs.specs.Named.{named}
 use Rattle.debt_defs.specs.Orders.{remains, sets_text, KeepOrder, OthersKeepOrder, SettersKeepOrder}
-use Rattle.debt_defs.proofs.Inside.{handles_in}
-use Rattle.debt_defs.proofs.Orders.{order-kept, handles-then, cut-last, cut-added, cut-moved, cut-moved_last, cut-deleted}
+use Rattle.debt_defs.proofs.Orders.{at, order-kept, cut-last, cut-added, cut-moved, cut-moved_last, cut-deleted}
 use Rattle.debt_defs.proofs.Roots.{load-kept}
+
+handles-both : (f g : Forest Object) → handles_of (and_then f g) ≡ and_then (handles_of f) (handles_of g)
+handles-both Empty g = refl
+handles-both (Tree object cs rest) g = ap (Tree object.handle (handles_of cs)) (handles-both rest g)
+
+abbrev shown_handles : Scene → Forest ℕ
+shown_handles scene = handles_of (shown_trees scene)
 
 -- Changes that leave the trees.
 module _ (h : ℕ) (f : Object → Object) (stays : (object : Object) → (f object).handle ≡ object.handle) where
   abbrev set : Forest Object → Forest Object
   set = with_row_by (is_at h) f
 
-  handles-set : (g : Forest Object) → handles_in (set g) ≡ handles_in g
-  handles-set g = ap preorder (map-with_row_by handle_of (λ k. true) (is_at h) f stays g)
+  handles-set : (g : Forest Object) → handles_of (set g) ≡ handles_of g
+  handles-set g = map-with_row_by handle_of (λ k. true) (is_at h) f stays g
 
   one-set : (object : Object) → (cond (is_at h object) (f object) object).handle ≡ object.handle
   one-set object = elim (cases_Bool (is_at h object)) [ inl is ↦ rw is (stays object) | inr isnt ↦ rw isnt refl ]
 
-  root-set : (g : Forest Object) (a : ℕ) → handles_in (root_tree (set g) a) ≡ handles_in (root_tree g a)
+  root-set : (g : Forest Object) (a : ℕ) → handles_of (root_tree (set g) a) ≡ handles_of (root_tree g a)
   root-set Empty a = refl
   root-set (Tree object cs rest) a = elim (cases_Bool (is_at a object)) [
     | inl is ↦ rw (one-set object, is, one-set object, handles-set cs) refl
     | inr isnt ↦ rw (one-set object, isnt) (root-set rest a)
   ]
 
-  order-set : (g : Forest Object) (a : ℕ) → handles_in (three (set g) a) ≡ handles_in (three g a)
-  order-set g a = simp (handles-then, root-set)
+  order-set : (g : Forest Object) (a : ℕ) → handles_of (three (set g) a) ≡ handles_of (three g a)
+  order-set g a = simp (handles-both, root-set)
 
 pub after-order : (scene : Scene) (change : Change) (setter : Option Setter) (styling : Option Styling) (assets : Option AssetChange) →
-    (is_some (option_map (λ (s : Setter). s.handle) setter) || (sets_text change || (is_some styling || is_some assets))) ≡ true → order (after_by setter styling assets scene change) ≡ order scene
+    (is_some (option_map (λ (s : Setter). s.handle) setter) || (sets_text change || (is_some styling || is_some assets))) ≡ true → shown_handles (after_by setter styling assets scene change) ≡ shown_handles scene
 after-order scene change (Some setter) styling assets leaves = order-set setter.handle.0 (over_row setter.after) (λ object. refl) scene.trees scene.active
 after-order scene change None (Some styling) assets leaves = refl
 after-order scene change None None (Some assets) leaves = refl
@@ -57,8 +63,8 @@ after-order scene (change.Screen n) None None None leaves = absurd (false≢true
 after-order scene change None None None leaves = absurd (false≢true leaves)
 
 pub setters_keep_order : SettersKeepOrder
-setters_keep_order scene change leaves = by (answer_of scene change) where
-  by : (answer : Option Refusal) → order (scene_by answer scene change) ≡ order scene
+setters_keep_order scene change leaves = let kept = by (answer_of scene change) in (ap preorder kept, ap entries_in kept) where
+  by : (answer : Option Refusal) → shown_handles (scene_by answer scene change) ≡ shown_handles scene
   by None = after-order scene change (setter_of change) (styling_in scene change) (asset_change_in scene change) leaves
   by (Some refusal) = refl
 
@@ -101,7 +107,7 @@ keeps scene (change.Index h n) v w = edited scene _ scene.book h.0 v w (moved-to
 keeps scene (change.Front h) v w = edited scene _ scene.book h.0 v w (moved-last (parent_object scene h.0) scene.trees h.0)
 keeps scene (change.Back h) v w = edited scene _ scene.book h.0 v w (moved-to (parent_object scene h.0) scene.trees h.0 0)
 keeps scene (change.Load h) v w = loaded scene h.0 v w
-keeps scene change v w = ap (filter (remains (named change) scene (scene_after scene change))) (sym (after-order scene change (setter_of change) (styling_in scene change) (asset_change_in scene change) refl))
+keeps scene change v w = ap (λ t. filter (at (remains (named change) scene (scene_after scene change))) (entries_in t)) (sym (after-order scene change (setter_of change) (styling_in scene change) (asset_change_in scene change) refl))
 
 pub others_keep_order : OthersKeepOrder
 others_keep_order scene change v c = by (answer_of scene change) (change_keeps_valid scene change v c) where

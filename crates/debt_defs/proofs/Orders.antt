@@ -1,15 +1,15 @@
 -- What keeps its order where trees are edited.
-use Rattle.std.proofs.Common.{◌≡◌, ◌∙◌, sym, ap, ℕ, zero, suc, Bool, true, false, cond, eqb, ◌||◌, [], ◌∷◌, ◌++◌, append_assoc, refl, arith, inl, inr, eq-eqb}
+use Rattle.std.proofs.Common.{◌≡◌, ◌∙◌, sym, ap, ℕ, zero, suc, Bool, true, false, cond, eqb, ◌||◌, List, [], ◌∷◌, ◌++◌, append_assoc, refl, arith, inl, inr, eq-eqb}
 use Rattle.std.specs.List.{filter}
 use Rattle.std.proofs.lemmas.Bool.{cases_Bool, or_left, or_right, eqb-true}
 use Rattle.std.proofs.lemmas.Bool.Decides.{nat_tests}
 use Rattle.std.proofs.lemmas.List.Elements.{filter-append}
 use Rattle.gui_base.specs.Forest.{Forest, Empty, Tree, and_then, put_at, leaf, cut_by, tree_by, with_children_by, added_by, moved_by, moved_last_by}
-use Rattle.scene_defs.specs.Scene.{Object, is_at}
+use Rattle.scene_defs.specs.Scene.{Object, is_at, handles_of}
+use Rattle.scene_defs.specs.Shown.{Entry, own, bars_over, entries_in}
 use Rattle.scene_defs.specs.Visible.{root_tree}
 use Rattle.scene_defs.proofs.Distinct.{there, IsDistinct, three}
 use Rattle.scene_defs.proofs.Totals.{cut-off}
-use Rattle.debt_defs.proofs.Inside.{handles_in}
 
 -- Edits of trees, which are undone by a cut. The test tells the tree that is moved.
 module _ {A : Type 0} (test : A → Bool) where
@@ -56,25 +56,31 @@ module _ {A : Type 0} (test : A → Bool) where
   pub cut-deleted : (f : Forest A) → cut_by test (cut_by test f) ≡ cut_by test f
   cut-deleted = cut-cut
 
--- The order of what is left.
-pub filter-none : (q : ℕ → Bool) (f : Forest Object) → ((k : ℕ) → there f k ≡ true → q k ≡ false) → filter q (handles_in f) ≡ []
+-- The order of what is left: an entry goes with its object.
+abbrev pub entries_of : Forest Object → List Entry
+entries_of f = entries_in (handles_of f)
+
+abbrev pub at : (ℕ → Bool) → Entry → Bool
+at q e = q e.handle
+
+pub filter-none : (q : ℕ → Bool) (f : Forest Object) → ((k : ℕ) → there f k ≡ true → q k ≡ false) → filter (at q) (entries_of f) ≡ []
 filter-none q Empty none = refl
 filter-none q (Tree object cs rest) none =
     let top : q object.handle ≡ false = none object.handle (or_left _ _ (eq-eqb object.handle object.handle refl)) in
     let inner = filter-none q cs (λ k i. none k (or_right _ _ (or_left _ _ i))) in
     let later = filter-none q rest (λ k i. none k (or_right _ _ (or_right _ _ i))) in
-    rw (top, filter-append q (handles_in cs) (handles_in rest), inner, later) refl
+    rw (top, filter-append (at q) (entries_of cs) (bars_over object.handle ∷ entries_of rest), inner, top, later) refl
 
 -- what is cut out is left out
 filter-cut : (q : ℕ → Bool) (f : Forest Object) (h : ℕ) → IsDistinct f → ((k : ℕ) → there (tree_by (is_at h) f) k ≡ true → q k ≡ false) →
-    filter q (handles_in f) ≡ filter q (handles_in (cut_by (is_at h) f))
+    filter (at q) (entries_of f) ≡ filter (at q) (entries_of (cut_by (is_at h) f))
 filter-cut q Empty h d none = refl
 filter-cut q (Tree object cs rest) h d none = elim (cases_Bool (is_at h object)) [
   | inl top ↦
       let out : there rest h ≡ false = ap (there rest) (sym (eqb-true object.handle h top)) ∙ d.2 in
-      rw top (filter-top (λ k i. none k (rw top i)) ∙ ap (λ f. filter q (handles_in f)) (sym (cut-off rest h out)))
-  | inr lower ↦ rw lower (ap (λ ks. cond (q object.handle) (object.handle ∷ ks) ks) (
-      filter-append q (handles_in cs) (handles_in rest)
+      rw top (filter-top (λ k i. none k (rw top i)) ∙ ap (λ f. filter (at q) (entries_of f)) (sym (cut-off rest h out)))
+  | inr lower ↦ rw lower (ap (λ es. cond (q object.handle) (own object.handle ∷ es) es) (
+      filter-append (at q) (entries_of cs) (bars_over object.handle ∷ entries_of rest)
       ∙ elim (cases_Bool (there cs h)) [
         | inl below ↦
             let out = d.0 h below in
@@ -84,14 +90,14 @@ filter-cut q (Tree object cs rest) h d none = elim (cases_Bool (is_at h object))
             let later = filter-cut q rest h d.4 (λ k i. none k (rw (lower, beside) i)) in
             rw (cut-off cs h beside, later) refl
       ]
-      ∙ sym (filter-append q (handles_in (cut_by (is_at h) cs)) (handles_in (cut_by (is_at h) rest)))))
+      ∙ sym (filter-append (at q) (entries_of (cut_by (is_at h) cs)) (bars_over object.handle ∷ entries_of (cut_by (is_at h) rest)))))
 ]
   where
-    filter-top : ((k : ℕ) → (eqb object.handle k || (there cs k || false)) ≡ true → q k ≡ false) → filter q (handles_in (Tree object cs rest)) ≡ filter q (handles_in rest)
+    filter-top : ((k : ℕ) → (eqb object.handle k || (there cs k || false)) ≡ true → q k ≡ false) → filter (at q) (entries_of (Tree object cs rest)) ≡ filter (at q) (entries_of rest)
     filter-top none =
         let top : q object.handle ≡ false = none object.handle (or_left _ _ (eq-eqb object.handle object.handle refl)) in
         let inner = filter-none q cs (λ k i. none k (or_right _ _ (or_left _ _ i))) in
-        rw (top, filter-append q (handles_in cs) (handles_in rest), inner) refl
+        rw (top, filter-append (at q) (entries_of cs) (bars_over object.handle ∷ entries_of rest), inner, top) refl
 
 -- roots of what is left
 root-gone : (f : Forest Object) (h : ℕ) → root_tree (cut_by (is_at h) f) h ≡ Empty
@@ -128,11 +134,13 @@ three-cut f a h =
 pub order-kept : (q : ℕ → Bool) (f g : Forest Object) (a h : ℕ) → IsDistinct (three f a) → IsDistinct (three g a) → cut_by (is_at h) f ≡ cut_by (is_at h) g →
     ((k : ℕ) → there (tree_by (is_at h) (three f a)) k ≡ true → q k ≡ false) →
     ((k : ℕ) → there (tree_by (is_at h) (three g a)) k ≡ true → q k ≡ false) →
-    filter q (handles_in (three f a)) ≡ filter q (handles_in (three g a))
+    filter (at q) (entries_of (three f a)) ≡ filter (at q) (entries_of (three g a))
 order-kept q f g a h df dg same first second =
     let cuts : cut_by (is_at h) (three f a) ≡ cut_by (is_at h) (three g a) = sym (three-cut f a h) ∙ ap (λ t. three t a) same ∙ three-cut g a h in
-    filter-cut q (three f a) h df first ∙ ap (λ t. filter q (handles_in t)) cuts ∙ sym (filter-cut q (three g a) h dg second)
+    filter-cut q (three f a) h df first ∙ ap (λ t. filter (at q) (entries_of t)) cuts ∙ sym (filter-cut q (three g a) h dg second)
 
-pub handles-then : (f g : Forest Object) → handles_in (and_then f g) ≡ handles_in f ++ handles_in g
-handles-then Empty g = refl
-handles-then (Tree object cs rest) g = ap (λ l. object.handle ∷ l) (ap (λ l. handles_in cs ++ l) (handles-then rest g) ∙ sym (append_assoc (handles_in cs) (handles_in rest) (handles_in g)))
+pub entries-then : (f g : Forest Object) → entries_of (and_then f g) ≡ entries_of f ++ entries_of g
+entries-then Empty g = refl
+entries-then (Tree object cs rest) g =
+    ap (λ l. own object.handle ∷ l) (ap (λ l. entries_of cs ++ (bars_over object.handle ∷ l)) (entries-then rest g)
+    ∙ sym (append_assoc (entries_of cs) (bars_over object.handle ∷ entries_of rest) (entries_of g)))

@@ -1,6 +1,6 @@
 -- Items name fonts and images that are finished, and what is finished stays.
-use Rattle.std.proofs.Common.{◌≡◌, ◌∙◌, sym, ap, ℕ, ◌==◌, true, false, Option, Some, None, List, [], ◌∷◌, refl, inl, inr, ℤ}
-use Rattle.std.specs.Prelude.{pos, negsuc}
+use Rattle.std.proofs.Common.{◌≡◌, ◌∙◌, sym, ap, ℕ, ◌==◌, Bool, ◌++◌, true, false, Option, Some, None, List, [], ◌∷◌, refl, inl, inr, ℤ}
+use Rattle.std.specs.Prelude.{if◌then◌else◌, pos, negsuc}
 use Rattle.std.proofs.lemmas.Bool.{cases_Bool, false≢true}
 use Rattle.gui_base.specs.Area.{Rect, nat_of}
 use Rattle.gui_base.specs.Props.{is_value}
@@ -14,11 +14,11 @@ use Rattle.text_defs.specs.Images.{Image, image_of, size_in, is_done}
 use Rattle.widget_defs.specs.declared.ImageLook.{ImageLook}
 use Rattle.widget_defs.specs.declared.ItemPaint.{ItemPaint}
 use Rattle.widget_defs.specs.declared.ItemPaint.TheVariants.{Fill, Ring, Ink, Picture}
-use Rattle.widget_defs.specs.Items.{Item, content_items, content_of, items as items_in, picture_of}
+use Rattle.widget_defs.specs.Items.{Item, content_items, content_of, items as items_in, bars as bars_in, fill_of, right_bar, bottom_bar, picture_of}
 use Rattle.widget_defs.specs.Looks.{Look, PartValues, number_of}
 use Rattle.scene_defs.specs.declared.Change.{Change}
 use Rattle.scene_defs.specs.Change.{answer_of, scene_after}
-use Rattle.scene_defs.specs.Items.{items, items_of}
+use Rattle.scene_defs.specs.Items.{items, items_of, bars, bars_of, bar_look}
 use Rattle.scene_defs.specs.Looks.{font_at, image_look, look_of}
 use Rattle.scene_defs.specs.Place.{place}
 use Rattle.scene_defs.specs.Scene.{Object, Scene, object_at, value}
@@ -120,3 +120,24 @@ scene-ready scene h valid = by (object_at scene h) (place scene h) where
   by (Some object) (Some area) =
       items-ready scene.fonts scene.images (look_of scene object) area (font-finished scene object.handle valid)
       (λ i e. image-whole scene.images object.row.image i e)
+
+-- bars name nothing
+some-bars : (fonts : List Font) (images : List Image) (a b : Bool) (right bottom : Item) → IsReady fonts images right.paint → IsReady fonts images bottom.paint →
+    AreReady fonts images ((if a then [] else right ∷ []) ++ (if b then [] else bottom ∷ []))
+some-bars fonts images true true right bottom r s = tt
+some-bars fonts images true false right bottom r s = (s, tt)
+some-bars fonts images false true right bottom r s = (r, tt)
+some-bars fonts images false false right bottom r s = (r, (s, tt))
+
+bars-in : (fonts : List Font) (images : List Image) (look : Look) (area : Rect) → AreReady fonts images (bars_in look area)
+bars-in fonts images look area = elim (cases_Bool look.scrollable) [
+  | inl is ↦ rw is (some-bars fonts images (look.reach.1 == 0) (look.reach.0 == 0) (fill_of (right_bar look area) look.scrollbar) (fill_of (bottom_bar look area) look.scrollbar) tt tt)
+  | inr isnt ↦ rw isnt tt
+]
+
+pub bars-ready : (scene : Scene) (h : ℕ) → AreReady scene.fonts scene.images (bars scene h)
+bars-ready scene h = by (object_at scene h) (place scene h) where
+  by : (object : Option Object) (area : Option Rect) → AreReady scene.fonts scene.images (bars_of scene object area)
+  by None area = tt
+  by (Some object) None = tt
+  by (Some object) (Some area) = bars-in scene.fonts scene.images (bar_look scene object) area

@@ -8,8 +8,7 @@ use Rattle.gui_base.specs.Forest.{Forest, Empty, Tree, and_then}
 use Rattle.scene_defs.specs.Scene.{Object, is_at}
 use Rattle.scene_defs.specs.Visible.{root_tree}
 use Rattle.scene_defs.proofs.Distinct.{there, IsDistinct, three, there-and_then, there_from_root}
-use Rattle.debt_defs.proofs.Inside.{handles_in}
-use Rattle.debt_defs.proofs.Orders.{filter-none, handles-then}
+use Rattle.debt_defs.proofs.Orders.{entries_of, at, filter-none, entries-then}
 
 -- two roots have no handle in common
 apart : (f : Forest Object) (a b k : ℕ) → IsDistinct f → a ≢ b → there (root_tree f a) k ≡ true → there (root_tree f b) k ≡ false
@@ -45,19 +44,19 @@ off-screen f a b k d ne one two i =
 
 -- the layers are left where a test leaves the screen out
 layers-left : (q : ℕ → Bool) (f : Forest Object) (a : ℕ) → ((k : ℕ) → there (root_tree f a) k ≡ true → q k ≡ false) →
-    filter q (handles_in (three f a)) ≡ filter q (handles_in (and_then (root_tree f 1) (root_tree f 2)))
+    filter (at q) (entries_of (three f a)) ≡ filter (at q) (entries_of (and_then (root_tree f 1) (root_tree f 2)))
 layers-left q f a none =
     let layers = and_then (root_tree f 1) (root_tree f 2) in
-    ap (filter q) (handles-then (root_tree f a) layers)
-    ∙ filter-append q (handles_in (root_tree f a)) (handles_in layers)
-    ∙ ap (λ l. l ++ filter q (handles_in layers)) (filter-none q (root_tree f a) none)
+    ap (filter (at q)) (entries-then (root_tree f a) layers)
+    ∙ filter-append (at q) (entries_of (root_tree f a)) (entries_of layers)
+    ∙ ap (λ l. l ++ filter (at q) (entries_of layers)) (filter-none q (root_tree f a) none)
 
 -- what is shown before and after a load keeps its order
 pub load-kept : (q : ℕ → Bool) (f : Forest Object) (a b : ℕ) → IsDistinct f → a ≢ 1 → a ≢ 2 → b ≢ 1 → b ≢ 2 →
     ((k : ℕ) → there (three f a) k ≡ false → q k ≡ false) → ((k : ℕ) → there (three f b) k ≡ false → q k ≡ false) →
-    filter q (handles_in (three f a)) ≡ filter q (handles_in (three f b))
+    filter (at q) (entries_of (three f a)) ≡ filter (at q) (entries_of (three f b))
 load-kept q f a b d a1 a2 b1 b2 first second = elim (eqb_tells a b) [
-  | inl is ↦ ap (λ c. filter q (handles_in (three f c))) is.1
+  | inl is ↦ ap (λ c. filter (at q) (entries_of (three f c))) is.1
   | inr isnt ↦
       layers-left q f a (λ k i. second k (off-screen f a b k d isnt.1 a1 a2 i))
       ∙ sym (layers-left q f b (λ k i. first k (off-screen f b a k d (λ e. isnt.1 (sym e)) b1 b2 i)))

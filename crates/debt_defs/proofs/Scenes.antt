@@ -18,8 +18,8 @@ use Rattle.scene_defs.specs.Change.{answer_of, scene_after, scene_by}
 use Rattle.scene_defs.specs.Place.{panel_of, place}
 use Rattle.scene_defs.specs.Visible.{holds, visible, shown_trees}
 use Rattle.gui_base.specs.Coats.{Coat}
-use Rattle.scene_defs.specs.Items.{items, coats, chars_at}
-use Rattle.scene_defs.specs.Shown.{Seen, seen, order}
+use Rattle.scene_defs.specs.Items.{items, bars, coats, chars_at}
+use Rattle.scene_defs.specs.Shown.{Seen, Entry, entries, entry_coats, seen_as, seen_entry}
 use Rattle.scene_defs.specs.Picture.{paint_seen, paint}
 use Rattle.scene_defs.specs.Valid.{IsValid}
 use Rattle.scene_defs.specs.Walk.{IsShowable}
@@ -37,7 +37,7 @@ use Rattle.debt_defs.proofs.Samenesses.{items-lay}
 use Rattle.debt_defs.proofs.Looks.{frame_of_looks}
 use Rattle.debt_defs.proofs.Inside.{fits, visible_fits, visible-none, seen_inside_above, scene_is_look}
 use Rattle.debt_defs.proofs.Kept.{others_keep_order}
-use Rattle.debt_defs.proofs.Ready.{assets-stay, scene-ready}
+use Rattle.debt_defs.proofs.Ready.{assets-stay, scene-ready, bars-ready}
 use Rattle.debt_defs.proofs.Texts.{text-stays}
 
 -- The paint of a scene is that of its look.
@@ -45,25 +45,25 @@ abbrev is_seen : Seen → Bool
 is_seen s = is_some s.visible
 
 module _ (x y : ℤ) where
-  one-painted : (v : Option Rect) (shown : List Coat) (h : ℕ) (c : Rgb565) (more : List Seen) →
-      fold (paint_seen x y) c (filter is_seen (record { handle = h; visible = v; coats = shown } ∷ more))
-      ≡ fold (paint_seen x y) (fold over c (if holds v x y then map (dab_at x y) shown else [])) (filter is_seen more)
-  one-painted None shown h c more = refl
-  one-painted (Some area) shown h c more = elim (cases_Bool (has area x y)) [
-    | inl inside ↦ rw inside (ap (λ d. fold (paint_seen x y) d (filter is_seen more)) (sym (fold-map over (dab_at x y) c shown)))
+  one-painted : (lays : Entry → List Coat) (v : Option Rect) (e : Entry) (c : Rgb565) (more : List Seen) →
+      fold (paint_seen x y) c (filter is_seen (seen_as lays v e ∷ more))
+      ≡ fold (paint_seen x y) (fold over c (if holds v x y then map (dab_at x y) (lays e) else [])) (filter is_seen more)
+  one-painted lays None e c more = refl
+  one-painted lays (Some area) e c more = elim (cases_Bool (has area x y)) [
+    | inl inside ↦ rw inside (ap (λ d. fold (paint_seen x y) d (filter is_seen more)) (sym (fold-map over (dab_at x y) c (lays e))))
     | inr outside ↦ rw outside refl
   ]
 
-  painted : (scene : Scene) (ks : List ℕ) (c : Rgb565) → fold (paint_seen x y) c (filter is_seen (map (seen scene) ks)) ≡ fold over c (flat_map (laid_by (look_of scene) x y) ks)
+  painted : (scene : Scene) (es : List Entry) (c : Rgb565) → fold (paint_seen x y) c (filter is_seen (map (seen_entry scene) es)) ≡ fold over c (flat_map (laid_by (look_of scene) x y) es)
   painted scene [] c = refl
-  painted scene (k ∷ ks) c =
+  painted scene (e ∷ es) c =
       let laid = laid_by (look_of scene) x y in
-      one-painted (visible scene k) (coats scene k) k c (map (seen scene) ks)
-      ∙ painted scene ks (fold over c (laid k))
-      ∙ sym (fold-append over c (laid k) (flat_map laid ks))
+      one-painted (entry_coats scene) (visible scene e.handle) e c (map (seen_entry scene) es)
+      ∙ painted scene es (fold over c (laid e))
+      ∙ sym (fold-append over c (laid e) (flat_map laid es))
 
 pub painted_by_look : PaintedByLook
-painted_by_look scene x y = painted x y scene (order scene) black
+painted_by_look scene x y = painted x y scene (entries scene) black
 
 -- What does not remain is seen only inside the named object.
 part-inside : (scene : Scene) (n : Option ℕ) (k : ℕ) → IsShowable scene → is_part_of scene n k ≡ true → IsInside (look_of scene) n k
@@ -88,7 +88,7 @@ others-inside n before after k b a off = elim (and_cases _ _ off) [
   ]
 ]
 
--- What a change does not name lays the same where it has the same items.
+-- What a change does not name lays the same where it has the same items and the same bars.
 none-before : (bs : List Item) → same_by same_item [] bs ≡ true → bs ≡ []
 none-before [] same = refl
 none-before (b ∷ bs) same = cc
@@ -99,9 +99,15 @@ none-after (a ∷ as') same = cc
 
 scenes-lay : (scene : Scene) (change : Change) → IsValid scene → answer_of scene change ≡ None →
     LaySame same_item (named change) (look_of scene) (look_of (scene_after scene change))
-scenes-lay scene change v done k x y other same = by (object_at scene k) (object_at (scene_after scene change) k) refl refl where
+scenes-lay scene change v done e x y other same bars_same = elim (cases_Bool e.is_bars) [
+  | inl is ↦ rw is (items-lay scene.fonts after.fonts scene.images after.images [] (assets-stay scene change v done) x y (bars scene k) (bars after k) (bars-ready scene k) bars_same)
+  | inr isnt ↦ rw isnt (by (object_at scene k) (object_at after k) refl refl)
+] where
   after : Scene
   after = scene_after scene change
+
+  k : ℕ
+  k = e.handle
 
   by : (old new : Option Object) → object_at scene k ≡ old → object_at after k ≡ new → map (dab_at x y) (coats scene k) ≡ map (dab_at x y) (coats after k)
   by None new was is =

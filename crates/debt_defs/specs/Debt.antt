@@ -28,11 +28,12 @@ owed_by before after h =
     listed old ++ (if same_visible old new then [] else listed new)
 
 module _ {I : Type 0} (same : I → I → Bool) where
-  -- whether an object is seen elsewhere after a change, or shows other items
+  -- whether an object is seen elsewhere after a change, or shows other items or other bars
   abbrev pub differs : Look I → Look I → ℕ → Bool
   differs before after h =
       not (same_visible (before.visible h) (after.visible h))
-      || not (same_by same (before.items h) (after.items h))
+      || (not (same_by same (before.items h) (after.items h))
+      || not (same_by same (before.bars h) (after.bars h)))
 
   -- whether a change touches an object: the one that it names, and each that differs
   abbrev pub is_touched : Option ℕ → Look I → Look I → ℕ → Bool

@@ -1,5 +1,5 @@
 -- Debts that were worked out by hand.
-use Rattle.std.specs.Prelude.{◌≡◌, ℕ, true, false, pos, List, [], ◌∷◌, ◌++◌, replicate, codes}
+use Rattle.std.specs.Prelude.{◌≡◌, ℕ, Bool, true, false, pos, List, [], ◌∷◌, ◌++◌, replicate, codes}
 use Rattle.std.specs.List.{filter}
 use Rattle.gui_base.specs.declared.Handle.{Handle}
 use Rattle.gui_base.specs.declared.props.Prop.TheVariants.{BgColor, BgOpa, TextColor}
@@ -23,8 +23,10 @@ use Rattle.scene_defs.specs.Row.{new_row}
 use Rattle.scene_defs.specs.Scene.{Object, Scene, new_object}
 use Rattle.scene_defs.specs.Change.{changed}
 use Rattle.scene_defs.specs.Edits.{with_row}
+use Rattle.scene_defs.specs.Picture.{paint}
 use Rattle.debt_defs.specs.Concerns.{concerns}
 use Rattle.debt_defs.specs.Debt.{debt_size, debt_count}
+use Rattle.debt_defs.specs.Same.{same_color}
 use Rattle.debt_defs.specs.Scenes.{touched_of, debt_of}
 
 abbrev handle : ℕ → Handle
@@ -190,6 +192,10 @@ high =
 abbrev pub scrolls : Change
 scrolls = change.Scroll (handle 10) (pos 0) (pos 100)
 
+-- a pixel has this colour of sixteen bits
+abbrev is_painted : Scene → ℕ → ℕ → ℕ → Bool
+is_painted scene x y color = same_color (paint scene (pos x) (pos y)) (record { 0 = color })
+
 pub record ScrollingIsWorked : Type 0 where
   -- what is scrolled owes its place, and so does all that it moves
   pub scrolled : debt_of high scrolls ≡ area 0 0 19 19 ∷ area 0 0 9 19 ∷ []
@@ -202,10 +208,17 @@ pub record ScrollingIsWorked : Type 0 where
   -- a new child is moved as the others are
   pub joined :
       debt_of (changed high scrolls) (change.New (handle 12) (handle 10) Obj)
-      ≡ area 0 0 19 9 ∷ []
-  -- a child that gets shorter is moved less
+      ≡ area 0 0 19 19 ∷ area 0 0 19 9 ∷ []
+  -- a child that gets shorter is moved less, and makes the bar over it longer
   pub shorter :
-      debt_of (changed high scrolls) (change.Size (handle 11) (Pixels 10) (Pixels 30)) ≡ area 0 0 9 19 ∷ []
+      debt_of (changed high scrolls) (change.Size (handle 11) (Pixels 10) (Pixels 30))
+      ≡ area 0 0 19 19 ∷ area 0 0 9 19 ∷ []
+  -- the bar lies over all children, at the top and then at the bottom
+  pub bar : is_painted high 16 7 40179 ≡ true
+  pub below_bar : is_painted high 16 8 65535 ≡ true
+  pub beside_bar : is_painted high 9 7 31 ≡ true
+  pub above_moved : is_painted (changed high scrolls) 19 11 65535 ≡ true
+  pub moved_bar : is_painted (changed high scrolls) 19 12 40179 ≡ true
 
 -- the objects of two screens that a change concerns
 abbrev concerned : Scene → Change → List ℕ

@@ -3,6 +3,7 @@ use Rattle.std.specs.Prelude.{◌≡◌, ◌⊎◌, ℕ, Bool, true, false, Some
 use Rattle.std.specs.declared.option.Option.{Option}
 use Rattle.std.specs.List.{list_any, filter}
 use Rattle.gui_base.specs.Area.{Rect, has}
+use Rattle.scene_defs.specs.Shown.{Entry}
 use Rattle.scene_defs.specs.Visible.{holds}
 use Rattle.debt_defs.specs.Look.{Look, IsLook, layers}
 use Rattle.debt_defs.specs.Same.{same_by}
@@ -22,17 +23,19 @@ abbrev pub IsInside : {I : Type 0} → Look I → Option ℕ → ℕ → Type 0
 IsInside look named k =
     (x y : ℤ) → holds (look.visible k) x y ≡ true → holds (named_area look named) x y ≡ true
 
--- the objects that pass a test keep their order, and each other one is seen inside of the named one alone,
+-- what is painted of the objects that pass a test keeps its order, and each other one is seen inside of the named one alone,
 -- before the change or after it
 pub record KeepsOrder {I : Type 0} (named : Option ℕ) (before after : Look I) (test : ℕ → Bool) : Type 0 where
-  pub order : filter test before.order ≡ filter test after.order
+  pub order : filter (λ e. test e.handle) before.entries ≡ filter (λ e. test e.handle) after.entries
   pub others : (k : ℕ) → test k ≡ false → IsInside before named k ⊎ IsInside after named k
 
--- objects with the same items lay the same, but for the one that a change names
+-- objects with the same items and the same bars lay the same, but for the one that a change names
 abbrev pub LaySame : {I : Type 0} → (I → I → Bool) → Option ℕ → Look I → Look I → Type 0
 LaySame same named before after =
-    (k : ℕ) (x y : ℤ) → is_named named k ≡ false → same_by same (before.items k) (after.items k) ≡ true →
-    before.lays k x y ≡ after.lays k x y
+    (e : Entry) (x y : ℤ) → is_named named e.handle ≡ false →
+    same_by same (before.items e.handle) (after.items e.handle) ≡ true →
+    same_by same (before.bars e.handle) (after.bars e.handle) ≡ true →
+    before.lays e x y ≡ after.lays e x y
 
 abbrev pub FrameOfLooks : Type 0 → Type 0
 FrameOfLooks I =

@@ -6,17 +6,21 @@ use Rattle.gui_base.specs.declared.color.Rgb565.{Rgb565}
 use Rattle.gui_base.specs.Area.{Rect}
 use Rattle.gui_base.specs.Coats.{Dab, laid}
 use Rattle.gui_base.specs.Color.{black}
+use Rattle.scene_defs.specs.Shown.{Entry}
 use Rattle.scene_defs.specs.Visible.{holds}
 
 -- the look of a scene whose objects show items of this type
 pub record Look (I : Type 0) : Type 0 where
-  -- the handles of what is shown, in paint order
+  -- the handles of what is shown, each before those below it, and what is painted of them, the lowest first
   pub order : List ℕ
+  pub entries : List Entry
   -- where each object is seen, if something is seen of it
   pub visible : ℕ → Option Rect
+  -- what each shows by itself, and its bars
   pub items : ℕ → List I
-  -- what the items of an object lay on a pixel, the lowest first
-  pub lays : ℕ → ℤ → ℤ → List (Option Dab)
+  pub bars : ℕ → List I
+  -- what an entry lays on a pixel, the lowest first
+  pub lays : Entry → ℤ → ℤ → List (Option Dab)
 
 -- whether a handle is one of these
 abbrev pub is_among : List ℕ → ℕ → Bool
@@ -26,13 +30,13 @@ is_among handles h = list_any (λ k. k == h) handles
 abbrev pub IsLook : {I : Type 0} → Look I → Type 0
 IsLook look = (h : ℕ) → is_among look.order h ≡ false → look.visible h ≡ None
 
--- what an object lays on a pixel, where it is seen
-abbrev pub laid_by : {I : Type 0} → Look I → ℤ → ℤ → ℕ → List (Option Dab)
-laid_by look x y h = if holds (look.visible h) x y then look.lays h x y else []
+-- what an entry lays on a pixel, where its object is seen
+abbrev pub laid_by : {I : Type 0} → Look I → ℤ → ℤ → Entry → List (Option Dab)
+laid_by look x y e = if holds (look.visible e.handle) x y then look.lays e x y else []
 
 -- all that is laid on a pixel, back to front
 abbrev pub layers : {I : Type 0} → Look I → ℤ → ℤ → List (Option Dab)
-layers look x y = flat_map (laid_by look x y) look.order
+layers look x y = flat_map (laid_by look x y) look.entries
 
 abbrev pub over : Rgb565 → Option Dab → Rgb565
 over under dab = laid dab under

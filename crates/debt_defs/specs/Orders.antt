@@ -9,7 +9,7 @@ use Rattle.scene_defs.specs.Scene.{Scene, is_at}
 use Rattle.scene_defs.specs.Deeds.{row_set}
 use Rattle.scene_defs.specs.Change.{changed, styling_in, asset_change_in}
 use Rattle.scene_defs.specs.Visible.{shown_trees, visible, holds}
-use Rattle.scene_defs.specs.Shown.{order}
+use Rattle.scene_defs.specs.Shown.{order, entries}
 use Rattle.scene_defs.specs.Valid.{IsValid, IsChange}
 use Rattle.scene_defs.specs.Walk.{IsShowable}
 use Rattle.debt_defs.specs.Named.{named}
@@ -33,10 +33,11 @@ remains named before after k =
     (is_shown before k && is_shown after k)
     && (not (is_part_of before named k) && not (is_part_of after named k))
 
--- what remains is painted in the same order
+-- what is painted of what remains keeps its order
 abbrev pub KeepOrder : Option ℕ → Scene → Scene → Type 0
 KeepOrder named before after =
-    filter (remains named before after) (order before) ≡ filter (remains named before after) (order after)
+    filter (λ e. remains named before after e.handle) (entries before)
+    ≡ filter (λ e. remains named before after e.handle) (entries after)
 
 abbrev pub OthersKeepOrder : Type 0
 OthersKeepOrder =
@@ -53,11 +54,11 @@ leaves_trees scene change =
     is_some (row_set change)
     || (sets_text change || (is_some (styling_in scene change) || is_some (asset_change_in scene change)))
 
--- then all is painted in the same order
+-- then all keeps its order, and so does what is painted
 abbrev pub SettersKeepOrder : Type 0
 SettersKeepOrder =
     (scene : Scene) (change : Change) → leaves_trees scene change ≡ true →
-    order (changed scene change) ≡ order scene
+    (order (changed scene change) ≡ order scene) × (entries (changed scene change) ≡ entries scene)
 
 -- an object is seen only inside of what is seen of those above it
 abbrev pub SeenInsideAbove : Type 0

@@ -9,8 +9,8 @@ use Rattle.scene_defs.specs.declared.Change.{Change}
 use Rattle.scene_defs.specs.Scene.{Scene}
 use Rattle.scene_defs.specs.Change.{answer_of, scene_after}
 use Rattle.scene_defs.specs.Visible.{visible}
-use Rattle.scene_defs.specs.Items.{items, coats}
-use Rattle.scene_defs.specs.Shown.{order}
+use Rattle.scene_defs.specs.Items.{items, bars}
+use Rattle.scene_defs.specs.Shown.{order, entries, entry_coats}
 use Rattle.debt_defs.specs.Look.{Look}
 use Rattle.debt_defs.specs.Same.{same_item}
 use Rattle.debt_defs.specs.Debt.{touched, debt}
@@ -23,9 +23,11 @@ dab_at x y coat = coat x y
 abbrev pub look_of : Scene → Look Item
 look_of scene = record {
   order = order scene;
+  entries = entries scene;
   visible = visible scene;
   items = items scene;
-  lays = λ h x y. map (dab_at x y) (coats scene h);
+  bars = bars scene;
+  lays = λ e x y. map (dab_at x y) (entry_coats scene e);
 }
 
 -- the objects that a change with this answer touches: a refused one touches none

@@ -1,7 +1,9 @@
 pub mod Alike
+pub mod BarsStay
 pub mod Below
 pub mod Changes
 pub mod Covering
+pub mod Keeping
 pub mod Kids
 pub mod Lending
 pub mod Marked
@@ -34,4 +36,5 @@ pub mod BoxesStay
 pub mod Unmoved
 pub mod Dues
 pub mod Edited
+pub mod Entering
 pub mod Still

@@ -128,3 +128,16 @@ count-none marks none = by marks.listed.items refl where
   by (h ∷ hs) is =
       let listed : 0 < times marks.listed.items h.0 = rw is (let self : eqb h.0 h.0 ≡ true = eq-eqb h.0 h.0 refl in rw self (omega arith)) in
       absurd (both_ways (is_marked marks h.0) (none h.0) (times-marked marks.objects marks.pending marks.listed.items h.0 marks.marks listed))
+
+-- where nothing is marked, what is marked later has changed, or has other children
+pub marked-changed : (old new : Marks) (k : ℕ) → is_marked old k ≡ false → (is_parent new k ≡ true → is_parent old k ≡ true) → is_marked new k ≡ true → is_changed new k ≡ true
+marked-changed old new k none parents is = elim (cases_Bool (is_changed new k)) [
+  | inl all ↦ all
+  | inr off ↦ absurd (both_ways (is_marked old k) none (part-any (value_at old.pending k) (parents (any-part (value_at new.pending k) is off))))
+]
+
+-- and so an object is not marked, if that is no other than before
+pub unmarked-still : (old new : Marks) (k : ℕ) → is_marked old k ≡ false → is_changed new k ≡ is_changed old k → is_parent new k ≡ is_parent old k → is_marked new k ≡ false
+unmarked-still old new k none changed parents = false_from_ne_true (is_marked new k) (λ is.
+    let all : is_changed new k ≡ true = marked-changed old new k none (λ part. sym parents ∙ part) is in
+    both_ways (is_marked old k) none (all-any (value_at old.pending k) (sym changed ∙ all)))

@@ -13,7 +13,7 @@ use Rattle.scene_defs.specs.Change.{answer_of, after_by, asset_change_in, change
 use Rattle.scene_defs.specs.Deeds.{setter_of}
 use Rattle.scene_defs.specs.Row.{Setter}
 use Rattle.scene_defs.specs.Scene.{Scene, handles_of, is_there}
-use Rattle.scene_defs.specs.Shown.{order}
+use Rattle.scene_defs.specs.Shown.{entries, order}
 use Rattle.scene_defs.specs.Styling.{Styling}
 use Rattle.scene_defs.specs.Valid.{IsValid}
 use Rattle.debt_defs.specs.Orders.{leaves_trees}
@@ -27,11 +27,13 @@ use Rattle.gui_layout.proofs.Climbing.{in_own_tree, is_above}
 use Rattle.gui_layout.proofs.Parts.{distinct_once}
 use Rattle.gui_change.specs.Concerned.{may_be}
 use Rattle.gui_change.specs.Edits.{WasKept, WasSeenEdited, beside, edit_of}
+use Rattle.gui_change.specs.Marking.{ScrollsSame}
 use Rattle.gui_change.specs.Seen.{IsSeen}
 use Rattle.gui_change.specs.declared.concerned.Concerned.{Concerned}
 use Rattle.gui_change.specs.declared.edits.Edit.TheVariants.{Same}
 use Rattle.gui_change.specs.declared.look.Look.{Look}
 use Rattle.gui_change.specs.declared.seen.Seen.{Seen}
+use Rattle.gui_change.proofs.BarsStay.{bars-alike}
 use Rattle.gui_change.proofs.Below.{handles-stay}
 use Rattle.gui_change.proofs.Orders.{shown_listed}
 use Rattle.gui_change.proofs.Subtrees.{tree-trans}
@@ -92,7 +94,10 @@ module _ (old : Places) (look : Look) (after : Scene) (made : Change) (concerned
   trees-stay = ap (λ (s : Scene). handles_of s.trees) was.edited.was.is ∙ handles-stay before made leaves
 
   pub order-stays : order after ≡ order before
-  order-stays = ap order was.edited.was.is ∙ setters_keep_order before made leaves
+  order-stays = ap order was.edited.was.is ∙ (setters_keep_order before made leaves).0
+
+  pub entries-stay : entries after ≡ entries before
+  entries-stay = ap entries was.edited.was.is ∙ (setters_keep_order before made leaves).1
 
   valid : IsValid after
   valid = valid-after old after made concerned was.edited.was
@@ -107,7 +112,8 @@ module _ (old : Places) (look : Look) (after : Scene) (made : Change) (concerned
 
   module _ (new : Places) (tops : List Handle) (settled : AreSettled new after)
       (stays : (k : ℕ) → is_there after k ≡ true → in_trees_at (handles_of after.trees) tops k ≡ false → place_at new k ≡ place_at old k)
-      (boxes : (k : ℕ) → is_there after k ≡ true → in_trees_at (handles_of after.trees) tops k ≡ false → scene_box after k ≡ scene_box before k) where
+      (boxes : (k : ℕ) → is_there after k ≡ true → in_trees_at (handles_of after.trees) tops k ≡ false → scene_box after k ≡ scene_box before k)
+      (scrolls : (k : ℕ) → is_there after k ≡ true → in_trees_at (handles_of after.trees) tops k ≡ false → ScrollsSame old new after k) where
     abbrev Out : ℕ → Type 0
     Out k = (is_there after k ≡ true) × (in_trees_at (handles_of after.trees) tops k ≡ false)
 
@@ -126,4 +132,7 @@ module _ (old : Places) (look : Look) (after : Scene) (made : Change) (concerned
     others-seen k s found out off =
         let there = known-there k s found in
         let same = same-after old after made concerned was.edited.was k (off-concerned old after Same made concerned removed was.edited k there off) in
-        still-seen before after Out was.edited.was.valid valid differs k s (there, out) (looks-same before after k same) (was.shows.seen k s found)
+        let looks = looks-same before after k same in
+        let there_before : is_there before k ≡ true = ap (λ (f : Forest ℕ). has f k) (sym trees-stay) ∙ there in
+        let shows = bars-alike before after old new was.edited.was.settled.reached settled.reached k looks (differs.stands k (there, out)) there there_before (boxes k there out) (scrolls k there out) in
+        still-seen before after Out was.edited.was.valid valid differs k s (there, out) looks shows (was.shows.seen k s found)

@@ -1,8 +1,10 @@
 pub mod Again
+pub mod Bars
 pub mod Canvas
 pub mod Concerned
 pub mod Dues
 pub mod Edits
+pub mod Entries
 pub mod Gone
 pub mod Handles
 pub mod Looks

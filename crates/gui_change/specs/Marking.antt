@@ -6,7 +6,7 @@ use Rattle.scene_defs.specs.declared.Change.{Change}
 use Rattle.scene_defs.specs.Scene.{Scene, handles_of, is_there}
 use Rattle.gui_layout.specs.Listing.{times}
 use Rattle.gui_layout.specs.Scenes.{scene_box}
-use Rattle.gui_layout.specs.Solved.{AreSettled, limits_of, place_at}
+use Rattle.gui_layout.specs.Solved.{AreSettled, limits_of, offset_at, place_at, reach_at}
 use Rattle.gui_layout.specs.Tops.{in_trees_at}
 use Rattle.gui_layout.specs.declared.marks.Marks.{Marks}
 use Rattle.gui_layout.specs.declared.places.Places.{Places}
@@ -42,6 +42,15 @@ abbrev pub BoxesStay : Marks → Scene → Edit → Change → Concerned → Lis
 BoxesStay marks after edit made concerned removed =
     (places : Places) (was : WasEdited places after edit made concerned removed) (k : ℕ) →
     is_there after k ≡ true → is_changed marks k ≡ false → scene_box after k ≡ scene_box was.was.before k
+
+-- the children of k reach as far as before, and are moved as far
+pub record MovesSame (old new : Places) (k : ℕ) : Type 0 where
+  pub reach : reach_at new k ≡ reach_at old k
+  pub offset : offset_at new k ≡ offset_at old k
+
+-- so it is where k is scrollable; any other shows no bars
+abbrev pub ScrollsSame : Places → Places → Scene → ℕ → Type 0
+ScrollsSame old new scene k = (scene_box scene k).scrollable ≡ true → MovesSame old new k
 
 -- The places are settled, and all objects but those of the trees at some stand where they stood.
 pub record SettlesTrees (old new : Places) (scene : Scene) (tops : List Handle) : Type 0 where

@@ -13,10 +13,12 @@
 #![tactic(auto)]
 
 mod again;
+mod bars;
 mod canvas;
 mod concerned;
 mod debts;
 mod edits;
+mod entries;
 mod gone;
 mod look;
 mod marking;
@@ -30,5 +32,6 @@ mod seen;
 mod shown;
 mod sighting;
 
+pub use bars::Bars;
 pub use canvas::Canvas;
-pub use seen::ShownObject;
+pub use seen::ShownEntry;

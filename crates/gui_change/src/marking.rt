@@ -1,5 +1,5 @@
 //! Which objects a change marks: those that may stand elsewhere after it.
-ghost use Rattle.std.specs.Prelude.{◌≤◌, ◌<◌, ◌+◌, length, List, Some, ◌≡◌, ◌&&◌, ℕ, true, false, eqb};
+ghost use Rattle.std.specs.Prelude.{◌≤◌, ◌<◌, ◌+◌, length, List, Some, ◌≡◌, ◌==◌, ◌&&◌, ℕ, true, false, eqb};
 ghost use Rattle.std.specs.Option.{ForSome};
 ghost use Rattle.gui_base.specs.Forest.{StandsOnce, has, tree_at};
 ghost use Rattle.gui_layout.specs.Marks.{is_changed, is_marked, mark_count, most_marks};
@@ -146,6 +146,7 @@ pub(crate) fn mark_moved(marks: &mut Marks, store: &Store, change: &Change, conc
         MarksTell marks.new (scene_of store.now) edit change.now concerned removed }
     ensures boxes { (edit : Edit) (removed : List ℕ) → is_gone edit ≡ false →
         BoxesStay marks.new (scene_of store.now) edit change.now concerned removed }
+    ensures whole { (k : ℕ) → is_marked marks.new k ≡ true → is_changed marks.new k ≡ true }
     ensures most { most_marks marks.new ≡ most_marks marks.old }
 {
     if moves_nobody(change) {
@@ -228,6 +229,7 @@ pub(crate) fn mark_beside(marks: &mut Marks, store: &Store, parent: Handle)
     requires none { AreUnmarked marks.old (scene_of store.now).limits.objects }
     ensures changed { (k : ℕ) → is_changed marks.new k ≡ false }
     ensures parent { is_marked marks.new parent.0 ≡ true }
+    ensures others { (k : ℕ) → (k == parent.0) ≡ false → is_marked marks.new k ≡ false }
     ensures most { most_marks marks.new ≡ most_marks marks.old }
 {
     // Lending the tree tells that the scene is in order.

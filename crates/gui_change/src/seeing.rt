@@ -2,21 +2,22 @@
 //!
 //! An object may come several times in these lists, and in any order. The second time it owes nothing, since
 //! what is known of it is then what is seen of it.
-ghost use Rattle.std.specs.Prelude.{◌≡◌, ◌≤◌, ◌<◌, ◌==◌, ℕ, true, false, None, Some, option_map, vec_capacity};
+ghost use Rattle.std.specs.Prelude.{◌≡◌, ◌≤◌, ◌<◌, ◌*◌, ◌==◌, ℕ, true, false, None, Some, option_map, vec_capacity};
 ghost use Rattle.std.specs.List.{flat_map};
 ghost use Rattle.debt_defs.specs.Debt.{is_named};
 ghost use Rattle.gui_base.specs.Forest.{has, tree_at};
 ghost use Rattle.gui_layout.specs.Listing.{HasThese, times};
-ghost use Rattle.gui_layout.specs.Solved.{AreSolved};
+ghost use Rattle.gui_layout.specs.Solved.{AreReached, AreSolved};
 ghost use Rattle.gui_pool.specs.Table.{value_at};
 ghost use Rattle.gui_store.specs.Views.{scene_of};
 ghost use Rattle.gui_style.specs.Styles.{uses_style};
 ghost use Rattle.gui_tree.specs.Handles.{numbers};
 ghost use Rattle.scene_defs.specs.Scene.{handles_of, is_there};
-ghost use Rattle.scene_defs.specs.Shown.{order};
+ghost use Rattle.scene_defs.specs.Shown.{entries, order};
 ghost use Rattle.gui_change.specs.Again.{owed_again};
 ghost use Rattle.gui_change.specs.Concerned.{is_below, is_below_user, may_be};
 ghost use Rattle.gui_change.specs.Dues.{OwesAll};
+ghost use Rattle.gui_change.specs.Entries.{all_entries};
 ghost use Rattle.gui_change.specs.Handles.{number_of};
 ghost use Rattle.gui_change.specs.Looks.{Shows};
 ghost use Rattle.gui_change.specs.Seen.{IsSeen};
@@ -48,6 +49,7 @@ fn see_one(
     h: Handle,
 )
     requires solved { AreSolved places.now (scene_of store.now) }
+    requires reached { AreReached places.now (scene_of store.now) }
     requires known { KeepOthers table.old concerned (scene_of store.now) }
     requires shown { KnowsShown table.old (scene_of store.now) }
     requires named { (k : ℕ) → (h.0 == k) ≡ false → is_named (option_map number_of named) k ≡ false }
@@ -74,6 +76,7 @@ fn see_named(
     concerned: Concerned,
 )
     requires solved { AreSolved places.now (scene_of store.now) }
+    requires reached { AreReached places.now (scene_of store.now) }
     requires known { KeepOthers table.old concerned (scene_of store.now) }
     requires shown { KnowsShown table.old (scene_of store.now) }
     ensures sees { SeesAgain (option_map number_of named)
@@ -100,6 +103,7 @@ fn see_tree(
     top: Handle,
 )
     requires solved { AreSolved places.now (scene_of store.now) }
+    requires reached { AreReached places.now (scene_of store.now) }
     requires known { KeepOthers table.old concerned (scene_of store.now) }
     requires shown { KnowsShown table.old (scene_of store.now) }
     requires room { IsRoom (scene_of store.now).limits.objects listed.old }
@@ -139,6 +143,7 @@ fn see_trees(
     tops: &[Handle],
 )
     requires solved { AreSolved places.now (scene_of store.now) }
+    requires reached { AreReached places.now (scene_of store.now) }
     requires known { KeepOthers table.old concerned (scene_of store.now) }
     requires shown { KnowsShown table.old (scene_of store.now) }
     requires room { IsRoom (scene_of store.now).limits.objects listed.old }
@@ -165,6 +170,7 @@ fn see_below(
     h: Handle,
 )
     requires solved { AreSolved places.now (scene_of store.now) }
+    requires reached { AreReached places.now (scene_of store.now) }
     requires known { KeepOthers table.old concerned (scene_of store.now) }
     requires shown { KnowsShown table.old (scene_of store.now) }
     requires room { IsRoom (scene_of store.now).limits.objects listed.old }
@@ -191,6 +197,7 @@ fn see_users(
     style: u16,
 )
     requires solved { AreSolved places.now (scene_of store.now) }
+    requires reached { AreReached places.now (scene_of store.now) }
     requires known { KeepOthers table.old concerned (scene_of store.now) }
     requires shown { KnowsShown table.old (scene_of store.now) }
     ensures sees { SeesAgain None (scene_of store.now) table.old table.new damage.old damage.new }
@@ -224,6 +231,7 @@ fn see_below_users(
     style: u16,
 )
     requires solved { AreSolved places.now (scene_of store.now) }
+    requires reached { AreReached places.now (scene_of store.now) }
     requires known { KeepOthers table.old concerned (scene_of store.now) }
     requires shown { KnowsShown table.old (scene_of store.now) }
     requires room { IsRoom (scene_of store.now).limits.objects listed.old }
@@ -254,6 +262,7 @@ fn see_shown(
     listed: &[Handle],
 )
     requires solved { AreSolved places.now (scene_of store.now) }
+    requires reached { AreReached places.now (scene_of store.now) }
     requires known { KeepOthers table.old concerned (scene_of store.now) }
     requires shown { KnowsShown table.old (scene_of store.now) }
     requires order { numbers listed.now ≡ order (scene_of store.now) }
@@ -275,6 +284,7 @@ fn see_both(
     other: Handle,
 )
     requires solved { AreSolved places.now (scene_of store.now) }
+    requires reached { AreReached places.now (scene_of store.now) }
     requires known { KeepOthers table.old concerned (scene_of store.now) }
     requires shown { KnowsShown table.old (scene_of store.now) }
     ensures sees { SeesAgain None (scene_of store.now) table.old table.new damage.old damage.new }
@@ -298,6 +308,7 @@ fn see_concerned(
     shown: &[Handle],
 )
     requires solved { AreSolved places.now (scene_of store.now) }
+    requires reached { AreReached places.now (scene_of store.now) }
     requires known { KeepOthers table.old concerned (scene_of store.now) }
     requires shown { KnowsShown table.old (scene_of store.now) }
     requires room { IsRoom (scene_of store.now).limits.objects listed.old }
@@ -342,6 +353,7 @@ fn see_own(
     shown: &[Handle],
 )
     requires solved { AreSolved places.now (scene_of store.now) }
+    requires reached { AreReached places.now (scene_of store.now) }
     requires known { KeepOthers table.old concerned (scene_of store.now) }
     requires shown { KnowsShown table.old (scene_of store.now) }
     requires room { IsRoom (scene_of store.now).limits.objects listed.old }
@@ -379,10 +391,13 @@ pub(crate) fn see_changed(
     concerned: Concerned,
 )
     requires solved { AreSolved places.now (scene_of store.now) }
+    requires reached { AreReached places.now (scene_of store.now) }
     requires known { KeepOthers look.old.seen concerned (scene_of store.now) }
     requires order { numbers look.old.order.items ≡ order (scene_of store.now) }
+    requires entries { all_entries look.old.entries.items ≡ entries (scene_of store.now) }
     requires table { HasThese (scene_of store.now).limits.objects look.old.seen look.old.order.items }
     requires order_room { (scene_of store.now).limits.objects ≤ vec_capacity look.old.order }
+    requires entries_room { 2 * (scene_of store.now).limits.objects ≤ vec_capacity look.old.entries }
     requires tops { (u : ℕ) → 0 < times solved.now u → is_there (scene_of store.now) u ≡ true }
     requires others { (k : ℕ) (s : Seen) → value_at look.old.seen k ≡ Some s →
         in_trees_at (handles_of (scene_of store.now).trees) solved.now k ≡ false →

@@ -44,6 +44,7 @@ pub mod Rescrolled
 pub mod Apart
 pub mod NaturalSizes
 pub mod ReachSizes
+pub mod Bars
 pub mod Before
 pub mod Entered
 pub mod Staying

@@ -6,8 +6,10 @@ use Rattle.gui_base.specs.declared.words.Kind.{Kind}
 use Rattle.gui_base.specs.declared.words.Kind.TheVariants as kind
 use Rattle.widget_defs.specs.Items.{items}
 use Rattle.widget_defs.specs.Looks.{Look, PartValues}
+use Rattle.layout_defs.specs.Reach.{IsNear}
 use Rattle.scene_defs.specs.Looks.{look_of}
-use Rattle.scene_defs.specs.Scene.{Scene, object_at}
+use Rattle.scene_defs.specs.Place.{place}
+use Rattle.scene_defs.specs.Scene.{Scene, is_there, object_at}
 
 -- whether objects of a kind paint something in their content area
 abbrev pub paints_content : Kind → Bool
@@ -42,3 +44,9 @@ pub record PaintsLike (scene : Scene) (h : ℕ) (look : Look) : Type 0 where
   pub is : Some whole ≡ option_map (look_of scene) (object_at scene h)
   pub items : (area : Rect) → items look area ≡ items whole area
   pub text : look.text ≡ whole.text
+
+-- an object is there and stands in this place, which leaves room beside it
+pub record ShowsBarsIn (scene : Scene) (h : ℕ) (area : Rect) : Type 0 where
+  pub there : is_there scene h ≡ true
+  pub stands : place scene h ≡ Some area
+  pub near : IsNear area

@@ -11,7 +11,7 @@ use Rattle.gui_layout.specs.Scrolled.{IsScrolledIn}
 use Rattle.gui_layout.specs.Scrolls.{scrolled_at}
 use Rattle.gui_layout.specs.Settled.{IsSteady}
 use Rattle.gui_layout.specs.Settles.{known_in}
-use Rattle.gui_layout.specs.Solved.{layout_of, place_at}
+use Rattle.gui_layout.specs.Solved.{layout_of, offset_at, place_at, reach_at}
 
 -- whether k lies in the tree at one of these objects
 abbrev pub in_trees_at : Forest ℕ → List Handle → ℕ → Bool
@@ -60,3 +60,15 @@ pub record MovesAt (old new : Places) (scene : Scene) (m : ℕ → Bool) (us : L
       in_trees_at (handles_of scene.trees) us k ≡ true
   pub stays : (k : ℕ) → has (handles_of scene.trees) k ≡ true →
       in_trees_at (handles_of scene.trees) us k ≡ false → place_at new k ≡ place_at old k
+
+-- Outside of these trees an object that is over none of them, and is not marked, moves its children as before. One
+-- that is over one of them scrolls nothing.
+pub record ScrollsStay (old new : Places) (scene : Scene) (m : ℕ → Bool) (us : List Handle) : Type 0 where
+  pub reaches : (k : ℕ) → has (handles_of scene.trees) k ≡ true →
+      in_trees_at (handles_of scene.trees) us k ≡ false → is_over (handles_of scene.trees) us k ≡ false →
+      m k ≡ false → reach_at new k ≡ reach_at old k
+  pub offsets : (k : ℕ) → has (handles_of scene.trees) k ≡ true →
+      in_trees_at (handles_of scene.trees) us k ≡ false → is_over (handles_of scene.trees) us k ≡ false →
+      m k ≡ false → offset_at new k ≡ offset_at old k
+  pub steady : (u q : ℕ) → 0 < times us u → parent_of (handles_of scene.trees) u ≡ Some q →
+      IsSteady (scene_box scene q)

@@ -1,6 +1,6 @@
 //! The places of the objects of a store.
 ghost use Rattle.std.specs.Prelude.{◌≡◌, ◌≤◌, ◌+ℤ◌, ◌-ℤ◌, pos, ℕ, Bool, [], true, false, None, Some, IfOk};
-ghost use Rattle.std.specs.Prelude.{IfSome, eqb, is_some, option_map};
+ghost use Rattle.std.specs.Prelude.{IfSome, MatchOption, eqb, is_some, option_map};
 ghost use Rattle.std.specs.Prelude.{◌<◌, ◌+◌, length, vec_len, vec_capacity};
 ghost use Rattle.std.specs.Option.{option_to_list};
 ghost use Rattle.gui_base.specs.Area.{area_at, is_empty, width_of};
@@ -11,14 +11,14 @@ ghost use Rattle.gui_base.specs.declared.intervals.TheConstants.{HANDLE};
 ghost use Rattle.gui_tree.specs.Handles.{numbers};
 ghost use Rattle.layout_defs.specs.Solving.{room_of};
 ghost use Rattle.layout_defs.specs.Reach.{IsNear, IsPlaced as IsPlaceNumber};
-ghost use Rattle.scene_defs.specs.Looks.{look_of};
+ghost use Rattle.scene_defs.specs.Items.{bar_look, bars};
 ghost use Rattle.gui_base.specs.declared.props.Prop.{Prop as Property};
 ghost use Rattle.gui_base.specs.declared.words.Part.TheVariants.{Scrollbar};
 ghost use Rattle.widget_defs.specs.Looks.{value_in};
 ghost use Rattle.scene_defs.specs.Scene.{handles_of, is_there, object_at, value};
-ghost use Rattle.gui_widgets.specs.Looks.{IsLook, widget_of};
+ghost use Rattle.gui_widgets.specs.Looks.{IsLook, items_of, widget_of};
 ghost use Rattle.gui_store.specs.Views.{scene_of};
-ghost use Rattle.gui_layout.specs.Painted.{PaintsLike};
+ghost use Rattle.gui_layout.specs.Painted.{PaintsLike, ShowsBarsIn};
 ghost use Rattle.scene_defs.specs.Place.{offset, place, reach};
 ghost use Rattle.gui_layout.specs.Scrolls.{span_from};
 ghost use Rattle.scene_defs.specs.Visible.{some_area, met, visible};
@@ -66,7 +66,7 @@ use gui_flex::FlexItem;
 use gui_pool::Table;
 use gui_store::Store;
 use gui_tree::Tree;
-use gui_widgets::Look;
+use gui_widgets::{Item, Look, bars};
 use std::alloc::Global;
 use std::mem;
 
@@ -184,7 +184,7 @@ impl Places {
     ghost use Rattle.gui_layout.specs.Settles.{Settles, SolvesTree};
     ghost use Rattle.gui_layout.specs.Around.{IsFlat, ReadsReaches};
     ghost use Rattle.gui_layout.specs.Scrolls.{scrolled_at};
-    ghost use Rattle.gui_layout.specs.Tops.{MovesAt, ScrollsAt, SolvesAt, in_trees_at, is_over};
+    ghost use Rattle.gui_layout.specs.Tops.{MovesAt, ScrollsAt, ScrollsStay, SolvesAt, in_trees_at, is_over};
 
     /// No object has a place. It takes all the memory that solving will need, or answers NoMemory where there
     /// is too little.
@@ -268,6 +268,8 @@ impl Places {
         ensures stays { (k : ℕ) → is_there (scene_of store.now) k ≡ true →
             in_trees_at (handles_of (scene_of store.now).trees) (solved_in marks.new) k ≡ false →
             place_at self.new k ≡ place_at self.old k }
+        ensures scrolls_stay { ScrollsStay self.old self.new (scene_of store.now)
+            (is_marked marks.old) (solved_in marks.new) }
         ensures empty { (k : ℕ) → is_marked marks.new k ≡ false }
         ensures count { mark_count marks.new ≡ 0 }
         ensures most { most_marks marks.new ≡ most_marks marks.old }
@@ -316,7 +318,7 @@ impl Places {
         Some((u32::from(offset.across), u32::from(offset.down)))
     }
 
-    /// An object that is there as its items show it, with its text in `text`.
+    /// An object that is there as its items and its bars show it, with its text in `text`.
     pub fn look<'a>(
         &self,
         store: &'a Store,
@@ -324,17 +326,48 @@ impl Places {
         text: &'a mut ArrayVec<u8, 1000>,
     ) -> Look<'a>
         requires there { is_there (scene_of store.now) h.0 ≡ true }
+        requires reached { AreReached self.now (scene_of store.now) }
         ensures look { IsLook result }
         ensures shows { Some (widget_of result)
-            ≡ option_map (look_of (scene_of store.now)) (object_at (scene_of store.now) h.0) }
+            ≡ option_map (bar_look (scene_of store.now)) (object_at (scene_of store.now) h.0) }
         ensures scrollbar { (prop : Property) →
             value_in result.scrollbar prop ≡ value (scene_of store.now) h.0 Scrollbar prop }
     {
-        let _ = &self.limits;
         let Some(row) = store.row(h) else {
             unreachable!()
         };
-        look_in(store, h, row, text)
+        let mut look = look_in(store, h, row, text);
+        look.reach = self.reach(h).unwrap_or((0, 0));
+        look.offset = self.offset(h).unwrap_or((0, 0));
+        look
+    }
+
+    /// The bars that an object shows over its children, from back to front: none where it is not there or not
+    /// scrollable, or they fit.
+    pub fn bars(&self, store: &Store, h: Handle) -> ArrayVec<Item, 2>
+        requires solved { AreSolved self.now (scene_of store.now) }
+        requires reached { AreReached self.now (scene_of store.now) }
+        ensures { items_of result.items ≡ bars (scene_of store.now) h.0 }
+    {
+        let Some(place) = self.scrollable_place(store, h) else {
+            return ArrayVec::new();
+        };
+        let mut text = ArrayVec::new();
+        let look = self.look(store, h, &mut text);
+        bars(&look, place)
+    }
+
+    /// The place of an object that is there and scrollable. Any other shows no bars.
+    fn scrollable_place(&self, store: &Store, h: Handle) -> Option<Area>
+        requires { AreSolved self.now (scene_of store.now) }
+        ensures { MatchOption result (bars (scene_of store.now) h.0 ≡ [])
+            (λ area. ShowsBarsIn (scene_of store.now) h.0 (rect_of area)) }
+    {
+        let row = store.row(h)?;
+        if !row.is_on(Flag::Scrollable) {
+            return None;
+        }
+        self.place(h)
     }
 
     /// An object that is there with what its items go by, and its text in `text`. A value that they do not go
@@ -543,6 +576,8 @@ impl Places {
         ensures settles { SettlesMarks self.old self.new (scene_of store.now)
             (is_marked_in pending.old) (is_pending pending.old) (is_partly pending.old) }
         ensures moves { MovesAt self.old self.new (scene_of store.now) (is_pending pending.old) solved.new.items }
+        ensures scrolls { ScrollsStay self.old self.new (scene_of store.now)
+            (is_marked_in pending.old) solved.new.items }
         ensures marks { listing_of pending.new ≡ listing_of pending.old }
         ensures capacity { vec_capacity solved.new ≡ vec_capacity solved.old }
         ensures limits { limits_of self.new ≡ limits_of self.old }

@@ -1,5 +1,5 @@
 -- How many steps painting takes at most.
-use Rattle.std.proofs.Common.{◌≡◌, ◌∙◌, sym, ap, ℕ, zero, suc, ◌+◌, ◌*◌, ◌≤◌, Option, Some, None, [], ◌∷◌, ◌++◌, length, option_map, ℤ, pos, ◌+ℤ◌, arith}
+use Rattle.std.proofs.Common.{◌≡◌, ◌∙◌, sym, ap, ℕ, zero, suc, ◌+◌, ◌*◌, ◌≤◌, Option, Some, None, length, option_map, ℤ, pos, ◌+ℤ◌, arith}
 use Rattle.std.proofs.Math.Nat.{mul-le-mul_right}
 use Rattle.gui_base.specs.declared.words.Kind.{Kind}
 use Rattle.gui_base.specs.declared.words.Kind.TheVariants as kind
@@ -12,11 +12,11 @@ use Rattle.gui_draw.specs.Runs.{DrawsIn}
 use Rattle.widget_defs.specs.declared.ImageLook.{ImageLook}
 use Rattle.widget_defs.specs.Items as widget
 use Rattle.widget_defs.specs.Looks.{Look}
-use Rattle.scene_defs.specs.Items.{items, items_of, chars_of}
+use Rattle.scene_defs.specs.Items.{bars, items, items_of, chars_of}
 use Rattle.scene_defs.specs.Looks.{look_of}
 use Rattle.scene_defs.specs.Place.{place}
 use Rattle.scene_defs.specs.Scene.{Object, Scene, object_at}
-use Rattle.cover_defs.specs.Steps.{letters_at, object_steps}
+use Rattle.cover_defs.specs.Steps.{bar_steps, letters_at, object_steps}
 
 -- numbers that are each at most k, summed up
 sum_below_most : (n k : ℕ) (f : ℕ → ℕ) → ((i : ℕ) → f i ≤ k) → sum_below n f ≤ n * k
@@ -105,3 +105,10 @@ steps_of_look scene h area look size count letters from to is at counted lettere
     let two = object_items scene area look (object_at scene h) is in
     let list = items_of_look scene h area look is at in
     object_steps_most scene h size count letters from to (counted ∙ ap length (sym list)) (omega (arith, lettered, ap length two.1)) steps
+
+-- its bars
+pub bar_steps_most : (scene : Scene) (h size count from to : ℕ) → count ≡ length (bars scene h) → to ≤ from + count * (size + 0) → to ≤ from + bar_steps scene size h
+bar_steps_most scene h size count from to is steps =
+    let none : count * (size + 0) ≡ count * size = grind arith in
+    let same : count * size ≡ length (bars scene h) * size = ap (λ (n : ℕ). n * size) is in
+    omega (arith, none, same, steps)

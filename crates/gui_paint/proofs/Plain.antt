@@ -1,5 +1,5 @@
 -- Items without a text.
-use Rattle.std.proofs.Common.{◌≡◌, ◌∙◌, refl, subst, ℕ, Bool, true, false, ◌&&◌, List, [], ◌∷◌, map}
+use Rattle.std.proofs.Common.{◌≡◌, ◌∙◌, refl, subst, ℕ, Bool, true, false, ◌&&◌, ◌==◌, if◌then◌else◌, Option, Some, None, List, [], ◌∷◌, ◌++◌, map}
 use Rattle.std.specs.List.{All, list_all}
 use Rattle.std.proofs.lemmas.List.Elements.{All-nil, All-cons}
 use Rattle.gui_base.specs.Area.{Rect}
@@ -9,11 +9,13 @@ use Rattle.text_defs.specs.Fonts.{Font}
 use Rattle.text_defs.specs.Images.{Image}
 use Rattle.widget_defs.specs.declared.ItemPaint.{ItemPaint}
 use Rattle.widget_defs.specs.declared.ItemPaint.TheVariants.{Fill, Ring, Ink, Picture}
-use Rattle.widget_defs.specs.Items.{Item}
-use Rattle.scene_defs.specs.Items.{chars_at, coat_of, coat_in, coats, items}
-use Rattle.scene_defs.specs.Scene.{Scene}
+use Rattle.widget_defs.specs.Items.{Item, bar_if, bottom_bar, fill_of, right_bar}
+use Rattle.widget_defs.specs.Looks.{PartValues}
+use Rattle.scene_defs.specs.Items.{bar_coats, bar_look, bars, bars_of, chars_at, coat_of, coat_in, coats, items}
+use Rattle.scene_defs.specs.Place.{place}
+use Rattle.scene_defs.specs.Scene.{Object, Scene, object_at}
 use Rattle.gui_paint.specs.Paintable.{IsPaintable, IsPaintableIn, is_plain, is_plain_paint}
-use Rattle.gui_paint.specs.Painting.{Paints, painted_coats, painted_object}
+use Rattle.gui_paint.specs.Painting.{Paints, painted_bars, painted_coats, painted_object}
 
 paint_plain : (fonts : List Font) (area : Rect) (paint : ItemPaint) → is_plain_paint paint ≡ true → IsPaintableIn fonts area paint
 paint_plain fonts area (Ink look color opa) is = cc
@@ -51,4 +53,38 @@ paints_plain old new scene visible h fonts images text known fonts_are images_ar
     let same : map (coat_in fonts images text) known ≡ coats scene h =
     plain_coats fonts images text (chars_at scene h) known plain
     ∙ rw (fonts_are, images_are, known_are) refl in
+    subst (λ (l : List Coat). Paints old new (painted_coats visible l)) same paints
+
+-- Bars have no text.
+both_plain : (a b : List Item) → list_all is_plain a ≡ true → list_all is_plain b ≡ true → list_all is_plain (a ++ b) ≡ true
+both_plain [] b some others = others
+both_plain (item ∷ a) b some others =
+    let are_both = both (is_plain item) (list_all is_plain a) some in
+    rw are_both.0 (both_plain a b are_both.1 others)
+
+bar_plain : (fits : Bool) (bar : Rect) (values : PartValues) → list_all is_plain (if fits then [] else fill_of bar values ∷ []) ≡ true
+bar_plain true bar values = refl
+bar_plain false bar values = refl
+
+bars_if : (scrollable : Bool) (bars : List Item) → list_all is_plain bars ≡ true → list_all is_plain (if scrollable then bars else []) ≡ true
+bars_if true bars are = are
+bars_if false bars are = refl
+
+bars_plain : (scene : Scene) (object : Option Object) (area : Option Rect) → list_all is_plain (bars_of scene object area) ≡ true
+bars_plain scene None area = refl
+bars_plain scene (Some object) None = refl
+bars_plain scene (Some object) (Some area) =
+    let look = bar_look scene object in
+    bars_if look.scrollable (bar_if look.reach.1 (right_bar look area) look.scrollbar ++ bar_if look.reach.0 (bottom_bar look area) look.scrollbar)
+    (both_plain (bar_if look.reach.1 (right_bar look area) look.scrollbar) (bar_if look.reach.0 (bottom_bar look area) look.scrollbar)
+    (bar_plain (look.reach.1 == 0) (right_bar look area) look.scrollbar) (bar_plain (look.reach.0 == 0) (bottom_bar look area) look.scrollbar))
+
+pub bars_ready : (fonts : List Font) (scene : Scene) (h : ℕ) → All (IsPaintable fonts) (bars scene h)
+bars_ready fonts scene h = plain_ready fonts (bars scene h) (bars_plain scene (object_at scene h) (place scene h))
+
+pub paints_bars : (old new : Buffer) (scene : Scene) (visible : Rect) (h : ℕ) (fonts : List Font) (images : List Image) (text : List ℕ) (items : List Item) → fonts ≡ scene.fonts → images ≡ scene.images → items ≡ bars scene h →
+    Paints old new (painted_coats visible (map (coat_in fonts images text) items)) → Paints old new (painted_bars scene visible h)
+paints_bars old new scene visible h fonts images text items fonts_are images_are items_are paints =
+    let same : map (coat_in fonts images text) items ≡ bar_coats scene h =
+    rw (fonts_are, images_are, items_are) (plain_coats scene.fonts scene.images text [] (bars scene h) (bars_plain scene (object_at scene h) (place scene h))) in
     subst (λ (l : List Coat). Paints old new (painted_coats visible l)) same paints

@@ -13,7 +13,7 @@ use Rattle.scene_defs.specs.Valid.{IsValid}
 use Rattle.cover_defs.specs.Cover.{cover}
 use Rattle.cover_defs.specs.Walks.{remembered}
 use Rattle.cover_defs.proofs.Walks.{remembered_is_last}
-use Rattle.gui_paint.specs.Walking.{seen_so, tree_walk, below_walk}
+use Rattle.gui_paint.specs.Walking.{seen_so, bars_so, tree_walk, below_walk}
 use Rattle.gui_paint.proofs.Walking.{HasWalked, come_further, walked_more, walked_all, three_walks}
 
 -- a walk over the trees below h has come to `next`, and remembers the last that covers the area
@@ -41,9 +41,9 @@ searches_on scene part clip h first child valid forest next same is last mid las
   steps = let steps = p.steps in omega (arith, steps, few);
 }
 
--- an object and all below it
+-- an object and all below it; its bars cover nothing
 pub searches_tree : (scene : Scene) (part clip visible : Rect) (h : ℕ) (first : Option Handle) (last mid last_now : Option ℕ) (from to : ℕ) →
-    tree_walk scene clip h ≡ seen_so scene visible h ∷ below_walk scene visible h → trees_from handle_of first scene.trees ≡ children_by (is_at h) scene.trees →
+    tree_walk scene clip h ≡ seen_so scene visible h ∷ (below_walk scene visible h ++ bars_so scene visible h ∷ []) → trees_from handle_of first scene.trees ≡ children_by (is_at h) scene.trees →
     mid ≡ remembered scene part last (seen_so scene visible h) → SearchesTo scene part visible h first None mid last_now from to →
     (last_now ≡ fold (remembered scene part) last (tree_walk scene clip h)) × (to ≤ from + size (children_by (is_at h) scene.trees))
 searches_tree scene part clip visible h first last mid last_now from to walk begins own below =
@@ -52,11 +52,12 @@ searches_tree scene part clip visible h first last mid last_now from to walk beg
       below.remembers
           ∙ (ap (λ (o : Option ℕ). fold (remembered scene part) o below.met) own
           ∙ (ap (λ (l : List Seen). fold (remembered scene part) last (seen_so scene visible h ∷ l)) all.0
-          ∙ sym (ap (fold (remembered scene part) last) walk))),
+          ∙ (sym (fold-append (remembered scene part) last (seen_so scene visible h ∷ below_walk scene visible h) (bars_so scene visible h ∷ []))
+          ∙ sym (ap (fold (remembered scene part) last) walk)))),
       omega (arith, steps, all.1),
     )
 
--- among all that is shown
+-- among all that is painted
 pub searches_three : (scene : Scene) (part : Rect) (valid : IsValid scene) (a b last : Option ℕ) →
     a ≡ fold (remembered scene part) None (tree_walk scene (panel_of scene) scene.active) → b ≡ fold (remembered scene part) a (tree_walk scene (panel_of scene) 1) →
     last ≡ fold (remembered scene part) b (tree_walk scene (panel_of scene) 2) → last ≡ cover scene part

@@ -1,5 +1,5 @@
 -- Trees, and how one painting follows another.
-use Rattle.std.proofs.Common.{◌≡◌, ◌∙◌, ◌<◌, refl, sym, ap, subst, ℕ, ℤ, Bool, true, ◌&&◌, if◌then◌else◌, Option, Some, None, option_map, eqb, List, map, arith}
+use Rattle.std.proofs.Common.{◌≡◌, ◌∙◌, refl, sym, ap, subst, ℕ, ℤ, Bool, true, Option, Some, None, option_map, eqb, List, map, arith}
 use Rattle.std.proofs.lemmas.Bool.Decides.{nat_tests}
 use Rattle.gui_base.specs.declared.props.Prop.TheVariants.{TextFont}
 use Rattle.gui_base.specs.declared.words.Part.TheVariants.{Main}

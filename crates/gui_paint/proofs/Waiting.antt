@@ -1,5 +1,5 @@
 -- Painting from an object on that a walk waits for.
-use Rattle.std.proofs.Common.{◌≡◌, ◌∙◌, ◌≤◌, ◌+◌, ◌==◌, refl, sym, ap, subst, ℕ, ℤ, Bool, true, false, ◌||◌, ◌&&◌, if◌then◌else◌, Option, Some, None, option_map, List, [], ◌∷◌, ◌++◌, fold, sum_by, arith}
+use Rattle.std.proofs.Common.{◌≡◌, ◌∙◌, ◌≤◌, ◌<◌, ◌+◌, ◌*◌, refl, sym, ap, subst, ℕ, ℤ, Bool, true, false, ◌&&◌, if◌then◌else◌, Option, Some, None, is_some, option_map, List, [], ◌∷◌, ◌++◌, fold, sum_by, arith}
 use Rattle.std.proofs.lemmas.Int.{ints}
 use Rattle.std.proofs.lemmas.List.Sums.{fold-append, sum_by-append}
 use Rattle.gui_base.specs.Area.{Rect, has, is_empty, size_of}
@@ -16,30 +16,30 @@ use Rattle.gui_draw.specs.Drawing.{ShowsColors}
 use Rattle.scene_defs.specs.Picture.{paint, paint_seen}
 use Rattle.scene_defs.specs.Scene.{Scene, handle_of, handles_of, is_at}
 use Rattle.scene_defs.specs.Place.{panel_of}
-use Rattle.scene_defs.specs.Shown.{Seen, shown}
+use Rattle.scene_defs.specs.Shown.{Seen, painted}
 use Rattle.cover_defs.specs.Cover.{uncovered}
-use Rattle.cover_defs.specs.Steps.{object_count, object_steps, slice_steps, steps_of}
-use Rattle.cover_defs.specs.Walks.{has_handle, from_handle, waits_on}
+use Rattle.cover_defs.specs.Steps.{bar_steps, object_count, object_steps, slice_steps, steps_of}
+use Rattle.cover_defs.specs.Walks.{is_own, from_handle, waits_on}
 use Rattle.cover_defs.proofs.Counts.{uncovered_steps}
 use Rattle.cover_defs.proofs.Covers.{cover_hides_all}
-use Rattle.gui_paint.specs.Painting.{Paints, painted_object}
-use Rattle.gui_paint.specs.Walking.{PaintsMet, is_awaited, painted_each, seen_so, tree_walk, below_walk}
+use Rattle.gui_paint.specs.Painting.{Paints, painted_bars, painted_object}
+use Rattle.gui_paint.specs.Walking.{PaintsMet, is_awaited, number_of, painted_each, seen_so, bars_so, tree_walk, below_walk}
 use Rattle.gui_paint.proofs.Walking.{HasWalked, come_further, walked_more, walked_all, three_walks, three_sizes}
 
 -- the list from the awaited object on, of two lists
 waits-append : (w : Option ℕ) (xs ys : List Seen) → waits_on w (xs ++ ys) ≡ waits_on (waits_on w xs) ys
 waits-append None xs ys = refl
 waits-append (Some h) [] ys = refl
-waits-append (Some h) (s ∷ xs) ys = go (has_handle h s) refl (waits-append (Some h) xs ys) where
-  go : (b : Bool) → has_handle h s ≡ b → waits_on (Some h) (xs ++ ys) ≡ waits_on (waits_on (Some h) xs) ys → waits_on (Some h) ((s ∷ xs) ++ ys) ≡ waits_on (waits_on (Some h) (s ∷ xs)) ys
+waits-append (Some h) (s ∷ xs) ys = go (is_own h s) refl (waits-append (Some h) xs ys) where
+  go : (b : Bool) → is_own h s ≡ b → waits_on (Some h) (xs ++ ys) ≡ waits_on (waits_on (Some h) xs) ys → waits_on (Some h) ((s ∷ xs) ++ ys) ≡ waits_on (waits_on (Some h) (s ∷ xs)) ys
   go true is later = rw is refl
   go false isnt later = rw isnt later
 
 from-append : (w : Option ℕ) (xs ys : List Seen) → from_handle w (xs ++ ys) ≡ from_handle w xs ++ from_handle (waits_on w xs) ys
 from-append None xs ys = refl
 from-append (Some h) [] ys = refl
-from-append (Some h) (s ∷ xs) ys = go (has_handle h s) refl (from-append (Some h) xs ys) where
-  go : (b : Bool) → has_handle h s ≡ b → from_handle (Some h) (xs ++ ys) ≡ from_handle (Some h) xs ++ from_handle (waits_on (Some h) xs) ys →
+from-append (Some h) (s ∷ xs) ys = go (is_own h s) refl (from-append (Some h) xs ys) where
+  go : (b : Bool) → is_own h s ≡ b → from_handle (Some h) (xs ++ ys) ≡ from_handle (Some h) xs ++ from_handle (waits_on (Some h) xs) ys →
       from_handle (Some h) ((s ∷ xs) ++ ys) ≡ from_handle (Some h) (s ∷ xs) ++ from_handle (waits_on (Some h) (s ∷ xs)) ys
   go true is later = rw is refl
   go false isnt later = rw isnt later
@@ -79,7 +79,7 @@ paints_then scene xs ys w mid_w after_w old mid new first second from half to p 
       steps = rw list (omega (arith, p.steps, q.steps, same, sum_by-append (steps_of scene (size_of old.area)) own later));
     }
 
--- an object is visited, and then met with all below it
+-- an object is visited, and then met with all below it, in no more visits
 pub paints_visited : (scene : Scene) (list : List Seen) (w after_w : Option ℕ) (old new : Buffer) (below all from half to : ℕ) → half + below ≤ from + all → PaintsMet scene list w after_w old new below half to → PaintsMet scene list w after_w old new all from to
 paints_visited scene list w after_w old new below all from half to visited p =
     let steps = p.steps in
@@ -116,6 +116,27 @@ module _ (scene : Scene) (visible : Rect) (h : ℕ) where
         steps = rw list.1 (omega (arith, few));
       }
 
+-- Its bars.
+module _ (scene : Scene) (visible : Rect) (h : ℕ) where
+  pub bars_wait : (start : Option Handle) (buf : Buffer) (from to : ℕ) → is_some start ≡ true → to ≤ from + 1 → PaintsMet scene (bars_so scene visible h ∷ []) (number_of start) (number_of start) buf buf 1 from to
+  bars_wait None buf from to some few = cc
+  bars_wait (Some k) buf from to some few =
+      record {
+        waits = refl;
+        painted = record { area_stays = refl; limit_stays = refl; pixels = λ x y i. refl };
+        steps = omega (arith, few);
+      }
+
+  pub bars_met : (start : Option Handle) (old new : Buffer) (from half to : ℕ) → is_some start ≡ false → Paints old new (painted_bars scene visible h) → half ≤ from + 1 → to ≤ half + bar_steps scene (size_of old.area) h →
+      PaintsMet scene (bars_so scene visible h ∷ []) (number_of start) (number_of start) old new 1 from to
+  bars_met None old new from half to none paints visited few =
+      record {
+        waits = refl;
+        painted = record { area_stays = paints.area_stays; limit_stays = paints.limit_stays; pixels = paints.pixels };
+        steps = omega (arith, visited, few);
+      }
+  bars_met (Some k) old new from half to none paints visited few = cc
+
 not_both : (a b : Bool) → (a && b) ≡ false → b ≡ true → a ≡ false
 not_both true b neither is = absurd (grind (arith, neither, is))
 not_both false b neither is = refl
@@ -130,6 +151,10 @@ apart buf area both none pixels x y i = not_both _ _ (sym (pixels x y) ∙ empty
 -- an object that is seen elsewhere leaves the buffer as it is
 pub paints_elsewhere : (scene : Scene) (visible : Rect) (h : ℕ) (buf : Buffer) → ((x y : ℤ) → has buf.area x y ≡ true → has visible x y ≡ false) → Paints buf buf (painted_object scene visible h)
 paints_elsewhere scene visible h buf off = record { area_stays = refl; limit_stays = refl; pixels = λ x y i. sym (rw (off x y i) refl) }
+
+-- so do bars
+pub bars_elsewhere : (scene : Scene) (visible : Rect) (h : ℕ) (buf : Buffer) → ((x y : ℤ) → has buf.area x y ≡ true → has visible x y ≡ false) → Paints buf buf (painted_bars scene visible h)
+bars_elsewhere scene visible h buf off = record { area_stays = refl; limit_stays = refl; pixels = λ x y i. sym (rw (off x y i) refl) }
 
 -- what is painted over black from the cover on is the picture
 pub shows_uncovered : (old new : Buffer) (scene : Scene) (list : List Seen) → IsBlack old → list ≡ uncovered scene old.area → Paints old new (painted_each list) → ShowsColors old new (paint scene)
@@ -148,47 +173,55 @@ pub record PaintsTo (scene : Scene) (clip : Rect) (h : ℕ) (first next : Option
   pub met : List Seen
   pub visits : ℕ
   pub walked : HasWalked scene clip first next met visits
-  pub paints : PaintsMet scene met waits_before waits_now old new visits from to
+  pub paints : PaintsMet scene met waits_before waits_now old new (2 * visits) from to
 
 -- one tree more
 pub paints_on : (scene : Scene) (clip : Rect) (h : ℕ) (first : Option Handle) (child : Handle) (valid : IsValid scene) (forest : Forest ℕ) (next : Option Handle) → forest ≡ handles_of scene.trees → next ≡ option_map as_handle (next_to forest child.0) →
     (waits_before mid_w waits_now : Option ℕ) (old mid new : Buffer) (from half to : ℕ) → PaintsTo scene clip h first (Some child) waits_before mid_w old mid from half →
-    PaintsMet scene (tree_walk scene clip child.0) mid_w waits_now mid new (size (tree_by (is_at child.0) scene.trees)) half to → PaintsTo scene clip h first next waits_before waits_now old new from to
+    PaintsMet scene (tree_walk scene clip child.0) mid_w waits_now mid new (2 * size (tree_by (is_at child.0) scene.trees)) half to → PaintsTo scene clip h first next waits_before waits_now old new from to
 paints_on scene clip h first child valid forest next same is waits_before mid_w waits_now old mid new from half to p own = record {
   come = come_further scene h child valid p.come forest next same is;
   met = p.met ++ tree_walk scene clip child.0;
   visits = p.visits + size (tree_by (is_at child.0) scene.trees);
   walked = walked_more scene h child valid p.come forest next same is clip first p.met p.visits p.walked;
-  paints = paints_then scene p.met (tree_walk scene clip child.0) waits_before mid_w waits_now old mid new p.visits (size (tree_by (is_at child.0) scene.trees)) from half to p.paints own;
+  paints =
+      paints_visited scene (p.met ++ tree_walk scene clip child.0) waits_before waits_now old new (2 * p.visits + 2 * size (tree_by (is_at child.0) scene.trees)) (2 * (p.visits + size (tree_by (is_at child.0) scene.trees))) from from to (omega arith)
+      (paints_then scene p.met (tree_walk scene clip child.0) waits_before mid_w waits_now old mid new (2 * p.visits) (2 * size (tree_by (is_at child.0) scene.trees)) from half to p.paints own);
 }
 
--- an object and all below it
-pub paints_tree : (scene : Scene) (clip visible : Rect) (h : ℕ) (first : Option Handle) (w mid_w after_w : Option ℕ) (old mid new : Buffer) (from visited half to : ℕ) →
-    tree_walk scene clip h ≡ seen_so scene visible h ∷ below_walk scene visible h → trees_from handle_of first scene.trees ≡ children_by (is_at h) scene.trees → visited + size (children_by (is_at h) scene.trees) ≤ from + size (tree_by (is_at h) scene.trees) →
-    PaintsMet scene (seen_so scene visible h ∷ []) w mid_w old mid 0 visited half → PaintsTo scene visible h first None mid_w after_w mid new half to →
-    PaintsMet scene (tree_walk scene clip h) w after_w old new (size (tree_by (is_at h) scene.trees)) from to
-paints_tree scene clip visible h first w mid_w after_w old mid new from visited half to walk begins few own below =
+-- an object, all below it, and its bars
+pub paints_tree : (scene : Scene) (clip visible : Rect) (h : ℕ) (first : Option Handle) (w mid_w after_w : Option ℕ) (old mid under new : Buffer) (from visited half third to : ℕ) →
+    tree_walk scene clip h ≡ seen_so scene visible h ∷ (below_walk scene visible h ++ bars_so scene visible h ∷ []) → trees_from handle_of first scene.trees ≡ children_by (is_at h) scene.trees →
+    visited + size (children_by (is_at h) scene.trees) ≤ from + size (tree_by (is_at h) scene.trees) → size (children_by (is_at h) scene.trees) < size (tree_by (is_at h) scene.trees) →
+    PaintsMet scene (seen_so scene visible h ∷ []) w mid_w old mid 0 visited half → PaintsTo scene visible h first None mid_w after_w mid under half third →
+    PaintsMet scene (bars_so scene visible h ∷ []) after_w after_w under new 1 third to →
+    PaintsMet scene (tree_walk scene clip h) w after_w old new (2 * size (tree_by (is_at h) scene.trees)) from to
+paints_tree scene clip visible h first w mid_w after_w old mid under new from visited half third to walk begins few small own below bars =
     let all = walked_all scene visible h first below.met below.visits begins below.walked in
-    let list : seen_so scene visible h ∷ below.met ≡ tree_walk scene clip h = ap (λ (l : List Seen). seen_so scene visible h ∷ l) all.0 ∙ sym walk in
-    paints_list scene (seen_so scene visible h ∷ below.met) (tree_walk scene clip h) w after_w old new (size (tree_by (is_at h) scene.trees)) from to list
-    (paints_visited scene (seen_so scene visible h ∷ below.met) w after_w old new (0 + below.visits) (size (tree_by (is_at h) scene.trees)) from visited to (omega (arith, few, all.1))
-    (paints_then scene (seen_so scene visible h ∷ []) below.met w mid_w after_w old mid new 0 below.visits visited half to own below.paints))
+    let object = seen_so scene visible h in
+    let over = bars_so scene visible h in
+    let count = 2 * size (tree_by (is_at h) scene.trees) in
+    let list : object ∷ (below.met ++ over ∷ []) ≡ tree_walk scene clip h = ap (λ (l : List Seen). object ∷ (l ++ over ∷ [])) all.0 ∙ sym walk in
+    let later = paints_then scene below.met (over ∷ []) mid_w after_w after_w mid under new (2 * below.visits) 1 half third to below.paints bars in
+    paints_list scene (object ∷ (below.met ++ over ∷ [])) (tree_walk scene clip h) w after_w old new count from to list
+    (paints_visited scene (object ∷ (below.met ++ over ∷ [])) w after_w old new (0 + (2 * below.visits + 1)) count from visited to (omega (arith, few, small, all.1))
+    (paints_then scene (object ∷ []) (below.met ++ over ∷ []) w mid_w after_w old mid new 0 (2 * below.visits + 1) visited half to own later))
 
--- all that is shown, by the trees of the active screen and of the two layers
+-- all that is painted, by the trees of the active screen and of the two layers
 pub paints_three : (scene : Scene) (valid : IsValid scene) (w w1 w2 w3 : Option ℕ) (old a b new : Buffer) (from s1 s2 to : ℕ) →
-    PaintsMet scene (tree_walk scene (panel_of scene) scene.active) w w1 old a (size (tree_by (is_at scene.active) scene.trees)) from s1 → PaintsMet scene (tree_walk scene (panel_of scene) 1) w1 w2 a b (size (tree_by (is_at 1) scene.trees)) s1 s2 →
-    PaintsMet scene (tree_walk scene (panel_of scene) 2) w2 w3 b new (size (tree_by (is_at 2) scene.trees)) s2 to → PaintsMet scene (shown scene) w w3 old new (object_count scene) from to
+    PaintsMet scene (tree_walk scene (panel_of scene) scene.active) w w1 old a (2 * size (tree_by (is_at scene.active) scene.trees)) from s1 → PaintsMet scene (tree_walk scene (panel_of scene) 1) w1 w2 a b (2 * size (tree_by (is_at 1) scene.trees)) s1 s2 →
+    PaintsMet scene (tree_walk scene (panel_of scene) 2) w2 w3 b new (2 * size (tree_by (is_at 2) scene.trees)) s2 to → PaintsMet scene (painted scene) w w3 old new (2 * object_count scene) from to
 paints_three scene valid w w1 w2 w3 old a b new from s1 s2 to first second third =
     let walk = tree_walk scene (panel_of scene) in
-    let count = λ (h : ℕ). size (tree_by (is_at h) scene.trees) in
+    let count = λ (h : ℕ). 2 * size (tree_by (is_at h) scene.trees) in
     let layers = paints_then scene (walk 1) (walk 2) w1 w2 w3 a b new (count 1) (count 2) s1 s2 to second third in
     let all = paints_then scene (walk scene.active) (walk 1 ++ walk 2) w w1 w3 old a new (count scene.active) (count 1 + count 2) from s1 to first layers in
-    paints_list scene (walk scene.active ++ (walk 1 ++ walk 2)) (shown scene) w w3 old new (object_count scene) from to (three_walks scene valid)
-    (paints_visited scene (walk scene.active ++ (walk 1 ++ walk 2)) w w3 old new (count scene.active + (count 1 + count 2)) (object_count scene) from from to (omega (arith, three_sizes scene valid)) all)
+    paints_list scene (walk scene.active ++ (walk 1 ++ walk 2)) (painted scene) w w3 old new (2 * object_count scene) from to (three_walks scene valid)
+    (paints_visited scene (walk scene.active ++ (walk 1 ++ walk 2)) w w3 old new (count scene.active + (count 1 + count 2)) (2 * object_count scene) from from to (omega (arith, three_sizes scene valid)) all)
 
 -- within the steps of a slice
 pub slice_from : (scene : Scene) (part : Rect) → IsShowable scene → (list : List Seen) (from mid to : ℕ) → list ≡ uncovered scene part → mid ≤ from + object_count scene →
-    to ≤ mid + (object_count scene + sum_by (steps_of scene (size_of part)) list) → to ≤ from + slice_steps scene part
+    to ≤ mid + (2 * object_count scene + sum_by (steps_of scene (size_of part)) list) → to ≤ from + slice_steps scene part
 slice_from scene part showable list from mid to is search paint =
     let same = ap (λ (l : List Seen). sum_by (steps_of scene (size_of part)) l) is in
-    uncovered_steps scene part from mid (object_count scene) to showable search (omega arith) (omega (arith, paint, same))
+    uncovered_steps scene part from mid (2 * object_count scene) to showable search (omega arith) (omega (arith, paint, same))

@@ -5,7 +5,7 @@ use Rattle.gui_base.specs.Area.{Rect, has}
 use Rattle.gui_base.specs.Coats.{Coat}
 use Rattle.gui_color.specs.Buffer.{Buffer, pixel_at}
 use Rattle.scene_defs.specs.Scene.{Scene}
-use Rattle.scene_defs.specs.Items.{coats, lay}
+use Rattle.scene_defs.specs.Items.{bar_coats, coats, lay}
 
 -- how each pixel turns into another colour
 abbrev pub Painting : Type 0
@@ -36,3 +36,7 @@ painted_coats visible coats x y under = if has visible x y then fold (lay x y) u
 -- an object by itself where it is seen
 abbrev pub painted_object : Scene → Rect → ℕ → Painting
 painted_object scene visible h = painted_coats visible (coats scene h)
+
+-- and its bars
+abbrev pub painted_bars : Scene → Rect → ℕ → Painting
+painted_bars scene visible h = painted_coats visible (bar_coats scene h)

@@ -1,7 +1,7 @@
 //! Painting objects whose items are known.
 ghost use Rattle.std.specs.Prelude.{◌≡◌, ◌≤◌, ◌+◌, true};
 ghost use Rattle.std.specs.List.{list_all};
-ghost use Rattle.cover_defs.specs.Steps.{object_steps};
+ghost use Rattle.cover_defs.specs.Steps.{bar_steps, object_steps};
 ghost use Rattle.gui_base.specs.Area.{size_of};
 ghost use Rattle.gui_base.specs.Corners.{rect_of};
 ghost use Rattle.gui_store.specs.Views.{scene_of};
@@ -39,9 +39,9 @@ fn are_plain(items: &[Item]) -> bool
 }
 
 impl<'a> Shown<'a> {
-    ghost use Rattle.scene_defs.specs.Items.{items};
+    ghost use Rattle.scene_defs.specs.Items.{bars, items};
     ghost use Rattle.scene_defs.specs.Scene.{is_there};
-    ghost use Rattle.gui_paint.specs.Painting.{Paints, painted_object};
+    ghost use Rattle.gui_paint.specs.Painting.{Paints, painted_bars, painted_object};
 
     /// Paints an object by itself over the pixels of the buffer that are in `visible`. It is there, and
     /// `known` is all that it paints: where no text is among that, nothing of it is looked up. `text` is room
@@ -70,5 +70,25 @@ impl<'a> Shown<'a> {
         } else if let Some(place) = self.places.place(h) {
             paint_object(self, buf, visible, place, h, text, steps);
         }
+    }
+    /// Paints the bars of an object over the pixels of the buffer that are in `visible`. `known` are its bars:
+    /// nothing of it is looked up.
+    pub fn paint_known_bars<L: Ledger>(
+        &self,
+        buf: &mut DrawBuf,
+        visible: Area,
+        h: Handle,
+        known: &[Item],
+        steps: &mut Steps<L>,
+    )
+        requires { items_of known.now ≡ bars (scene_of self.now.store.now) h.0 }
+        ensures painted { Paints buf.old buf.new
+            (painted_bars (scene_of self.now.store.now) (rect_of visible) h.0) }
+        ensures steps { steps.new ≤ steps.old
+            + bar_steps (scene_of self.now.store.now) (size_of buf.old.area) h.0 }
+    {
+        let _ = h;
+        let (fonts, images) = (self.store.fonts(), self.store.images());
+        paint_items(buf, visible, known, fonts, images, "", steps);
     }
 }

@@ -9,13 +9,14 @@ ghost use Rattle.layout_defs.specs.Reach.{IsNear};
 ghost use Rattle.scene_defs.specs.Picture.{paint as paint_of};
 ghost use Rattle.scene_defs.specs.Place.{place as place_of};
 ghost use Rattle.scene_defs.specs.Scene.{is_at, is_there};
-ghost use Rattle.scene_defs.specs.Shown.{shown as shown_of};
+ghost use Rattle.scene_defs.specs.Shown.{painted as all_painted};
 ghost use Rattle.scene_defs.specs.Valid.{IsValid};
-ghost use Rattle.cover_defs.specs.Steps.{object_count, object_steps, slice_steps, steps_of};
+ghost use Rattle.cover_defs.specs.Steps.{bar_steps, object_count, object_steps, slice_steps, steps_of};
 ghost use Rattle.cover_defs.specs.Walks.{from_handle};
 ghost use Rattle.gui_store.specs.Views.{scene_of};
-ghost use Rattle.gui_paint.specs.Painting.{Paints, painted_object};
-ghost use Rattle.gui_paint.specs.Walking.{PaintsMet, StandsAt, is_awaited, number_of, painted_each, seen_so, tree_walk};
+ghost use Rattle.gui_paint.specs.Painting.{Paints, painted_bars, painted_object};
+ghost use Rattle.gui_paint.specs.Walking.{PaintsMet, StandsAt, bars_so, is_awaited, number_of, painted_each};
+ghost use Rattle.gui_paint.specs.Walking.{seen_so, tree_walk};
 
 use crate::items::paint_items;
 use crate::shown::Shown;
@@ -57,10 +58,10 @@ impl<'a> Picture for Shown<'a> {
 /// `None`.
 fn paint<L: Ledger>(shown: &Shown, buf: &mut DrawBuf, start: Option<Handle>, steps: &mut Steps<L>)
     ensures painted { Paints buf.old buf.new
-        (painted_each (from_handle (number_of start) (shown_of (scene_of shown.now.store.now)))) }
+        (painted_each (from_handle (number_of start) (all_painted (scene_of shown.now.store.now)))) }
     ensures steps { let scene = scene_of shown.now.store.now in
-        steps.new ≤ steps.old + (object_count scene
-        + sum_by (steps_of scene (size_of buf.old.area)) (from_handle (number_of start) (shown_of scene))) }
+        steps.new ≤ steps.old + (2 * object_count scene
+        + sum_by (steps_of scene (size_of buf.old.area)) (from_handle (number_of start) (all_painted scene))) }
 {
     let clip = panel(shown);
     let screen = shown.store.active();
@@ -71,8 +72,8 @@ fn paint<L: Ledger>(shown: &Shown, buf: &mut DrawBuf, start: Option<Handle>, ste
     paint_tree(shown, buf, clip, SYSTEM_LAYER, &mut start, &mut text, steps);
 }
 
-/// Paints an object and all below it, or of these what comes from the object on that `start` waits for. The
-/// clip is what is seen of its parent, and `text` is room for a text.
+/// Paints an object and all below it, and its bars over that, or of these what comes from the object on that
+/// `start` waits for. The clip is what is seen of its parent, and `text` is room for a text.
 fn paint_tree<L: Ledger>(
     shown: &Shown,
     buf: &mut DrawBuf,
@@ -84,7 +85,7 @@ fn paint_tree<L: Ledger>(
 )
     ensures { let scene = scene_of shown.now.store.now in
         PaintsMet scene (tree_walk scene (rect_of clip) h.0) (number_of start.old) (number_of start.new)
-        buf.old buf.new (size (tree_by (is_at h.0) scene.trees)) steps.old steps.new }
+        buf.old buf.new (2 * size (tree_by (is_at h.0) scene.trees)) steps.old steps.new }
 {
     let tree = shown.store.tree();
     let Some(seen) = visit(shown, clip, h, steps) else {
@@ -96,6 +97,7 @@ fn paint_tree<L: Ledger>(
         paint_tree(shown, buf, seen.visible, child, start, text, steps);
         next = tree.next(child);
     }
+    paint_next_bars(shown, buf, seen.visible, h, *start, steps);
 }
 
 /// Paints an object by itself where it is seen, once `start` waits for none but it.
@@ -119,6 +121,28 @@ fn paint_next<L: Ledger>(
     }
     if !seen.visible.meet(buf.area()).is_empty() {
         paint_object(shown, buf, seen.visible, seen.place, h, text, steps);
+    }
+}
+
+/// Paints the bars of an object where they are seen, which is a step, once `start` waits for none.
+fn paint_next_bars<L: Ledger>(
+    shown: &Shown,
+    buf: &mut DrawBuf,
+    visible: Area,
+    h: Handle,
+    start: Option<Handle>,
+    steps: &mut Steps<L>,
+)
+    ensures { let scene = scene_of shown.now.store.now in
+        PaintsMet scene (bars_so scene (rect_of visible) h.0 ∷ []) (number_of start) (number_of start)
+        buf.old buf.new 1 steps.old steps.new }
+{
+    steps.tick();
+    if start.is_some() {
+        return;
+    }
+    if !visible.meet(buf.area()).is_empty() {
+        paint_bars(shown, buf, visible, h, steps);
     }
 }
 
@@ -171,4 +195,21 @@ pub(crate) fn paint_object<L: Ledger>(
         look.text,
         steps,
     );
+}
+
+/// Paints the bars of an object where they are seen.
+pub(crate) fn paint_bars<L: Ledger>(
+    shown: &Shown,
+    buf: &mut DrawBuf,
+    visible: Area,
+    h: Handle,
+    steps: &mut Steps<L>,
+)
+    ensures painted { Paints buf.old buf.new
+        (painted_bars (scene_of shown.now.store.now) (rect_of visible) h.0) }
+    ensures steps { steps.new ≤ steps.old
+        + bar_steps (scene_of shown.now.store.now) (size_of buf.old.area) h.0 }
+{
+    let bars = shown.places.bars(shown.store, h);
+    shown.paint_known_bars(buf, visible, h, bars.as_slice(), steps);
 }

@@ -1,6 +1,6 @@
 //! What is shown of a scene.
 ghost use Rattle.gui_store.specs.Views.{scene_of};
-ghost use Rattle.gui_layout.specs.Solved.{AreSolved};
+ghost use Rattle.gui_layout.specs.Solved.{AreReached, AreSolved};
 
 use gui_layout::Places;
 use gui_store::Store;
@@ -12,4 +12,5 @@ pub struct Shown<'a> {
     /// The places of its objects, solved for this store.
     pub places: &'a Places,
     ghost solved: { AreSolved places.now (scene_of store.now) },
+    ghost reached: { AreReached places.now (scene_of store.now) },
 }

@@ -1,26 +1,23 @@
 //! The picture of a canvas.
-ghost use Rattle.std.specs.Prelude.{◌≡◌, ◌≤◌, ◌<◌, ◌+◌, ◌*◌, true, option_map, length, drop, get_or, map, option_copied, sum_by};
+ghost use Rattle.std.specs.Prelude.{◌≡◌, ◌≤◌, ◌<◌, ◌+◌, ◌*◌, length, drop, get_or, map, sum_by};
 ghost use Rattle.gui_base.specs.Area.{size_of};
 ghost use Rattle.gui_base.specs.Corners.{rect_of};
 ghost use Rattle.gui_change.specs.Canvas.{scene_in};
-ghost use Rattle.gui_change.specs.Seen.{items_known};
+ghost use Rattle.gui_change.specs.Seen.{IsKnown, entry_of};
 ghost use Rattle.gui_color.specs.Buffer.{IsBlack};
 ghost use Rattle.gui_draw.specs.Drawing.{ShowsColors};
 ghost use Rattle.gui_paint.specs.Painting.{Paints};
 ghost use Rattle.gui_store.specs.Views.{scene_of};
-ghost use Rattle.gui_widgets.specs.Looks.{items_of};
-ghost use Rattle.scene_defs.specs.Items.{items};
 ghost use Rattle.scene_defs.specs.Picture.{paint as paint_of};
-ghost use Rattle.scene_defs.specs.Scene.{is_there};
-ghost use Rattle.scene_defs.specs.Shown.{order, seen};
-ghost use Rattle.scene_defs.specs.Visible.{visible};
+ghost use Rattle.scene_defs.specs.Shown.{entries, own, seen_entry};
 ghost use Rattle.cover_defs.specs.Cover.{is_cover, from_last};
 ghost use Rattle.cover_defs.specs.Steps.{slice_steps};
-ghost use Rattle.gui_view.specs.Painted.{painted_seen, painted_all, visit_steps, seen_steps};
+ghost use Rattle.gui_view.specs.Covering.{covers_known};
+ghost use Rattle.gui_view.specs.Painted.{asked_steps, entry_steps, painted_all, painted_entry, visit_steps};
 
 use arrayvec::ArrayVec;
 use gui_base::{Area, Steps};
-use gui_change::{Canvas, ShownObject};
+use gui_change::{Canvas, ShownEntry};
 use gui_color::DrawBuf;
 use gui_draw::Picture;
 use gui_paint::{Shown, covers};
@@ -59,81 +56,98 @@ impl<'a> Picture for View<'a> {
     }
 }
 
-/// The number of the last object that is shown and covers an area, or 0 where none does. Each object that is
-/// looked at is a step.
+/// The number of the last entry that covers an area, or 0 where none does. Each object that is looked at is a
+/// step.
 fn first_painted<L: Ledger>(canvas: &Canvas, part: Area, steps: &mut Steps<L>) -> usize
-    ensures within { result ≤ length (order (scene_in canvas.now)) }
+    ensures within { result ≤ length (entries (scene_in canvas.now)) }
     ensures from { let scene = scene_in canvas.now in
-        map (seen scene) (drop result (order scene))
-        ≡ from_last (is_cover scene (rect_of part)) (map (seen scene) (order scene)) }
-    ensures steps { steps.new + result ≤ steps.old + length (order (scene_in canvas.now)) }
+        map (seen_entry scene) (drop result (entries scene))
+        ≡ from_last (is_cover scene (rect_of part)) (map (seen_entry scene) (entries scene)) }
+    ensures steps { steps.new ≤ steps.old + sum_by asked_steps (drop result (entries (scene_in canvas.now))) }
 {
-    let mut n = canvas.shown_count();
+    let mut n = canvas.entry_count();
     while n > 0 {
         n -= 1;
-        steps.tick();
-        if covers_at(canvas, n, part) {
+        if covers_at(canvas, n, part, steps) {
             return n;
         }
     }
     0
 }
 
-/// Whether the nth of the objects that are shown covers an area.
-fn covers_at(canvas: &Canvas, n: usize, part: Area) -> bool
-    requires { n < length (order (scene_in canvas.now)) }
-    ensures { let scene = scene_in canvas.now in
-        result ≡ is_cover scene (rect_of part) (seen scene (get_or (order scene) n 0)) }
+/// Whether the nth of the entries that are painted covers an area. Bars cover nothing, and are no step.
+fn covers_at<L: Ledger>(canvas: &Canvas, n: usize, part: Area, steps: &mut Steps<L>) -> bool
+    requires { n < length (entries (scene_in canvas.now)) }
+    ensures covers { let scene = scene_in canvas.now in
+        result ≡ is_cover scene (rect_of part) (seen_entry scene (get_or (entries scene) n (own 0))) }
+    ensures steps { steps.new ≤ steps.old + asked_steps (get_or (entries (scene_in canvas.now)) n (own 0)) }
 {
-    match canvas.shown_at(n) {
-        Some(object) => match object.visible {
-            Some(visible) => covers(visible, object.items().as_slice(), part),
-            None => false,
-        },
+    let Some(entry) = canvas.entry_at(n) else {
+        return false;
+    };
+    covers_by(&entry, part, steps)
+}
+
+/// Whether an entry covers an area, by what is known of it.
+fn covers_by<L: Ledger>(entry: &ShownEntry<'_>, part: Area, steps: &mut Steps<L>) -> bool
+    ensures covers { result ≡ covers_known entry.now (rect_of part) }
+    ensures steps { steps.new ≤ steps.old + asked_steps (entry_of entry.now) }
+{
+    if entry.is_bars {
+        return false;
+    }
+    steps.tick();
+    match entry.visible {
+        Some(visible) => covers(visible, entry.items().as_slice(), part),
         None => false,
     }
 }
 
-/// Paints what is shown of a canvas over the pixels of the buffer, back to front, from the object of a number
+/// Paints what is shown of a canvas over the pixels of the buffer, back to front, from the entry of a number
 /// on.
 fn paint<L: Ledger>(canvas: &Canvas, start: usize, buf: &mut DrawBuf, steps: &mut Steps<L>)
-    requires { start ≤ length (order (scene_in canvas.now)) }
-    ensures painted { Paints buf.old buf.new (painted_all (scene_in canvas.now) (drop start (order (scene_in canvas.now)))) }
+    requires { start ≤ length (entries (scene_in canvas.now)) }
+    ensures painted { Paints buf.old buf.new
+        (painted_all (scene_in canvas.now) (drop start (entries (scene_in canvas.now)))) }
     ensures steps { steps.new ≤ steps.old
-        + sum_by (visit_steps (scene_in canvas.now) (size_of buf.old.area)) (drop start (order (scene_in canvas.now))) }
+        + sum_by (visit_steps (scene_in canvas.now) (size_of buf.old.area)) (drop start (entries (scene_in canvas.now))) }
 {
     let (store, places) = canvas.shown();
     let shown = Shown { store, places };
     let mut text = ArrayVec::new();
-    for n in start..canvas.shown_count() {
+    for n in start..canvas.entry_count() {
         steps.tick();
-        if let Some(object) = canvas.shown_at(n) {
-            paint_object(&shown, buf, &object, &mut text, steps);
+        if let Some(entry) = canvas.entry_at(n) {
+            paint_entry(&shown, buf, &entry, &mut text, steps);
         }
     }
 }
 
-/// Paints an object that is there by itself, where it is seen. `text` is room for a text.
-fn paint_object<L: Ledger>(
+/// Paints an object that is there by itself, or its bars, where it is seen. `text` is room for a text.
+fn paint_entry<L: Ledger>(
     shown: &Shown<'_>,
     buf: &mut DrawBuf,
-    object: &ShownObject<'_>,
+    entry: &ShownEntry<'_>,
     text: &mut ArrayVec<u8, 1000>,
     steps: &mut Steps<L>,
 )
-    requires there { is_there (scene_of shown.now.store.now) object.now.h.0 ≡ true }
-    requires visible { option_map rect_of object.now.visible
-        ≡ visible (scene_of shown.now.store.now) object.now.h.0 }
-    requires items { items_known (option_copied object.now.paints) ≡ items (scene_of shown.now.store.now) object.now.h.0 }
-    ensures painted { Paints buf.old buf.new (painted_seen (scene_of shown.now.store.now) object.now.h.0) }
+    requires { IsKnown (scene_of shown.now.store.now) entry.now }
+    ensures painted { Paints buf.old buf.new
+        (painted_entry (scene_of shown.now.store.now) (entry_of entry.now)) }
     ensures steps { steps.new ≤ steps.old
-        + seen_steps (scene_of shown.now.store.now) (size_of buf.old.area) object.now.h.0 }
+        + entry_steps (scene_of shown.now.store.now) (size_of buf.old.area) (entry_of entry.now) }
 {
-    let Some(visible) = object.visible else {
+    let Some(visible) = entry.visible else {
         return;
     };
-    if !visible.meet(buf.area()).is_empty() {
-        let items = object.items();
-        shown.paint_known(buf, visible, object.h, items.as_slice(), text, steps);
+    if visible.meet(buf.area()).is_empty() {
+        return;
+    }
+    if entry.is_bars {
+        let bars = entry.bars.items();
+        shown.paint_known_bars(buf, visible, entry.h, bars.as_slice(), steps);
+    } else {
+        let items = entry.items();
+        shown.paint_known(buf, visible, entry.h, items.as_slice(), text, steps);
     }
 }

@@ -12,14 +12,14 @@ use gui_paint::Shown;
 use std::sync::ledger::Ledger;
 
 /// Paints 16 by 16 pixels of a scene of 13 objects without a text, of which six items are not hidden there, as
-/// of ten opaque objects over one another: the ledger counts 1818 steps at most. To make the pixels black and
+/// of ten opaque objects over one another: the ledger counts 1831 steps at most. To make the pixels black and
 /// to fill them ten times takes 2816.
 pub fn paint_stacked<L: Ledger>(shown: &Shown<'_>, buf: &mut DrawBuf, steps: &mut Steps<L>)
     requires objects { object_count (scene_of shown.now.store.now) ≡ 13 }
     requires letters { letter_count (scene_of shown.now.store.now) ≡ 0 }
     requires late { late (scene_of shown.now.store.now) (area_at (pos 0) (pos 0) 16 16) ≡ 6 }
     requires fits { 256 ≤ buf.old.limit }
-    ensures { steps.new ≤ steps.old + 1818 }
+    ensures { steps.new ≤ steps.old + 1831 }
 {
     buf.begin(Area::at(0, 0, 16, 16), steps);
     shown.slice(buf, steps);

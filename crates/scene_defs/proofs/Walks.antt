@@ -1,5 +1,5 @@
 -- One walk down the trees meets what is shown.
-use Rattle.std.proofs.Common.{◌≡◌, ◌∙◌, sym, ℕ, Bool, true, false, Option, Some, None, is_some, List, ◌∷◌, ◌++◌, map, refl, arith}
+use Rattle.std.proofs.Common.{◌≡◌, ◌∙◌, sym, ap, ℕ, Bool, true, false, Option, Some, None, is_some, List, ◌∷◌, ◌++◌, map, refl, arith}
 use Rattle.std.specs.List.{filter, All}
 use Rattle.std.specs.Option.{IfSome, IsSomeAnd}
 use Rattle.std.proofs.lemmas.List.{map-append}
@@ -9,50 +9,62 @@ use Rattle.std.proofs.lemmas.Bool.{cond_both, and_parts}
 use Rattle.std.proofs.lemmas.Bool.Decides.{nat_tests}
 use Rattle.gui_base.specs.declared.words.Flag.TheVariants.{Hidden}
 use Rattle.gui_base.specs.Area.{Rect, is_empty, common, Covers}
-use Rattle.gui_base.specs.Forest.{Forest, Empty, Tree, preorder}
+use Rattle.gui_base.specs.Forest.{Forest, Empty, Tree}
 use Rattle.gui_base.proofs.Areas.{has-common}
 use Rattle.scene_defs.specs.Row.{is_on}
 use Rattle.scene_defs.specs.Scene.{Object, is_at, handles_of}
 use Rattle.scene_defs.specs.Place.{panel_of, place}
 use Rattle.scene_defs.specs.Visible.{met, seen_of, visible_in, visible, shown_trees}
 use Rattle.gui_base.specs.Coats.{Coat}
-use Rattle.scene_defs.specs.Items.{coats}
-use Rattle.scene_defs.specs.Shown.{Seen, order, seen, shown}
+use Rattle.scene_defs.specs.Shown.{Entry, Seen, bars_over, entries_in, entry_coats, order, own, seen, seen_as, shown}
 use Rattle.std.specs.Prelude.{slice_index_or}
 use Rattle.scene_defs.specs.Walk.{seen_alone, walked, ShownByWalk, NothingBelowNothing, IsSeenInside, WalkedInside, ShownInside}
 use Rattle.scene_defs.proofs.Distinct.{there, IsDistinct, distinct-three}
 
 pub nothing_below_nothing : NothingBelowNothing
-nothing_below_nothing place items Empty = refl
-nothing_below_nothing place items (Tree object cs rest) = grind (arith, nothing_below_nothing place items cs, nothing_below_nothing place items rest)
+nothing_below_nothing place lays Empty = refl
+nothing_below_nothing place lays (Tree object cs rest) = grind (arith, nothing_below_nothing place lays cs, nothing_below_nothing place lays rest)
 
--- an object as it is found by its handle
-abbrev found : (ℕ → Option Rect) → (ℕ → List Coat) → ℕ → Seen
-found area items h = record { handle = h; visible = area h; coats = items h }
+-- an entry as it is found by its object's handle
+abbrev found : (ℕ → Option Rect) → (Entry → List Coat) → Entry → Seen
+found area lays e = seen_as lays (area e.handle) e
 
 abbrev is_seen : Seen → Bool
 is_seen s = is_some s.visible
 
-first_seen : (items : ℕ → List Coat) (area : Option Rect) (h : ℕ) (more : List Seen) →
-    filter is_seen (record { handle = h; visible = area; coats = items h } ∷ more) ≡ seen_alone items area h ++ filter is_seen more
-first_seen items None h more = refl
-first_seen items (Some v) h more = refl
+-- one that is seen so, and more
+first_seen : (lays : Entry → List Coat) (area : Option Rect) (e : Entry) (more : List Seen) → filter is_seen (seen_as lays area e ∷ more) ≡ seen_alone lays area e ++ filter is_seen more
+first_seen lays None e more = refl
+first_seen lays (Some v) e more = refl
 
-module _ (place : ℕ → Option Rect) (items : ℕ → List Coat) (area : ℕ → Option Rect) where
+module _ (place : ℕ → Option Rect) (lays : Entry → List Coat) (area : ℕ → Option Rect) where
+  abbrev seens : List Entry → List Seen
+  seens es = filter is_seen (map (found area lays) es)
+
+  seens-append : (as' bs : List Entry) → seens (as' ++ bs) ≡ seens as' ++ seens bs
+  seens-append as' bs = simp (map-append, filter-append) refl
+
   found_by_walk : (clip : Option Rect) (f : Forest Object) → IsDistinct f → ((k : ℕ) → there f k ≡ true → area k ≡ visible_in place clip f k) →
-      filter is_seen (map (found area items) (preorder (handles_of f))) ≡ walked place items clip f
+      seens (entries_in (handles_of f)) ≡ walked place lays clip f
   found_by_walk clip Empty d agrees = refl
   found_by_walk clip (Tree object cs rest) d agrees =
       let v = seen_of place clip object in
-      let here : area object.handle ≡ v = grind (arith, nat_tests, agrees object.handle) in
+      let h = object.handle in
+      let here : area h ≡ v = grind (arith, nat_tests, agrees object.handle) in
       let inner = found_by_walk v cs d.3 (λ k i. grind (arith, nat_tests, i, agrees k, d.1)) in
       let later = found_by_walk clip rest d.4 (λ k i. grind (arith, nat_tests, i, agrees k, d.0 k, d.2)) in
-      rw here (first_seen items v object.handle (map (found area items) (preorder (handles_of cs) ++ preorder (handles_of rest)))
-      ∙ simp (map-append, filter-append, inner, later))
+      let below = entries_in (handles_of cs) in
+      let beside = entries_in (handles_of rest) in
+      first_seen lays (area h) (own h) (map (found area lays) (below ++ (bars_over h ∷ beside)))
+      ∙ ap (λ l. seen_alone lays (area h) (own h) ++ l) (seens-append below (bars_over h ∷ beside)
+      ∙ (ap (λ l. l ++ seens (bars_over h ∷ beside)) inner
+      ∙ ap (λ l. walked place lays v cs ++ l) (first_seen lays (area h) (bars_over h) (map (found area lays) beside)
+      ∙ ap (λ l. seen_alone lays (area h) (bars_over h) ++ l) later)))
+      ∙ ap (λ w. seen_alone lays w (own h) ++ (walked place lays v cs ++ (seen_alone lays w (bars_over h) ++ walked place lays clip rest))) here
 
 pub shown_by_walk : ShownByWalk
 shown_by_walk scene showable =
-    found_by_walk (place scene) (coats scene) (visible scene) (Some (panel_of scene)) (shown_trees scene)
+    found_by_walk (place scene) (entry_coats scene) (visible scene) (Some (panel_of scene)) (shown_trees scene)
     (distinct-three scene.trees scene.active showable.once showable.above_top showable.above_system) (λ k i. refl)
 
 -- What is seen lies inside the clip.
@@ -80,20 +92,21 @@ module _ (area : Rect) where
       let below = visible_inside at (seen_of at clip object) cs k (IfSome_then (seen_of at clip object) inside (λ v lies. lies.1)) in
       cond_both (is_at k object) _ _ Inside (λ e. inside) (λ e. cond_both (there cs k) _ _ Inside (λ e. below) (λ e. visible_inside at clip rest k covers))
 
-  walk_inside : (at : ℕ → Option Rect) (items : ℕ → List Coat) (clip : Option Rect) (f : Forest Object) → IfSome clip (Covers area) →
-      All (IsSeenInside area) (walked at items clip f)
-  walk_inside at items clip Empty covers = All-nil (IsSeenInside area)
-  walk_inside at items clip (Tree object cs rest) covers =
+  walk_inside : (at : ℕ → Option Rect) (lays : Entry → List Coat) (clip : Option Rect) (f : Forest Object) → IfSome clip (Covers area) →
+      All (IsSeenInside area) (walked at lays clip f)
+  walk_inside at lays clip Empty covers = All-nil (IsSeenInside area)
+  walk_inside at lays clip (Tree object cs rest) covers =
       let v = seen_of at clip object in
       let inside = seen_inside at clip object covers in
-      let below = walk_inside at items v cs (IfSome_then v inside (λ v lies. lies.1)) in
-      by v inside _ (All-append (IsSeenInside area) (walked at items v cs) (walked at items clip rest) below (walk_inside at items clip rest covers)) where
-        by : (v : Option Rect) → Inside v → (more : List Seen) → All (IsSeenInside area) more → All (IsSeenInside area) (seen_alone items v object.handle ++ more)
-        by None inside more later = later
-        by (Some v) inside more later = All-cons (IsSeenInside area) _ more inside later
+      let below = walk_inside at lays v cs (IfSome_then v inside (λ v lies. lies.1)) in
+      let after = by v (bars_over object.handle) inside (walked at lays clip rest) (walk_inside at lays clip rest covers) in
+      by v (own object.handle) inside _ (All-append (IsSeenInside area) (walked at lays v cs) (seen_alone lays v (bars_over object.handle) ++ walked at lays clip rest) below after) where
+        by : (v : Option Rect) (e : Entry) → Inside v → (more : List Seen) → All (IsSeenInside area) more → All (IsSeenInside area) (seen_alone lays v e ++ more)
+        by None e inside more later = later
+        by (Some v) e inside more later = All-cons (IsSeenInside area) _ more inside later
 
 pub walked_inside : WalkedInside
-walked_inside place items clip trees = walk_inside clip place items (Some clip) trees (λ x y i. i)
+walked_inside place lays clip trees = walk_inside clip place lays (Some clip) trees (λ x y i. i)
 
 pub shown_inside : ShownInside
 shown_inside scene k d lt =

@@ -5,14 +5,14 @@ use Rattle.gui_base.specs.Color.{black}
 use Rattle.scene_defs.specs.Scene.{Scene}
 use Rattle.scene_defs.specs.Visible.{holds}
 use Rattle.scene_defs.specs.Items.{lay}
-use Rattle.scene_defs.specs.Shown.{Seen, shown}
+use Rattle.scene_defs.specs.Shown.{Seen, painted}
 
 abbrev pub paint_seen : ℤ → ℤ → Rgb565 → Seen → Rgb565
 paint_seen x y under s = if holds s.visible x y then fold (lay x y) under s.coats else under
 
 -- the colour of a pixel, over black
 abbrev pub paint : Scene → ℤ → ℤ → Rgb565
-paint scene x y = fold (paint_seen x y) black (shown scene)
+paint scene x y = fold (paint_seen x y) black (painted scene)
 
 -- f at the numbers below n
 abbrev pub each_below : {A : Type 0} → ℕ → (ℕ → A) → List A

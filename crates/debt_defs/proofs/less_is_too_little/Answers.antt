@@ -4,7 +4,7 @@ use Rattle.gui_base.specs.Bits.{has_bit}
 use Rattle.gui_base.specs.Color.{mix, mix_channel}
 use Rattle.gui_base.specs.Forest.{StandsOnce}
 use Rattle.scene_defs.specs.Scene.{handles_of}
-use Rattle.scene_defs.specs.Place.{place}
+use Rattle.scene_defs.specs.Place.{place, reach, offset}
 use Rattle.scene_defs.specs.Walk.{IsShowable}
 use Rattle.text_defs.specs.Fonts.{face}
 use Rattle.text_defs.specs.Lines.{lines, run_width, greatest}
@@ -40,7 +40,7 @@ styled_showable : IsShowable styled
 styled_showable = let n = no_layer 3 (omega arith) in record { once = two_once; above_top = n.0; above_system = n.1 }
 
 pub returns : goal.returns
-unfolding place has_bit mix mix_channel face lines run_width greatest inked chars is_utf8 encode column_of
+unfolding place reach offset has_bit mix mix_channel face lines run_width greatest inked chars is_utf8 encode column_of
 returns c = record {
   new_places = record { showable = one_showable; outside = refl; painted = refl };
   named_object = record { showable = row_showable; outside = refl; painted = refl };

@@ -2,11 +2,12 @@ use Rattle.std.proofs.Common.{refl}
 use Rattle.std.specs.Str.{chars, is_utf8}
 use lib.Utf8.{encode}
 use Rattle.gui_base.specs.Bits.{has_bit, with_bit}
-use Rattle.scene_defs.specs.Place.{place}
+use Rattle.gui_base.specs.Color.{mix, mix_channel}
+use Rattle.scene_defs.specs.Place.{place, reach, offset}
 use Rattle.debt_defs.proofs.worked_examples.Goals as goal
 
 pub returns : goal.returns
-unfolding place has_bit with_bit chars is_utf8 encode
+unfolding place reach offset has_bit with_bit mix mix_channel chars is_utf8 encode
 returns c = record {
   debts = record {
     moved = refl;
@@ -47,5 +48,10 @@ returns c = record {
     let_go = refl;
     joined = refl;
     shorter = refl;
+    bar = refl;
+    below_bar = refl;
+    beside_bar = refl;
+    above_moved = refl;
+    moved_bar = refl;
   };
 }

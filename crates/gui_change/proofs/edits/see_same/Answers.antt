@@ -9,7 +9,7 @@ use Rattle.gui_layout.specs.Tops.{in_trees_at}
 use Rattle.gui_change.specs.Dues.{OwesAll}
 use Rattle.gui_change.specs.Handles.{number_of}
 use Rattle.gui_change.proofs.Owing.{again_is_debt}
-use Rattle.gui_change.proofs.Still.{kept, order-stays, others-seen}
+use Rattle.gui_change.proofs.Still.{entries-stay, kept, order-stays, others-seen}
 use Rattle.gui_change.proofs.edits.see_same.Goals as goal
 
 pub settle_moved-requires-clause-was : goal.settle_moved-requires-clause-was
@@ -23,6 +23,17 @@ see_changed-requires-clause-order c =
     c.requires.was.seen.shows.order
     ∙ sym (order-stays c.args.places.now c.args.look.now (scene_of c.args.store.now) c.args.change.now c.args.concerned c.requires.was.removed c.requires.was.seen)
 
+pub see_changed-requires-clause-reached : goal.see_changed-requires-clause-reached
+see_changed-requires-clause-reached c = c.settle_moved.ensures.settles.settled.reached
+
+pub see_changed-requires-clause-entries : goal.see_changed-requires-clause-entries
+see_changed-requires-clause-entries c =
+    c.requires.was.seen.shows.entries
+    ∙ sym (entries-stay c.args.places.now c.args.look.now (scene_of c.args.store.now) c.args.change.now c.args.concerned c.requires.was.removed c.requires.was.seen)
+
+pub see_changed-requires-clause-entries_room : goal.see_changed-requires-clause-entries_room
+see_changed-requires-clause-entries_room c = c.requires.was.seen.shows.entries_room
+
 pub see_changed-requires-clause-others : goal.see_changed-requires-clause-others
 see_changed-requires-clause-others c k s found out off =
     let old = c.args.places.now in
@@ -31,7 +42,7 @@ see_changed-requires-clause-others c k s found out off =
     let was = c.requires.was in
     let settles = c.settle_moved.ensures.settles in
     others-seen old look scene c.args.change.now c.args.concerned was.removed was.seen c.settle_moved.new.places (solved_in c.settle_moved.new.marks) settles.settled settles.stays
-    (c.settle_moved.ensures.boxes (kept old look scene c.args.change.now c.args.concerned was.removed was.seen)) k s found
+    (c.settle_moved.ensures.boxes (kept old look scene c.args.change.now c.args.concerned was.removed was.seen)) c.settle_moved.ensures.scrolls k s found
     (subst (λ (us : List Handle). in_trees_at (handles_of scene.trees) us k ≡ false) c.solved.ensures out) off
 
 pub returns-clause-debt : goal.returns-clause-debt

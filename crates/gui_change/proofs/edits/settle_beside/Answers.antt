@@ -1,9 +1,10 @@
 use Rattle.std.proofs.Common.{◌≡◌, ◌∙◌, refl, sym, subst, true, eqb}
 use Rattle.std.proofs.lemmas.Bool.{both_ways, eqb-true, false_from_ne_true}
 use Rattle.gui_store.specs.Views.{scene_of}
-use Rattle.gui_layout.specs.Marks.{is_changed, is_marked, is_parent}
+use Rattle.gui_layout.specs.Marks.{is_changed, is_marked, is_parent, solved_in}
 use Rattle.gui_layout.specs.SettledBut.{AreSettledButMarks, anyone, in_marked}
 use Rattle.gui_layout.proofs.Before.{right_fewer}
+use Rattle.gui_change.proofs.BarsStay.{scrolls-same}
 use Rattle.gui_change.proofs.Edited.{other-kids}
 use Rattle.gui_change.proofs.Unmoved.{beside-told}
 use Rattle.gui_change.proofs.edits.settle_beside.Goals as goal
@@ -36,3 +37,8 @@ returns-clause-none c = record {
   none = c.settle.ensures.empty;
   most = c.settle.ensures.most ∙ (c.mark_beside.ensures.most ∙ c.requires.none.most);
 }
+
+pub returns-clause-scrolls : goal.returns-clause-scrolls
+returns-clause-scrolls c k there other out =
+    let marks = c.mark_beside.new.marks in
+    scrolls-same c.args.places.now c.settle.new.self (scene_of c.args.store.now) (is_marked marks) (solved_in c.settle.new.marks) k c.settle.ensures.scrolls_stay there out (c.mark_beside.ensures.others k other)

@@ -6,6 +6,7 @@ use Rattle.gui_layout.specs.Marks.{is_changed, is_marked, is_parent, solved_in}
 use Rattle.gui_layout.specs.SettledBut.{AreSettledButMarks, anyone, in_marked}
 use Rattle.gui_layout.specs.Tops.{in_trees_at}
 use Rattle.gui_layout.proofs.Before.{right_fewer}
+use Rattle.gui_change.proofs.BarsStay.{scrolls-same}
 use Rattle.gui_change.proofs.edits.settle_moved.Goals as goal
 use Rattle.gui_change.proofs.edits.settle_moved.Goals.{After-mark_moved, After-settle}
 
@@ -41,3 +42,10 @@ returns-clause-none c = record {
   none = c.settle.ensures.empty;
   most = c.settle.ensures.most ∙ (c.mark_moved.ensures.most ∙ c.requires.none.most);
 }
+
+pub returns-clause-scrolls : goal.returns-clause-scrolls
+returns-clause-scrolls c k there out =
+    let d = (goal.at.returns-clause-scrolls c).After-settle in
+    let marks = c.mark_moved.new.marks in
+    let none : is_marked marks k ≡ false = false_from_ne_true (is_marked marks k) (λ is. both_ways (is_changed marks k) (unmarked d k there out) (c.mark_moved.ensures.whole k is)) in
+    scrolls-same c.args.places.now c.settle.new.self (scene_of c.args.store.now) (is_marked marks) (solved_in c.settle.new.marks) k c.settle.ensures.scrolls_stay there out none

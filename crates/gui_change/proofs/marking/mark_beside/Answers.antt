@@ -4,7 +4,7 @@ use Rattle.gui_store.specs.Views.{scene_of}
 use Rattle.scene_defs.specs.Scene.{handles_of}
 use Rattle.gui_layout.proofs.Entering.{few}
 use Rattle.gui_change.proofs.Edited.{some-size}
-use Rattle.gui_change.proofs.Marks.{count-none, none-changed}
+use Rattle.gui_change.proofs.Marks.{count-none, none-changed, unmarked-still}
 use Rattle.gui_change.proofs.Orders.{root_there}
 use Rattle.gui_change.proofs.marking.mark_beside.Goals as goal
 
@@ -20,3 +20,6 @@ mark_children-requires c =
 
 pub returns-clause-changed : goal.returns-clause-changed
 returns-clause-changed c k = c.mark_children.ensures.changed k ∙ none-changed c.args.marks.now k (c.requires.none.none k)
+
+pub returns-clause-others : goal.returns-clause-others
+returns-clause-others c k other = unmarked-still c.args.marks.now c.mark_children.new.self k (c.requires.none.none k) (c.mark_children.ensures.changed k) (c.mark_children.ensures.others k other)

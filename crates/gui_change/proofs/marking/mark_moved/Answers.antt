@@ -5,6 +5,7 @@ use Rattle.scene_defs.specs.Scene.{is_there}
 use Rattle.gui_layout.specs.Marks.{is_changed, is_marked, is_parent}
 use Rattle.gui_layout.proofs.Entering.{few}
 use Rattle.gui_change.specs.Concerned.{may_be}
+use Rattle.gui_change.proofs.Marks.{marked-changed}
 use Rattle.gui_change.proofs.Unmoved.{nobody-boxes, nobody-told, others-boxes, others-told}
 use Rattle.gui_change.proofs.marking.mark_moved.Goals as goal
 use Rattle.gui_change.proofs.marking.mark_moved.Goals.{After-mark_concerned}
@@ -41,3 +42,9 @@ returns-then-moves_nobody-clause-boxes c edit removed kept places was k there un
 pub returns-clause-boxes : goal.returns-clause-boxes
 returns-clause-boxes c edit removed kept places was k there un =
     others-boxes places (scene_of c.args.store.now) edit c.args.change.now c.args.concerned removed was k there (off-may (goal.at.returns-clause-boxes c).After-mark_concerned k there un)
+
+pub returns-then-moves_nobody-clause-whole : goal.returns-then-moves_nobody-clause-whole
+returns-then-moves_nobody-clause-whole c k is = absurd (both_ways (is_marked c.args.marks.now k) (c.requires.none.none k) is)
+
+pub returns-clause-whole : goal.returns-clause-whole
+returns-clause-whole c k is = marked-changed c.args.marks.now c.mark_concerned.new.marks k (c.requires.none.none k) (c.mark_concerned.ensures.marks.parents k) is

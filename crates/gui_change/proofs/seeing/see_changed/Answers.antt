@@ -52,9 +52,11 @@ returns-clause-shows c =
     let look = c.args.look.now in
     record {
       order = c.requires.order;
+      entries = c.requires.entries;
       table = these_kept scene.limits.objects look.seen c.see_trees.new.table look.order.items (sees d).listing c.requires.table;
       seen = seen d;
       room = c.requires.order_room;
+      entries_room = c.requires.entries_room;
     }
 
 pub returns-clause-debt : goal.returns-clause-debt

@@ -1,4 +1,4 @@
-use Rattle.std.proofs.Common.{◌≡◌, sym, subst, rules, ℕ, Option, Some, ◌<◌, arith}
+use Rattle.std.proofs.Common.{sym, subst, rules, ℕ, Option, Some, ◌<◌, ◌*◌, arith}
 use Rattle.gui_base.specs.Corners.{rect_of}
 use Rattle.gui_base.specs.declared.Handle.{Handle}
 use Rattle.gui_base.specs.Forest.{size, tree_by}
@@ -23,7 +23,7 @@ pub returns-in_default : goal.returns-in_default
 returns-in_default g t c =
     let scene = scene_of c.args.shown.now.store.now in
     let few = c.in_default.ensures.steps in
-    paints_list scene _ _ _ _ _ _ _ _ _ (sym c.in_default.ensures.met) (paints_none scene (number_of c.args.start.now) c.args.buf.now (size (tree_by (is_at c.args.h.0) scene.trees)) c.args.steps.now c.visit.new.steps (omega (arith, few)))
+    paints_list scene _ _ _ _ _ _ _ _ _ (sym c.in_default.ensures.met) (paints_none scene (number_of c.args.start.now) c.args.buf.now (2 * size (tree_by (is_at c.args.h.0) scene.trees)) c.args.steps.now c.visit.new.steps (omega (arith, few)))
 
 pub paint_next-requires-clause-stands : goal.paint_next-requires-clause-stands
 paint_next-requires-clause-stands g t c = c.in-Some.ensures.met.stands
@@ -61,4 +61,4 @@ returns g t c =
     let visible = rect_of c.in-Some.seen.visible in
     let begins = (walk_starts scene c.args.h.0 _ _ c.tree-tree.ensures.valid c.tree-tree.ensures.forest c.first_child-next.ensures).0 in
     let below = subst (λ (next : Option Handle). PaintsTo scene visible c.args.h.0 c.first_child-next.result next (number_of c.paint_next.new.start) (number_of c.loop-next.start) c.paint_next.new.buf c.loop-next.buf c.paint_next.new.steps c.loop-next.steps) c.in_default-next.is c.loop-next.invariant in
-    paints_tree scene (rect_of c.args.clip) visible c.args.h.0 c.first_child-next.result _ _ _ _ _ _ c.args.steps.now c.visit.new.steps _ _ c.in-Some.ensures.met.walk begins c.in-Some.ensures.steps c.paint_next.ensures below
+    paints_tree scene (rect_of c.args.clip) visible c.args.h.0 c.first_child-next.result _ _ _ _ _ _ _ c.args.steps.now c.visit.new.steps _ _ _ c.in-Some.ensures.met.walk begins c.in-Some.ensures.steps c.in-Some.ensures.met.small c.paint_next.ensures below c.paint_next_bars.ensures

@@ -1,4 +1,4 @@
-use Rattle.std.proofs.Common.{◌≡◌, ◌∙◌, sym, ap, ℤ, ◌&&◌, arith}
+use Rattle.std.proofs.Common.{◌∙◌, sym, ap, ℤ, ◌&&◌, arith}
 use Rattle.gui_base.specs.Area.{Rect, has}
 use Rattle.gui_base.specs.Corners.{rect_of}
 use Rattle.gui_store.specs.Views.{scene_of}

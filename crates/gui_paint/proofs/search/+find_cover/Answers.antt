@@ -1,4 +1,4 @@
-use Rattle.std.proofs.Common.{◌≡◌, ◌∙◌, sym, ap, subst, rules, ℕ, Option, Some, None, List, [], ◌<◌, fold, arith, refl}
+use Rattle.std.proofs.Common.{sym, ap, subst, rules, ℕ, Option, Some, None, List, [], ◌<◌, fold, arith, refl}
 use Rattle.gui_base.specs.Corners.{rect_of}
 use Rattle.gui_base.specs.declared.Handle.{Handle}
 use Rattle.gui_base.specs.Forest.{size}

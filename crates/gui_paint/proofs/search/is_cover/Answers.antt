@@ -1,4 +1,4 @@
-use Rattle.std.proofs.Common.{◌≡◌, ◌∙◌, sym, ap, ◌&&◌, List}
+use Rattle.std.proofs.Common.{◌∙◌, sym, ap, ◌&&◌, List}
 use Rattle.std.specs.List.{list_any}
 use Rattle.gui_base.specs.Corners.{rect_of}
 use Rattle.widget_defs.specs.Items.{Item as Painted}

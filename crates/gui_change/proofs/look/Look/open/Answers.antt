@@ -24,9 +24,13 @@ returns c =
     let room = c.in_ok-order.ensures.room in
     let same = c.list_shown.ensures.capacity in
     let objects = c.requires.objects in
+    let more = c.in_ok-entries.ensures.room in
+    let still = c.list_entries.ensures.capacity in
     record {
       order = c.list_shown.ensures.order;
+      entries = c.list_entries.ensures.entries;
       table = subst (λ (n : ℕ). HasThese n c.see_all.new.table hs) (fit d) (subst (λ (ks : List Handle). HasThese c.in-Ok.seen.spare c.see_all.new.table ks) c.as_slice.ensures.value c.see_all.ensures.these);
       seen = c.see_all.ensures.seen;
       room = omega (arith, room, same, objects);
+      entries_room = omega (arith, more, still, objects);
     }

@@ -58,6 +58,9 @@ returns-clause-whole c = c.settle_listed.ensures.moves.whole
 pub returns-clause-stays : goal.returns-clause-stays
 returns-clause-stays c = c.settle_listed.ensures.moves.stays
 
+pub returns-clause-scrolls_stay : goal.returns-clause-scrolls_stay
+returns-clause-scrolls_stay c = c.settle_listed.ensures.scrolls
+
 pub returns-clause-right : goal.returns-clause-right
 returns-clause-right c = c.settle_listed.ensures.settles.right
 

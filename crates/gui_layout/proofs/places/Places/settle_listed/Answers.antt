@@ -14,7 +14,7 @@ use Rattle.gui_layout.specs.Settled.{IsSettled, Known, Layout, known_at}
 use Rattle.gui_layout.specs.Settles.{known_in}
 use Rattle.gui_layout.specs.Solved.{AreStanding, layout_of, offset_in, place_at, reach_in}
 use Rattle.gui_layout.specs.Tables.{IsListed, area_in, listing_of}
-use Rattle.gui_layout.specs.Tops.{is_over}
+use Rattle.gui_layout.specs.Tops.{in_trees_at, is_over}
 use Rattle.gui_layout.specs.Views.{box_at}
 use Rattle.gui_layout.proofs.Apart.{naturals-alike, none-of, place-alike}
 use Rattle.gui_layout.proofs.Climbing.{in_own_tree}
@@ -117,6 +117,17 @@ renew_reaches-requires-clause-own c h some there k is =
     let d = (goal.at.renew_reaches-requires-clause-own c).After-settle_changed in
     placed d k (mark-inside (w d) h h k (f d) (c.requires.marked h some) (in_own_tree (f d) h (once d) there) is)
 
+none-times : (m : ℕ) → (0 < m → ⊥) → m ≡ 0
+none-times zero not = refl
+none-times (suc m) not = absurd (not (omega arith))
+
+-- who has the same place has an entry as before
+same-place : (t u : Option Entry) → option_map area_in u ≡ option_map area_in t → is_some u ≡ is_some t
+same-place None None is = refl
+same-place None (Some e) is = cc
+same-place (Some e) None is = cc
+same-place (Some e) (Some g) is = refl
+
 -- Then reaches are read, and nothing else changes.
 module _ (c : After-renew_reaches) where
   abbrev d : After-settle_changed
@@ -167,10 +178,17 @@ module _ (c : After-renew_reaches) where
       both_ways (in_marked (n d) (scene d) k) out_n (c.settle_changed.ensures.scrolls.marked o.top k o.listed o.parent k (in_own_tree (f d) k (once d) there))) in
       c.renew_reaches.ensures.others k (subst (λ vs. is_over (f d) vs k ≡ false) (sym c.as_slice.ensures.value) not_over) unmarked
       ∙ c.settle_changed.ensures.settles.other_scrolls k there out_n
-    where
-      none-times : (m : ℕ) → (0 < m → ⊥) → m ≡ 0
-      none-times zero not = refl
-      none-times (suc m) not = absurd (not (omega arith))
+
+  -- and so it does outside of the trees that were solved, where none of their parents is and none is marked
+  kept-outside : (k : ℕ) → has (f d) k ≡ true → in_trees_at (f d) c.settle_changed.new.solved.items k ≡ false → is_over (f d) c.settle_changed.new.solved.items k ≡ false → w d k ≡ false →
+      scrolled_at (layout_of last).scrolls k ≡ scrolled_at (layout_of c.args.self.now).scrolls k
+  kept-outside k there out over un =
+      let unmarked : times c.args.marked.now k ≡ 0 = none-times (times c.args.marked.now k) (λ some. both_ways (w d k) un (c.requires.marked k some)) in
+      c.renew_reaches.ensures.others k (subst (λ vs. is_over (f d) vs k ≡ false) (sym c.as_slice.ensures.value) over) unmarked
+      ∙ c.settle_changed.ensures.scrolls.kept k there out
+
+  entered : (k : ℕ) → has (f d) k ≡ true → in_trees_at (f d) c.settle_changed.new.solved.items k ≡ false → is_some (value_at c.args.self.now.entries k) ≡ is_some (value_at last.entries k)
+  entered k there out = sym (same-place (value_at c.args.self.now.entries k) (value_at (mid d).entries k) (c.settle_changed.ensures.moves.stays k there out)) ∙ some k
 
   -- all that stood right stands so
   standing-last : AreStanding (mid d) (scene d) → AreStanding last (scene d)
@@ -191,6 +209,17 @@ returns-clause-moves c =
       tops = moves.tops;
       whole = λ k there is. moves.whole k there (c.raise_marks.ensures.more k is);
       stays = λ k there out. stands e k ∙ moves.stays k there out;
+    }
+
+pub returns-clause-scrolls : goal.returns-clause-scrolls
+returns-clause-scrolls c =
+    let e = (goal.at.returns-clause-scrolls c).After-renew_reaches in
+    let old = c.args.self.now.entries in
+    let new = c.renew_reaches.new.self.entries in
+    record {
+      reaches = λ k there out over un. reach-alike k old new (kept-outside e k there out over un) (entered e k there out);
+      offsets = λ k there out over un. offset-alike k old new (kept-outside e k there out over un) (entered e k there out);
+      steady = c.settle_changed.ensures.scrolls.steady;
     }
 
 -- where there is no place, there is no entry
@@ -257,9 +286,3 @@ returns-clause-settles c =
             reached = record { reaches = λ h. (shown h).reaches; offsets = λ h. (shown h).offsets };
           };
     }
-  where
-    same-place : (t u : Option Entry) → option_map area_in u ≡ option_map area_in t → is_some u ≡ is_some t
-    same-place None None is = refl
-    same-place None (Some e) is = cc
-    same-place (Some e) None is = cc
-    same-place (Some e) (Some g) is = refl

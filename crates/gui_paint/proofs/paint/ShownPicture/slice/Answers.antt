@@ -1,6 +1,6 @@
 use Rattle.std.proofs.Common.{◌≡◌, ◌≤◌, ◌+◌, ◌∙◌, ap, ℕ, Option}
 use Rattle.gui_base.specs.Area.{Rect}
-use Rattle.scene_defs.specs.Shown.{shown}
+use Rattle.scene_defs.specs.Shown.{painted}
 use Rattle.scene_defs.proofs.Validity.{valid_is_showable}
 use Rattle.cover_defs.specs.Cover.{cover, uncovered}
 use Rattle.cover_defs.specs.Steps.{slice_steps}
@@ -14,12 +14,12 @@ use Rattle.gui_paint.proofs.paint.ShownPicture.slice.Given.{Over}
 use Rattle.gui_paint.proofs.paint.ShownPicture.slice.Goals as goal
 use Rattle.gui_paint.proofs.paint.ShownPicture.slice.Goals.{After-paint}
 
--- what is painted is what is shown from the cover on
-from : (g : Over) (c : After-paint g) → from_handle (number_of c.cover_start-start.result) (shown (scene_of c.args.self.now.store.now)) ≡ uncovered (scene_of c.args.self.now.store.now) c.args.buf.now.area
+-- what is painted is all from the cover on
+from : (g : Over) (c : After-paint g) → from_handle (number_of c.cover_start-start.result) (painted (scene_of c.args.self.now.store.now)) ≡ uncovered (scene_of c.args.self.now.store.now) c.args.buf.now.area
 from g c =
     let scene = scene_of c.args.self.now.store.now in
-    ap (λ (o : Option ℕ). from_handle o (shown scene)) c.cover_start-start.ensures.cover
-    ∙ (ap (λ (part : Rect). from_handle (cover scene part) (shown scene)) c.area.ensures ∙ waited_is_uncovered scene c.args.buf.now.area (valid_is_showable scene c.tree-tree.ensures.valid))
+    ap (λ (o : Option ℕ). from_handle o (painted scene)) c.cover_start-start.ensures.cover
+    ∙ (ap (λ (part : Rect). from_handle (cover scene part) (painted scene)) c.area.ensures ∙ waited_is_uncovered scene c.args.buf.now.area (valid_is_showable scene c.tree-tree.ensures.valid))
 
 late : (g : Over) (c : After-paint g) → c.paint.new.steps ≤ c.args.steps.now + slice_steps (scene_of c.args.self.now.store.now) c.args.buf.now.area
 late g c =

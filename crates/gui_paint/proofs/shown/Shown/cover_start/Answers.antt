@@ -1,4 +1,4 @@
-use Rattle.std.proofs.Common.{◌≡◌, ◌+◌, ◌≤◌, subst, ap, ℕ, fold, None, arith}
+use Rattle.std.proofs.Common.{◌≡◌, subst, ap, ℕ, fold, None, arith}
 use Rattle.gui_base.specs.Area.{Rect}
 use Rattle.gui_base.specs.Corners.{rect_of}
 use Rattle.gui_base.specs.Forest.{size, tree_by}

@@ -1,0 +1,17 @@
+-- What is painted, as the code lists it.
+use Rattle.std.specs.Prelude.{◌≡◌, ◌≤◌, ◌*◌, ℕ, List, [], map, vec_len, vec_capacity}
+use Rattle.std.specs.Global.{Vec}
+use Rattle.scene_defs.specs.Shown.{Entry as Painted}
+use Rattle.gui_change.specs.declared.entries.Entry.{Entry}
+
+abbrev pub entry_in : Entry → Painted
+entry_in e = record { handle = e.h.0; is_bars = e.is_bars }
+
+abbrev pub all_entries : List Entry → List Painted
+all_entries es = map entry_in es
+
+-- a list is empty, and has room for two entries of each of so many objects
+pub record IsEntryRoom (objects : ℕ) (listed : Vec Entry) : Type 0 where
+  pub empty : listed.items ≡ []
+  pub len : vec_len listed ≡ 0
+  pub room : 2 * objects ≤ vec_capacity listed

@@ -1,0 +1,41 @@
+-- What is known of an entry that is painted.
+use Rattle.std.proofs.Common.{◌≡◌, ◌∙◌, sym, ap, ℕ, Bool, true, false, ◌&&◌, if◌then◌else◌, option_map, option_copied, is_some, List, get_or}
+use Rattle.std.specs.declared.option.Option.{Option}
+use Rattle.std.specs.Prelude.{Some}
+use Rattle.std.specs.List.{list_any}
+use Rattle.gui_base.specs.Area.{Rect}
+use Rattle.gui_base.specs.Corners.{rect_of}
+use Rattle.gui_color.specs.Buffer.{Buffer}
+use Rattle.gui_change.specs.Seen.{IsKnown, IsShownAt, entry_of, items_known}
+use Rattle.gui_change.specs.declared.seen.ShownEntry.{ShownEntry}
+use Rattle.gui_paint.specs.Painting.{Paints, painted_bars, painted_coats, painted_object}
+use Rattle.cover_defs.specs.Cover.{hides, is_cover, sees_all}
+use Rattle.cover_defs.specs.Steps.{bar_steps, object_steps, steps_of}
+use Rattle.scene_defs.specs.Items.{bar_coats, coats, items}
+use Rattle.scene_defs.specs.Scene.{Scene}
+use Rattle.scene_defs.specs.Shown.{Entry, entries, own, seen_entry}
+use Rattle.scene_defs.specs.Visible.{visible}
+use Rattle.widget_defs.specs.Items.{Item}
+use Rattle.gui_view.specs.Covering.{covers_known}
+use Rattle.gui_view.specs.Painted.{entry_steps, painted_entry}
+use Rattle.gui_view.proofs.Views.{paints_seen}
+
+-- an entry covers what it covers by what is known of it
+pub covers_is : (scene : Scene) (part : Rect) (n : ℕ) (e : ShownEntry) → IsShownAt scene n e → covers_known e part ≡ is_cover scene part (seen_entry scene (get_or (entries scene) n (own 0)))
+covers_is scene part n e at =
+    ap (λ (v : Option Rect). if e.is_bars then false else (sees_all v part && list_any (hides part) (items_known (option_copied e.paints)))) at.known.visible
+    ∙ (ap (λ (is : List Item). if e.is_bars then false else (sees_all (visible scene e.h.0) part && list_any (hides part) is)) at.known.items
+    ∙ ap (λ (one : Entry). is_cover scene part (seen_entry scene one)) (sym (at.entry (own 0))))
+
+-- An entry that is seen there is painted as its object, or as the bars of that.
+module _ (scene : Scene) (e : ShownEntry) (area : Rect) (seen : visible scene e.h.0 ≡ Some area) where
+  pub paints_own : (old new : Buffer) → e.is_bars ≡ false → Paints old new (painted_object scene area e.h.0) → Paints old new (painted_entry scene (entry_of e))
+  paints_own old new is paints = paints_seen old new scene (entry_of e) area seen (rw is paints)
+
+  pub paints_its_bars : (old new : Buffer) → e.is_bars ≡ true → Paints old new (painted_bars scene area e.h.0) → Paints old new (painted_entry scene (entry_of e))
+  paints_its_bars old new is paints = paints_seen old new scene (entry_of e) area seen (rw is paints)
+
+  pub steps_are : (size : ℕ) (b : Bool) → e.is_bars ≡ b → entry_steps scene size (entry_of e) ≡ (if b then bar_steps scene size e.h.0 else object_steps scene size e.h.0)
+  steps_are size b is =
+      ap (λ (v : Option Rect). if is_some v then steps_of scene size (seen_entry scene (entry_of e)) else 0) seen
+      ∙ ap (λ (c : Bool). if c then bar_steps scene size e.h.0 else object_steps scene size e.h.0) is

@@ -63,8 +63,8 @@ fn a_drag_scrolls_by_its_last_step(rt: HostRuntime) -> Result<(), Fail> {
         "new 10 3 obj\nsize 10 20 20\nflag 10 scrollable on\nnew 11 10 obj\nsize 11 10 60\ntouch 5 15\nrelease\ntouch 5 15\ntouch 5 10\ntouch 5 4\n";
     let wanted = [
         Want::Place(11, [0, -6, 9, 53]),
-        Want::States(10, State::Scrolled.bit()),
-        Want::States(11, State::Pressed.bit()),
+        Want::States(10, 1 << State::Scrolled.bit()),
+        Want::States(11, 1 << State::Pressed.bit()),
     ];
     assert!(rt; is_so_after(rt.alloc(), &Limits::with_sizes(20, 20, 20), script, &wanted)?);
     Ok(())

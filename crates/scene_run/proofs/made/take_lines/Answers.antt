@@ -1,4 +1,4 @@
-use Rattle.std.proofs.Common.{◌≡◌, ◌∙◌, ap, subst, ℕ, Bool, true, false, ◌&&◌, ◌+◌, ◌^◌, ◌<◌, ◌≤◌, List, [], ◌∷◌, ◌++◌, length, append_assoc, append-nil, arith, refl}
+use Rattle.std.proofs.Common.{◌≡◌, ◌∙◌, ap, sym, subst, map, ℕ, Bool, true, false, ◌&&◌, ◌+◌, ◌^◌, ◌<◌, ◌≤◌, List, [], ◌∷◌, ◌++◌, length, append_assoc, append-nil, arith, refl}
 use Rattle.std.proofs.lemmas.List.{map-append}
 use Rattle.gui_edge.proofs.Prefixes.{on_err}
 use Rattle.run_defs.specs.Script.{parse}
@@ -32,6 +32,16 @@ few_left old new line left step few = omega arith
 
 few_here : (old : ℕ) (line : List ℕ) (left : List (List ℕ)) → old + length (line ∷ left) < 2 ^ 32 → old + 1 < 2 ^ 32
 few_here old line left few = omega arith
+
+-- what is said of a line that is taken comes after what those before it said
+said_after : {A B : Type 0} (f : A → B) (before : List B) (taken : List A) (x : A) → (before ++ map f taken) ++ f x ∷ [] ≡ before ++ map f (taken ++ x ∷ [])
+said_after f before taken x = append_assoc before (map f taken) (f x ∷ []) ∙ ap (λ more. before ++ more) (sym (map-append f taken (x ∷ [])))
+
+-- and so does what is said of the lines that are left
+said_amid : {A B : Type 0} (f : A → B) (before : List B) (taken : List A) (x : A) (left : List A) → ((before ++ map f taken) ++ f x ∷ []) ++ map f left ≡ before ++ map f (taken ++ x ∷ left)
+said_amid f before taken x left =
+    ap (λ first. first ++ map f left) (said_after f before taken x) ∙ append_assoc before (map f (taken ++ x ∷ [])) (map f left)
+    ∙ ap (λ more. before ++ more) (sym (map-append f (taken ++ x ∷ []) left) ∙ ap (map f) (append_assoc taken (x ∷ []) left))
 
 all_both : (a b : Bool) → (a && b) ≡ true → (a ≡ true) × (b ≡ true)
 all_both true true e = (refl, refl)
@@ -67,7 +77,7 @@ loop-line-preserved g c =
     let on = rw (said_is g (goal.at.loop-line-preserved g c).After-parse_line-said) at c.in_ok-take_line.ensures.ok in record {
       taken = h.taken ++ c.in-Some.line.bytes ∷ [];
       split = append_assoc h.taken (c.in-Some.line.bytes ∷ []) c.next_line.new.self ∙ h.split;
-      made = λ first start lines k. subst (HasMade first start c.take_line.new.self (g.P.Panel.state c.take_line.new.panel)) (simp (map-append, append_assoc)) (on.from first start (lines ++ all_say h.taken) (h.made first start lines k));
+      made = λ first start lines k. subst (HasMade first start c.take_line.new.self (g.P.Panel.state c.take_line.new.panel)) (said_after (λ bytes. parse bytes) lines h.taken c.in-Some.line.bytes) (on.from first start (lines ++ all_say h.taken) (h.made first start lines k));
       ready = on.ready _ (ready_less _ _ _ (one_less c.in-Some.line.bytes c.next_line.new.self) h.ready);
       few = few_left _ _ c.in-Some.line.bytes c.next_line.new.self c.in_ok-take_line.ensures.refused h.few;
       none = (all_both _ _ h.none).1;
@@ -79,7 +89,7 @@ returns-in_err-take_line-clause-err g c =
     let halts = rw (said_is g (goal.at.returns-in_err-take_line-clause-err g c).After-parse_line-said) at c.in_err-take_line.ensures.err in
     on_err c.from_residual.result (λ first start lines k.
     halted_on first (panel_alone start) (panel_alone (g.P.Panel.state c.take_line.new.panel)) ((lines ++ all_say h.taken) ++ parse c.in-Some.line.bytes ∷ []) (all_say c.next_line.new.self) (lines ++ all_say c.args.maker.now)
-    (rw (← h.split) (simp (map-append, append_assoc))) (halts.from first (panel_alone start) (lines ++ all_say h.taken) (h.made first start lines k).answered))
+    (rw (← h.split) (sym (said_amid (λ bytes. parse bytes) lines h.taken c.in-Some.line.bytes c.next_line.new.self))) (halts.from first (panel_alone start) (lines ++ all_say h.taken) (h.made first start lines k).answered))
 
 pub returns-clause-ok : goal.returns-clause-ok
 returns-clause-ok g c = λ first start lines k.

@@ -1,9 +1,14 @@
 //! What devices tell around 400 and 100 ms.
+ghost use Rattle.std.specs.Prelude.{IfSome};
+ghost use Rattle.gui_input.specs.Points.{IsPoint};
+
 use gui_base::Key;
 use gui_input::{Encoder, EncoderReading, InputEvent, KeyReading, Keypad, Pointer, PointerReading};
 
 /// A point that is touched or left.
-fn touch(down: bool) -> Option<PointerReading> {
+fn touch(down: bool) -> Option<PointerReading>
+    ensures { IfSome result IsPoint }
+{
     Some(PointerReading { x: 5, y: 7, down })
 }
 

@@ -13,3 +13,5 @@ mod lit;
 mod pump;
 #[cfg(test)]
 mod refresh;
+#[cfg(test)]
+mod rounding;

@@ -1,7 +1,24 @@
-//! Lists of areas that were worked out by hand.
-use gui_base::Area;
+//! Lists of areas that were worked out by hand, on panels whose blocks are single pixels.
+ghost use Rattle.std.specs.Prelude.{◌≡◌, ◌∷◌, [], false, pos};
+ghost use Rattle.gui_base.specs.Area.{is_empty};
+ghost use Rattle.gui_base.specs.Corners.{rect_of};
+ghost use Rattle.gui_base.specs.Gridded.{HasPixels};
+
+use gui_base::{Area, Grid, Round};
 use gui_damage::Damage;
 use std::process::Abort;
+
+/// The list with the whole of a panel, whose blocks are single pixels.
+pub(crate) fn whole_panel(panel: Area) -> Damage<Grid>
+    requires left { (rect_of panel).x1 ≡ pos 0 }
+    requires top { (rect_of panel).y1 ≡ pos 0 }
+    requires some { is_empty (rect_of panel) ≡ false }
+    ensures pixels { HasPixels result.round }
+    ensures panel { rect_of result.round.panel ≡ rect_of panel }
+    ensures areas { result.areas ≡ rect_of panel ∷ [] }
+{
+    Damage::new(panel, Grid::of_pixels(panel))
+}
 
 /// The corners of an area.
 pub(crate) fn corners(area: &Area) -> [i32; 4] {
@@ -9,7 +26,7 @@ pub(crate) fn corners(area: &Area) -> [i32; 4] {
 }
 
 /// Whether a list has these areas, in this order.
-fn check_listed(rt: &impl Abort, damage: &Damage, want: &[[i32; 4]]) {
+pub(crate) fn check_listed<R: Round>(rt: &impl Abort, damage: &Damage<R>, want: &[[i32; 4]]) {
     assert_eq!(rt; damage.areas().len(), want.len());
     for (area, corners_wanted) in damage.areas().iter().zip(want) {
         assert_eq!(rt; corners(area), *corners_wanted);
@@ -18,7 +35,7 @@ fn check_listed(rt: &impl Abort, damage: &Damage, want: &[[i32; 4]]) {
 
 #[test]
 fn areas_are_cut_at_the_panels_edge(rt: HostRuntime) {
-    let mut damage = Damage::new(Area::at(0, 0, 8, 4));
+    let mut damage = whole_panel(Area::at(0, 0, 8, 4));
     check_listed(&rt, &damage, &[[0, 0, 7, 3]]);
     assert!(rt; damage.take_slice(32).is_some());
     check_listed(&rt, &damage, &[]);
@@ -32,7 +49,7 @@ fn areas_are_cut_at_the_panels_edge(rt: HostRuntime) {
 
 #[test]
 fn thirty_three_areas_become_the_panel(rt: HostRuntime) {
-    let mut damage = Damage::new(Area::at(0, 0, 66, 1));
+    let mut damage = whole_panel(Area::at(0, 0, 66, 1));
     assert!(rt; damage.take_slice(66).is_some());
     for n in 0..32_u16 {
         damage.add(Area::at(2 * i32::from(n), 0, 1, 1));
@@ -48,7 +65,7 @@ fn thirty_three_areas_become_the_panel(rt: HostRuntime) {
 
 /// Whether areas of a panel of ten by ten pixels become these when they are joined.
 fn check_joined(rt: &impl Abort, areas: &[Area], want: &[[i32; 4]]) {
-    let mut damage = Damage::new(Area::at(0, 0, 10, 10));
+    let mut damage = whole_panel(Area::at(0, 0, 10, 10));
     assert!(rt; damage.take_slice(100).is_some());
     for area in areas {
         damage.add(*area);
@@ -81,13 +98,14 @@ fn areas_are_joined_where_that_saves_pixels(rt: HostRuntime) {
     check_joined(&rt, &chain, &[[0, 0, 6, 2]]);
 }
 
-fn check_slice(rt: &impl Abort, slice: Option<Area>, want: [i32; 4]) {
+/// Whether this slice was taken.
+pub(crate) fn check_slice(rt: &impl Abort, slice: Option<Area>, want: [i32; 4]) {
     assert_eq!(rt; slice.as_ref().map(corners), Some(want));
 }
 
 #[test]
 fn slices_have_whole_lines(rt: HostRuntime) {
-    let mut damage = Damage::new(Area::at(0, 0, 5, 7));
+    let mut damage = whole_panel(Area::at(0, 0, 5, 7));
     check_slice(&rt, damage.take_slice(14), [0, 0, 4, 1]);
     check_listed(&rt, &damage, &[[0, 2, 4, 6]]);
     check_slice(&rt, damage.take_slice(19), [0, 2, 4, 4]);

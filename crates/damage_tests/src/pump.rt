@@ -1,10 +1,13 @@
 //! Pumps, changes and refreshes in turn, over a panel whose transfers take long and sometimes fail.
 ghost use Rattle.std.specs.Prelude.{◌≡◌, ◌<◌, None, IfOk};
+ghost use Rattle.gui_base.specs.Gridded.{HasPixels};
+ghost use Rattle.gui_damage.specs.Gridded.{listed_in};
 ghost use Rattle.gui_refresh.specs.Stages.{CanRefresh, stage};
 
 use crate::checking::Checking;
+use crate::list::whole_panel;
 use crate::lit::Lit;
-use gui_base::{Area, Limits, Steps};
+use gui_base::{Area, Grid, Limits, Steps};
 use gui_damage::Damage;
 use gui_edge::{MemSink, Panel, SimPanel, SimPlan};
 use gui_refresh::{Pumped, Refreshed, Refresher};
@@ -39,13 +42,15 @@ fn turn<P: Panel, L: Ledger>(
     n: u32,
     refresher: &mut Refresher,
     picture: &Lit,
-    damage: &mut Damage,
+    damage: &mut Damage<Grid>,
     panel: &mut P,
     steps: &mut Steps<L>,
 ) -> Pumped
-    requires { CanRefresh (stage refresher.old (P.state panel.old) damage.old) }
-    ensures can { CanRefresh (stage refresher.new (P.state panel.new) damage.new) }
+    requires can { CanRefresh (stage refresher.old (P.state panel.old) (listed_in damage.old)) }
+    requires pixels { HasPixels damage.old.round }
+    ensures can { CanRefresh (stage refresher.new (P.state panel.new) (listed_in damage.new)) }
     ensures sizes { refresher.new.sizes ≡ refresher.old.sizes }
+    ensures round { damage.new.round ≡ damage.old.round }
 {
     if n % 40 != 39 {
         return refresher.pump(picture, damage, panel, steps);
@@ -92,12 +97,13 @@ fn spot(n: u32) -> Area {
 fn take_turns<L: Ledger>(
     rt: &impl Abort,
     refresher: &mut Refresher,
-    damage: &mut Damage,
+    damage: &mut Damage<Grid>,
     panel: &mut Checking<SimPanel<MemSink>>,
     steps: &mut Steps<L>,
 )
     requires can { CanRefresh (stage refresher.old
-        (⟦<Checking<SimPanel<MemSink>> as Panel>⟧.state panel.old) damage.old) }
+        (⟦<Checking<SimPanel<MemSink>> as Panel>⟧.state panel.old) (listed_in damage.old)) }
+    requires pixels { HasPixels damage.old.round }
     requires sizes { refresher.old.sizes ≡ record { width = 6; height = 4; limit = 6 } }
 {
     let mut picture = Lit { part: spot(0) };
@@ -126,7 +132,7 @@ fn pump_in_turn<L: Ledger>(rt: &impl Abort, alloc: Global, blank: Blank) -> Resu
     let (book, all) = blank.open::<L>();
     let mut steps = Steps::new(book, all);
     let mut refresher = Refresher::open(alloc, &Limits::with_sizes(6, 4, 1))?;
-    let mut damage = Damage::new(Area::at(0, 0, 6, 4));
+    let mut damage = whole_panel(Area::at(0, 0, 6, 4));
     let mut panel = slow_panel(alloc)?;
     take_turns(rt, &mut refresher, &mut damage, &mut panel, &mut steps);
     assert_eq!(rt; panel.broken, 0);

@@ -2,10 +2,10 @@
 ghost use Rattle.std.specs.Prelude.{◌≡◌, ◌<◌, IfOk, None};
 ghost use Rattle.gui_edge.specs.Panel.{CanOpen};
 
-use crate::list::corners;
+use crate::list::{corners, whole_panel};
 use crate::listing::Listing;
 use crate::lit::Lit;
-use gui_base::{Area, Limits, Rgb565, Steps};
+use gui_base::{Area, Grid, Limits, Rgb565, Steps};
 use gui_damage::Damage;
 use gui_edge::{MemSink, Panel, SimPanel, SimPlan};
 use gui_refresh::{Refreshed, Refresher};
@@ -68,7 +68,7 @@ fn refresh_twice<L: Ledger>(
     let mut refresher = Refresher::open(alloc, &Limits::with_sizes(4, 3, 1))?;
     let whole = Area::at(0, 0, 4, 3);
     let white = Lit { part: whole };
-    let mut damage = Damage::new(whole);
+    let mut damage = whole_panel(whole);
     let mut panel = open_panel(alloc, 4, 3, 4, fails)?;
     let first = refresher.refresh(&white, &mut damage, &mut panel, &mut steps);
     assert_eq!(rt; first, Refreshed::Fault);
@@ -105,7 +105,7 @@ fn refresh_changes<L: Ledger>(rt: &impl Abort, alloc: Global, blank: Blank) -> R
     let mut refresher = Refresher::open(alloc, &Limits::with_sizes(6, 4, 2))?;
     let whole = Area::at(0, 0, 6, 4);
     let white = Lit { part: whole };
-    let mut damage = Damage::new(whole);
+    let mut damage = whole_panel(whole);
     let mut panel = open_panel(alloc, 6, 4, 12, 0)?;
     let first = refresher.refresh(&white, &mut damage, &mut panel, &mut steps);
     assert_eq!(rt; first, Refreshed::Done);
@@ -133,8 +133,8 @@ fn only_what_is_pending_is_sent(rt: HostRuntime) -> Result<(), Fail> {
 }
 
 /// Adds 31 areas of a pixel that stay apart.
-fn add_dots(damage: &mut Damage)
-    ensures { damage.new.panel ≡ damage.old.panel }
+fn add_dots(damage: &mut Damage<Grid>)
+    ensures { damage.new.round ≡ damage.old.round }
 {
     for n in 0..31_u16 {
         damage.add(Area::at(2 * i32::from(n), 2, 1, 1));
@@ -153,7 +153,7 @@ fn refresh_full_list<L: Ledger>(rt: &impl Abort, alloc: Global, blank: Blank) ->
     let mut refresher = Refresher::open(alloc, &Limits::with_sizes(66, 3, 1))?;
     let whole = Area::at(0, 0, 66, 3);
     let white = Lit { part: whole };
-    let mut damage = Damage::new(whole);
+    let mut damage = whole_panel(whole);
     let mut panel = open_panel(alloc, 66, 3, 66, 1)?;
     assert!(rt; damage.take_slice(198).is_some());
     damage.add(Area::at(0, 0, 66, 2));

@@ -79,7 +79,7 @@ around_Covers a b e h =
 pub around_corners : (a b : Rect) → has_corners a b ≡ true → Around a b
 around_corners a b h = record { left = grind (arith, ints); right = grind (arith, ints); top = grind (arith, ints); bottom = grind (arith, ints) }
 
-corners_around : (a b : Rect) → Around a b → has_corners a b ≡ true
+pub corners_around : (a b : Rect) → Around a b → has_corners a b ≡ true
 corners_around a b s =
     let l : a.x1 ≤ℤ b.x1 = s.left in let r : b.x2 ≤ℤ a.x2 = s.right in let t : a.y1 ≤ℤ b.y1 = s.top in let m : b.y2 ≤ℤ a.y2 = s.bottom in
     grind (arith, ints)

@@ -5,11 +5,16 @@ pub mod Coats
 pub mod Color
 pub mod Corners
 pub mod Forest
+pub mod Gridded
+pub mod Grids
 pub mod Intervals
 pub mod Limits
+pub mod Lined
+pub mod Lines
 pub mod Names
 pub mod Pools
 pub mod Ppm
 pub mod Props
 pub mod Refusing
+pub mod Rounding
 pub mod Words

@@ -6,11 +6,13 @@ pub mod bits;
 pub mod color;
 pub mod events;
 pub mod intervals;
+pub mod laws;
 pub mod limits;
 pub mod names;
 pub mod pools;
 pub mod props;
 pub mod refusal;
+pub mod rounding;
 pub mod steps;
 pub mod words;
 
@@ -23,6 +25,7 @@ pub use names::named;
 pub use pools::POOLS;
 pub use props::Prop;
 pub use refusal::Refusal;
+pub use rounding::{Block, FullLines, Grid, Round};
 pub use steps::Steps;
 pub use words::{
     Align, Flag, Flow, Format, Kind, Length, Part, Placing, Selector, State, TextAlign,

@@ -1,14 +1,14 @@
 -- Whether an object lies below another, or below a user of a style: whether the walk up from it meets one.
-use Rattle.std.proofs.Common.{◌≡◌, ◌∙◌, sym, ap, subst, refl, ℕ, ◌+◌, ◌<◌, ◌≤◌, Bool, true, false, eqb, ◌||◌, List, [], ◌∷◌, map, length, Option, Some, None, is_some, option_map, arith, inl, inr}
+use Rattle.std.proofs.Common.{◌≡◌, ◌∙◌, sym, ap, refl, ℕ, ◌<◌, Bool, true, false, eqb, ◌||◌, List, [], ◌∷◌, map, length, Option, Some, None, is_some, option_map, arith}
 use Rattle.std.specs.List.{list_any}
-use Rattle.std.proofs.lemmas.Bool.{cases_Bool, false≢true}
-use Rattle.std.proofs.lemmas.Bool.Decides.{nat_tests}
-use Rattle.gui_base.specs.Forest.{Forest, Empty, Tree, children_of, has, parent_by, parent_of, path_by, path_of, with_row_by, StandsOnce}
+use Rattle.std.proofs.lemmas.Bool.{false≢true}
+use Rattle.gui_base.specs.Forest.{Forest, parent_of, path_of, with_row_by, StandsOnce}
 use Rattle.gui_base.specs.declared.Handle.{Handle}
 use Rattle.gui_base.specs.declared.refusal.Refusal.{Refusal}
 use Rattle.gui_base.proofs.Forests.{map-path_by, map-with_row_by}
 use Rattle.gui_tree.specs.Handles.{as_handle}
-use Rattle.gui_store.proofs.Paths.{rest_at, IsThere, GoesUp, goes_up}
+use Rattle.gui_tree.specs.Walks.{line_of, line_from}
+use Rattle.gui_tree.proofs.Paths.{line_step, any_line}
 use Rattle.scene_defs.specs.declared.Change.{Change}
 use Rattle.scene_defs.specs.declared.Change.TheVariants as change
 use Rattle.scene_defs.specs.Assets.{AssetChange}
@@ -26,54 +26,24 @@ use Rattle.gui_change.specs.Concerned.{is_below, is_below_user}
 
 -- whether the walk up meets what passes a test from here on
 abbrev pub meets_from : Forest ℕ → (ℕ → Bool) → Option Handle → Bool
-meets_from f test None = false
-meets_from f test (Some k) = test k.0 || list_any test (path_of f k.0)
+meets_from f test o = list_any test (line_from o f)
 
 -- how many steps are left
 abbrev pub steps_from : Forest ℕ → Option Handle → ℕ
-steps_from f None = 0
-steps_from f (Some k) = length (path_of f k.0) + 1
-
--- What is not there has no path and no parent.
-path-gone : (f : Forest ℕ) (k : ℕ) (above : List ℕ) → has f k ≡ false → path_by (λ j. eqb j k) above f ≡ []
-path-gone Empty k above off = refl
-path-gone (Tree j cs rest) k above off = grind (arith, nat_tests, path-gone rest k above)
-
-pub parent-gone : (f : Forest ℕ) (k : ℕ) (above : Option ℕ) → has f k ≡ false → parent_by (λ j. eqb j k) above f ≡ None
-parent-gone Empty k above off = refl
-parent-gone (Tree j cs rest) k above off = grind (arith, nat_tests, parent-gone rest k above)
-
-pub kids-gone : (f : Forest ℕ) (k : ℕ) → has f k ≡ false → children_of f k ≡ Empty
-kids-gone Empty k off = refl
-kids-gone (Tree j cs rest) k off = grind (arith, nat_tests, kids-gone rest k)
+steps_from f o = length (line_from o f)
 
 -- one step up from k
 pub record Climbs (f : Forest ℕ) (test : ℕ → Bool) (k : Handle) (next : Option Handle) : Type 0 where
   pub met : test k.0 ≡ false → meets_from f test (Some k) ≡ meets_from f test next
   pub fewer : steps_from f next < steps_from f (Some k)
 
-rest-met : (f : Forest ℕ) (test : ℕ → Bool) (next : Option Handle) → StandsOnce f → IsThere f next → list_any test (rest_at f next) ≡ meets_from f test next
-rest-met f test None once there = refl
-rest-met f test (Some k) once there =
-    let u = goes_up f k.0 once there in
-    elim (cases_Bool (test k.0)) [
-      | inl is ↦ rw (u.path, is) refl
-      | inr isnt ↦ rw (u.path, isnt) refl
-    ]
-
-rest-steps : (f : Forest ℕ) (next : Option Handle) → steps_from f next ≤ length (rest_at f next) + 1
-rest-steps f None = omega arith
-rest-steps f (Some k) = omega arith
-
 pub climbs : (f : Forest ℕ) (test : ℕ → Bool) (k : Handle) (next : Option Handle) → StandsOnce f → next ≡ option_map as_handle (parent_of f k.0) → Climbs f test k next
-climbs f test k next once up = elim (cases_Bool (has f k.0)) [
-  | inl there ↦
-      let u = subst (GoesUp f k.0) (sym up) (goes_up f k.0 once there) in
-      record { met = λ off. rw (off, u.path) (rw off (rest-met f test next once u.there)); fewer = omega (arith, ap (λ (hs : List ℕ). length hs) u.path, rest-steps f next) }
-  | inr gone ↦
-      let none : next ≡ None = up ∙ ap (option_map as_handle) (parent-gone f k.0 None gone) in
-      record { met = λ off. rw (none, off, path-gone f k.0 [] gone) refl; fewer = rw none (omega arith) }
-]
+climbs f test k next once up =
+    let line : line_of f k.0 ≡ k.0 ∷ line_from next f = line_step f k.0 once ∙ ap (λ (o : Option Handle). k.0 ∷ line_from o f) (sym up) in
+    record {
+      met = λ off. ap (list_any test) line ∙ ap (λ (b : Bool). b || list_any test (line_from next f)) off;
+      fewer = omega (arith, ap (λ (hs : List ℕ). length hs) line);
+    }
 
 -- A path as handles.
 any-handle : (test : ℕ → Bool) (objects : List Object) → list_any (λ (object : Object). test object.handle) objects ≡ list_any test (map handle_of objects)
@@ -86,13 +56,19 @@ any-above scene test k = any-handle test (path_at scene k) ∙ ap (list_any test
 lies-among : (scene : Scene) (h k : ℕ) → lies_in scene h k ≡ is_among (path_of (handles_of scene.trees) k) h
 lies-among scene h k = any-above scene (λ j. eqb j h) k
 
--- it lies below what the walk meets
-pub below_met : (scene : Scene) (h : ℕ) (k : Handle) → meets_from (handles_of scene.trees) (λ j. eqb j h) (Some k) ≡ is_below scene h k.0
-below_met scene h k = ap (λ (b : Bool). eqb k.0 h || b) (sym (lies-among scene h k.0))
+-- it lies below what is on its path
+pub below_path : (scene : Scene) (h k : ℕ) → (eqb k h || list_any (λ j. eqb j h) (path_of (handles_of scene.trees) k)) ≡ is_below scene h k
+below_path scene h k = ap (λ (b : Bool). eqb k h || b) (sym (lies-among scene h k))
 
--- it lies below a user that the walk meets
-pub user_met : (scene : Scene) (number : ℕ) (k : Handle) → meets_from (handles_of scene.trees) (λ j. uses_style scene.book j number) (Some k) ≡ is_below_user scene number k.0
-user_met scene number k = ap (λ (b : Bool). uses_style scene.book k.0 number || b) (sym (any-above scene (λ j. uses_style scene.book j number) k.0))
+pub user_path : (scene : Scene) (number k : ℕ) → (uses_style scene.book k number || list_any (λ j. uses_style scene.book j number) (path_of (handles_of scene.trees) k)) ≡ is_below_user scene number k
+user_path scene number k = ap (λ (b : Bool). uses_style scene.book k number || b) (sym (any-above scene (λ j. uses_style scene.book j number) k))
+
+-- and what the walk up meets
+pub below_met : (scene : Scene) (h k : ℕ) → StandsOnce (handles_of scene.trees) → list_any (λ j. eqb j h) (line_of (handles_of scene.trees) k) ≡ is_below scene h k
+below_met scene h k once = sym (any_line (handles_of scene.trees) (λ j. eqb j h) k once) ∙ below_path scene h k
+
+pub user_met : (scene : Scene) (number k : ℕ) → StandsOnce (handles_of scene.trees) → list_any (λ j. uses_style scene.book j number) (line_of (handles_of scene.trees) k) ≡ is_below_user scene number k
+user_met scene number k once = sym (any_line (handles_of scene.trees) (λ j. uses_style scene.book j number) k once) ∙ user_path scene number k
 
 -- Changes that leave the trees leave what lies below an object.
 set-handles : (h : ℕ) (f : Object → Object) → ((object : Object) → (f object).handle ≡ object.handle) → (g : Forest Object) →

@@ -30,7 +30,7 @@ use Rattle.gui_change.specs.Concerned.{is_below}
 use Rattle.gui_change.specs.Edits.{WasEdited, beside, edit_of}
 use Rattle.gui_change.specs.declared.concerned.Concerned.{Concerned}
 use Rattle.gui_change.specs.declared.edits.Edit.TheVariants.{Gone, New, Reparented}
-use Rattle.gui_change.proofs.Below.{kids-gone}
+use Rattle.gui_tree.proofs.Paths.{children_gone}
 use Rattle.gui_change.proofs.Changes.{after_is}
 use Rattle.gui_change.proofs.Comings.{Deleted, Made, failed, made-gone, made-new}
 use Rattle.gui_change.proofs.Kids.{parent-child}
@@ -147,7 +147,7 @@ above-is (Some k) p e = let same : as_handle k ≡ p = cc in ap (λ (g : Handle)
 parent-in : (f : Forest ℕ) (h k : ℕ) → StandsOnce f → parent_of f h ≡ Some k → has f k ≡ true
 parent-in f h k once above = elim (cases_Bool (has f k)) [
   | inl there ↦ there
-  | inr gone ↦ absurd (false≢true (ap (is_root h) (sym (kids-gone f k gone)) ∙ parent-child f h k once above))
+  | inr gone ↦ absurd (false≢true (ap (is_root h) (sym (children_gone f k gone)) ∙ parent-child f h k once above))
 ]
 
 module _ (places : Places) (after : Scene) (made : Change) (concerned : Concerned) (removed : List ℕ) (h : Handle) (old : Option Handle) (new : Handle) (was : WasEdited places after (Reparented h old new) made concerned removed) where

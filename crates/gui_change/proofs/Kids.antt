@@ -7,9 +7,9 @@ use Rattle.gui_base.proofs.Forests.{map-children_by}
 use Rattle.scene_defs.specs.Scene.{Object, Scene, handle_of, handles_of, is_at}
 use Rattle.debt_defs.specs.Concerns.{children}
 use Rattle.gui_layout.specs.Marked.{is_root}
-use Rattle.gui_layout.proofs.Parts.{IsDistinct, distinct_once, has-part, part_children}
+use Rattle.gui_tree.proofs.Parts.{IsDistinct, distinct_once, has-part, part_children}
 use Rattle.gui_layout.proofs.Settling.{parent-root, root-has}
-use Rattle.gui_change.proofs.Below.{kids-gone}
+use Rattle.gui_tree.proofs.Paths.{children_gone}
 
 kid-has : (j k : ℕ) (f : Forest ℕ) → is_root j (children_of f k) ≡ true → has f j ≡ true
 kid-has j k f kid = has-part (part_children f k) j (root-has j (children_of f k) kid)
@@ -18,7 +18,7 @@ kid-has j k f kid = has-part (part_children f k) j (root-has j (children_of f k)
 with-kids : (j k : ℕ) (f : Forest ℕ) → is_root j (children_of f k) ≡ true → has f k ≡ true
 with-kids j k f kid = elim (cases_Bool (has f k)) [
   | inl there ↦ there
-  | inr gone ↦ absurd (false≢true (ap (is_root j) (sym (kids-gone f k gone)) ∙ kid))
+  | inr gone ↦ absurd (false≢true (ap (is_root j) (sym (children_gone f k gone)) ∙ kid))
 ]
 
 other-top : (t j : ℕ) (f : Forest ℕ) → has f t ≡ false → has f j ≡ true → eqb t j ≡ false

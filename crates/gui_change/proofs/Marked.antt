@@ -10,11 +10,11 @@ use Rattle.scene_defs.specs.Scene.{Scene, handles_of, is_there}
 use Rattle.scene_defs.specs.Valid.{IsValid}
 use Rattle.gui_layout.specs.Marks.{most_marks}
 use Rattle.gui_layout.specs.declared.marks.Marks.{Marks}
-use Rattle.gui_layout.proofs.Parts.{IsDistinct, distinct_once, other_than}
+use Rattle.gui_tree.proofs.Parts.{IsDistinct, distinct_once, other_than}
 use Rattle.gui_layout.proofs.Settling.{tree-in, tree-there}
 use Rattle.gui_change.specs.Concerned.{is_below, is_below_user}
 use Rattle.gui_change.specs.Marking.{AlsoMarks, AreMarked}
-use Rattle.gui_change.proofs.Below.{below_met, user_met}
+use Rattle.gui_change.proofs.Below.{below_path, user_path}
 use Rattle.gui_change.proofs.Marks.{flip-eqb, there-still}
 
 -- What is marked still lies in these trees after one of theirs is marked.
@@ -175,7 +175,7 @@ module _ (scene : Scene) (valid : IsValid scene) (k : ℕ) where
   in-tree h =
       alone (has (tree_at trees h.0) k)
       ∙ (held (λ j. eqb j h.0) k trees (h ∷ []) (distinct_once trees valid.trees.once) (λ j. sym (alone (eqb h.0 j)) ∙ flip-eqb h.0 j)
-      ∙ ap (λ (b : Bool). is_there scene k && b) (below_met scene h.0 (as_handle k)))
+      ∙ ap (λ (b : Bool). is_there scene k && b) (below_path scene h.0 k))
     where
       alone : (b : Bool) → b ≡ (b || false)
       alone true = refl
@@ -185,4 +185,4 @@ module _ (scene : Scene) (valid : IsValid scene) (k : ℕ) where
   pub in-users : (us : List Handle) (style : ℕ) → ((h : ℕ) → list_any (is_handle h) us ≡ uses_style scene.book h style) → list_any (holds trees k) us ≡ (is_there scene k && is_below_user scene style k)
   in-users us style these =
       held (λ j. uses_style scene.book j style) k trees us (distinct_once trees valid.trees.once) these
-      ∙ ap (λ (b : Bool). is_there scene k && b) (user_met scene style (as_handle k))
+      ∙ ap (λ (b : Bool). is_there scene k && b) (user_path scene style k)

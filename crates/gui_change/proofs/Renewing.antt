@@ -7,8 +7,7 @@ use Rattle.std.proofs.lemmas.Bool.{cases_Bool, eqb-true, false≢true}
 use Rattle.std.proofs.lemmas.List.Sums.{fold-append}
 use Rattle.gui_base.specs.Area.{Rect}
 use Rattle.gui_base.specs.declared.Handle.{Handle}
-use Rattle.gui_damage.specs.Adding.{added, added_all}
-use Rattle.gui_damage.specs.Pending.{Pending}
+use Rattle.gui_damage.specs.Gridded.{GridList, added_all_in, added_in}
 use Rattle.gui_layout.specs.Listing.{times, value_count, HasThese}
 use Rattle.gui_layout.proofs.These.{value-set, within_of}
 use Rattle.gui_pool.specs.Table.{Table, value_at, value_inserted, value_removed}
@@ -93,10 +92,10 @@ value-still old now h rest some = by (value_at now h) refl where
   by (Some s) e = e ∙ sym (rest h s e)
 
 -- one more has owed
-pub one_gone : (owes : ℕ → List Rect) (h : Handle) (rest : List Handle) (now next start : Pending) → added_all now (flat_map owes (numbers (h ∷ rest))) ≡ start → next ≡ added_all now (owes h.0) →
-    added_all next (flat_map owes (numbers rest)) ≡ start
+pub one_gone : (owes : ℕ → List Rect) (h : Handle) (rest : List Handle) (now next start : GridList) → added_all_in now (flat_map owes (numbers (h ∷ rest))) ≡ start → next ≡ added_all_in now (owes h.0) →
+    added_all_in next (flat_map owes (numbers rest)) ≡ start
 one_gone owes h rest now next start left is =
-    ap (λ (p : Pending). added_all p (flat_map owes (numbers rest))) is ∙ (sym (fold-append added now (owes h.0) (flat_map owes (numbers rest))) ∙ left)
+    ap (λ (p : GridList). added_all_in p (flat_map owes (numbers rest))) is ∙ (sym (fold-append added_in now (owes h.0) (flat_map owes (numbers rest))) ∙ left)
 
 -- of those that are left what is known is what is seen of them
 pub seen-left : (objects : ℕ) (t u : Table Seen) (hs : List Handle) (scene : Scene) → HasThese objects u hs → ((k : ℕ) (s : Seen) → value_at u k ≡ Some s → value_at t k ≡ Some s) → AreSeenOf t scene hs → AreSeen u scene

@@ -11,8 +11,7 @@ use Rattle.gui_base.specs.Area.{Rect}
 use Rattle.gui_base.specs.Forest.{count, has}
 use Rattle.gui_base.specs.declared.Handle.{Handle}
 use Rattle.gui_base.proofs.Visits.{count-has, count-off}
-use Rattle.gui_damage.specs.Adding.{added, added_all}
-use Rattle.gui_damage.specs.Pending.{Pending}
+use Rattle.gui_damage.specs.Gridded.{GridList, added_all_in, added_in}
 use Rattle.gui_layout.specs.Listing.{times}
 use Rattle.gui_layout.specs.Tables.{Listing, listing_of}
 use Rattle.gui_layout.proofs.These.{times_of, times-preorder}
@@ -57,13 +56,13 @@ pub nothing-known : (scene : Scene) (t : Table Seen) (h : ℕ) → is_some (valu
 nothing-known scene t h none s found = absurd (false≢true (sym none ∙ ap is_some found))
 
 -- one after another
-pub then-again : (named : Option ℕ) (scene : Scene) (a b c : Table Seen) (p q r : Pending) → SeesAgain named scene a b p q → SeesAgain None scene b c q r → SeesAgain named scene a c p r
+pub then-again : (named : Option ℕ) (scene : Scene) (a b c : Table Seen) (p q r : GridList) → SeesAgain named scene a b p q → SeesAgain None scene b c q r → SeesAgain named scene a c p r
 then-again named scene a b c p q r first next = record {
   listing = next.listing ∙ first.listing;
   seen = λ h is. next.seen h (first.seen h is);
   keeps = λ concerned known. next.keeps concerned (first.keeps concerned known);
   areas = first.areas ++ next.areas;
-  lists = next.lists ∙ (ap (λ (d : Pending). added_all d next.areas) first.lists ∙ sym (fold-append added p first.areas next.areas));
+  lists = next.lists ∙ (ap (λ (d : GridList). added_all_in d next.areas) first.lists ∙ sym (fold-append added_in p first.areas next.areas));
   owes =
       subst (λ (rs : List Rect). IsPermutation rs (owing named a scene)) (sym (append_assoc first.areas next.areas (owing None c scene)))
       (IsPermutation-trans (first.areas ++ (next.areas ++ owing None c scene)) (first.areas ++ owing None b scene) (owing named a scene)
@@ -86,7 +85,7 @@ module _ (scene : Scene) (named : Option ℕ) (t : Table Seen) (shown : KnowsSho
   unnamed : (k : ℕ) → eqb h k ≡ false → owed_again None t scene k ≡ owed_again named t scene k
   unnamed k other = ap (λ (b : Bool). owed b (sight_of (value_at t k)) (sight_in scene k)) (sym (others k other))
 
-  pub hidden-again : (damage : Pending) → is_some (value_at t h) ≡ false → SeesAgain named scene t t damage damage
+  pub hidden-again : (damage : GridList) → is_some (value_at t h) ≡ false → SeesAgain named scene t t damage damage
   hidden-again damage none =
       let off : times_of (order scene) h ≡ 0 = order-times scene h ∙ count-off (handles_of (shown_trees scene)) h (sym (shown-has scene t shown h) ∙ none) in
       record {
@@ -135,7 +134,7 @@ module _ (scene : Scene) (valid : IsValid scene) (named : Option ℕ) (old new :
     | inr none ↦ let zero : times hs k ≡ 0 = grind (arith, nat_tests, none) in omega (arith, zero)
   ]
 
-  pub listed-again : (before after : Pending) → after ≡ added_all before (flat_map (owed_again named old scene) (numbers hs)) → SeesAgain named scene old new before after
+  pub listed-again : (before after : GridList) → after ≡ added_all_in before (flat_map (owed_again named old scene) (numbers hs)) → SeesAgain named scene old new before after
   listed-again before after lists = record {
     listing = listing;
     seen = listed-seen;

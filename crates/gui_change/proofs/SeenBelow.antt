@@ -4,12 +4,12 @@ use Rattle.std.specs.List.{flat_map}
 use Rattle.std.specs.List.Sorted.{IsPermutation}
 use Rattle.std.proofs.lemmas.Bool.{both_ways, cases_Bool, eqb-true, false≢true, false_from_ne_true, or_cases, or_left}
 use Rattle.std.proofs.lemmas.List.{append-nil}
+use Rattle.gui_tree.proofs.Below.{own_tree}
 use Rattle.gui_base.specs.Area.{Rect}
 use Rattle.gui_base.specs.Forest.{Forest, StandsOnce, has, parent_of, tree_at}
 use Rattle.gui_base.specs.declared.Handle.{Handle}
-use Rattle.gui_damage.specs.Pending.{Pending}
+use Rattle.gui_damage.specs.Gridded.{GridList}
 use Rattle.gui_layout.specs.Listing.{HasThese}
-use Rattle.gui_layout.proofs.Climbing.{in_own_tree}
 use Rattle.gui_layout.proofs.Settling.{tree-there}
 use Rattle.gui_layout.proofs.These.{has_value}
 use Rattle.gui_pool.specs.Table.{Table, value_at}
@@ -43,7 +43,7 @@ module _ (scene : Scene) (valid : IsValid scene) (h : ℕ) where
   -- what is below an object that is there stands in its tree
   pub below-tree : is_there scene h ≡ true → (k : ℕ) → is_below scene h k ≡ true → has (tree_at (handles_of scene.trees) h) k ≡ true
   below-tree there k below = elim (or_cases (eqb k h) (lies_in scene h k) below) [
-    | inl is ↦ subst (λ (j : ℕ). has (tree_at (handles_of scene.trees) h) j ≡ true) (sym (eqb-true k h is)) (in_own_tree (handles_of scene.trees) h valid.trees.once there)
+    | inl is ↦ subst (λ (j : ℕ). has (tree_at (handles_of scene.trees) h) j ≡ true) (sym (eqb-true k h is)) (own_tree (handles_of scene.trees) h there)
     | inr lies ↦ lies-tree k lies
   ]
 
@@ -70,7 +70,7 @@ module _ (scene : Scene) (number : ℕ) (once : StandsOnce (handles_of scene.tre
   -- the walk up from the parent tells whether another user stands above
   other-met : (o : Option ℕ) → meets_from trees user (option_map as_handle o) ≡ is_below_one scene number o
   other-met None = refl
-  other-met (Some p) = user_met scene number (as_handle p)
+  other-met (Some p) = user_met scene number p once
 
   -- P holds below each user that stands below no other
   abbrev Tops : Type 0 → ℕ → Type 0
@@ -83,7 +83,7 @@ module _ (scene : Scene) (number : ℕ) (once : StandsOnce (handles_of scene.tre
   from-above k tops above (Some p) is met =
       above p (climbs trees user k (Some p) once is).fewer (λ u uses none below. tops u uses none (elim (cases_Bool (eqb k.0 u)) [
         | inl same ↦ or_left _ _ same
-        | inr differs ↦ sym (below_met scene u k) ∙ ((climbs trees (λ j. eqb j u) k (Some p) once is).met differs ∙ (below_met scene u p ∙ below))
+        | inr differs ↦ sym (below_met scene u k.0 once) ∙ ((climbs trees (λ j. eqb j u) k (Some p) once is).met differs ∙ (below_met scene u p.0 once ∙ below))
       ])) met
 
   top-from : {P : Type 0} (most : ℕ) (k : Handle) → steps_from trees (Some k) ≤ most → Tops P k.0 → meets_from trees user (Some k) ≡ true → P
@@ -99,7 +99,7 @@ module _ (scene : Scene) (number : ℕ) (once : StandsOnce (handles_of scene.tre
       ]
 
   pub user-below : {P : Type 0} (k : ℕ) → ((u : ℕ) → uses_style scene.book u number ≡ true → is_below_other scene number u ≡ false → is_below scene u k ≡ true → P) → is_below_user scene number k ≡ true → P
-  user-below k tops below = top-from (steps_from trees (Some (as_handle k))) (as_handle k) (omega arith) tops (user_met scene number (as_handle k) ∙ below)
+  user-below k tops below = top-from (steps_from trees (Some (as_handle k))) (as_handle k) (omega arith) tops (user_met scene number k once ∙ below)
 
 -- where those are seen that a change may concern, all may keep their items
 pub all-kept : (scene : Scene) (t : Table Seen) (concerned : Concerned) → KeepOthers t concerned scene → ((k : ℕ) → may_be scene concerned k ≡ true → IsSeenIn t scene k) → KeepOthers t Nobody scene
@@ -115,7 +115,7 @@ knows-shown objects t hs scene listed these h =
     ∙ (has-handles (shown_trees scene) h ∙ sym (among-handles (shown_trees scene) h))
 
 -- where all are seen, all is owed that the change owes
-pub owes-all : (named : Option ℕ) (scene : Scene) (old new : Table Seen) (before after : Pending) → KnowsShown old scene → SeesAgain named scene old new before after → AreSeen new scene →
+pub owes-all : (named : Option ℕ) (scene : Scene) (old new : Table Seen) (before after : GridList) → KnowsShown old scene → SeesAgain named scene old new before after → AreSeen new scene →
     OwesAll before after (flat_map (owed_again named old scene) (order scene))
 owes-all named scene old new before after shown sees seen =
     let none : owing None new scene ≡ [] = all-owed scene new seen (shown-still scene old new sees.listing shown) in

@@ -1,6 +1,7 @@
 -- A change that leaves the trees: what it does not concern is seen as it was, where its tree was not solved.
 use Rattle.std.proofs.Common.{◌≡◌, ◌∙◌, refl, sym, ap, ℕ, ◌<◌, true, false, List, [], ◌∷◌, Option, Some, None, option_map, arith}
 use Rattle.std.proofs.lemmas.Bool.{both_ways, false_from_ne_true, or_from, or_parts}
+use Rattle.gui_tree.proofs.Below.{own_tree}
 use Rattle.gui_base.specs.Forest.{Forest, StandsOnce, has, parent_of, tree_at}
 use Rattle.gui_base.specs.declared.Handle.{Handle}
 use Rattle.gui_base.specs.declared.refusal.Refusal.{Refusal}
@@ -23,8 +24,8 @@ use Rattle.gui_layout.specs.Scenes.{scene_box}
 use Rattle.gui_layout.specs.Solved.{AreSettled, place_at}
 use Rattle.gui_layout.specs.Tops.{in_trees_at}
 use Rattle.gui_layout.specs.declared.places.Places.{Places}
-use Rattle.gui_layout.proofs.Climbing.{in_own_tree, is_above}
-use Rattle.gui_layout.proofs.Parts.{distinct_once}
+use Rattle.gui_layout.proofs.Climbing.{is_above}
+use Rattle.gui_tree.proofs.Parts.{distinct_once}
 use Rattle.gui_change.specs.Concerned.{may_be}
 use Rattle.gui_change.specs.Edits.{WasKept, WasSeenEdited, beside, edit_of}
 use Rattle.gui_change.specs.Marking.{ScrollsSame}
@@ -74,7 +75,7 @@ above-out : (f : Forest ℕ) (us : List Handle) (k : ℕ) (p : Handle) → Stand
 above-out f [] k p once there up out = refl
 above-out f (u ∷ us) k p once there up out =
     let parts : (has (tree_at f u.0) k ≡ false) × (in_trees_at f us k ≡ false) = or_parts _ _ out in
-    let inside : has (tree_at f p.0) k ≡ true = (is_above f k p once there up).encloses k (in_own_tree f k once there) in
+    let inside : has (tree_at f p.0) k ≡ true = (is_above f k p once there up).encloses k (own_tree f k there) in
     or_from (has (tree_at f u.0) p.0) (in_trees_at f us p.0)
     (false_from_ne_true (has (tree_at f u.0) p.0) (λ i. both_ways (has (tree_at f u.0) k) parts.0 (tree-trans u.0 p.0 k f (distinct_once f once) i inside)))
     (above-out f us k p once there up parts.1)

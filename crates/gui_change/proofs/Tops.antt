@@ -1,11 +1,12 @@
 -- Whether an object is shown, by the root above it.
 use Rattle.std.proofs.Common.{◌≡◌, ◌∙◌, sym, ap, subst, refl, ℕ, Bool, true, false, eqb, ◌||◌, List, [], ◌∷◌, map, Option, Some, None, option_map, inl, inr}
 use Rattle.std.proofs.lemmas.Bool.{cases_Bool, eqb-true, false_from_ne_true, both_ways}
+use Rattle.gui_tree.proofs.Below.{own_tree}
 use Rattle.gui_base.specs.Forest.{Forest, has, parent_of, path_of, tree_at}
 use Rattle.gui_base.specs.declared.Handle.{Handle}
 use Rattle.gui_base.proofs.Forests.{map-path_by}
-use Rattle.gui_layout.proofs.Climbing.{in_own_tree, is_above}
-use Rattle.gui_store.proofs.Paths.{goes_up, rest_at}
+use Rattle.gui_layout.proofs.Climbing.{is_above}
+use Rattle.gui_tree.proofs.Paths.{goes_up, parent_gone, path_from}
 use Rattle.gui_tree.specs.Handles.{as_handle}
 use Rattle.debt_defs.proofs.Inside.{among-handles}
 use Rattle.scene_defs.specs.Scene.{Object, Scene, handle_of, handles_of, path_at}
@@ -13,7 +14,6 @@ use Rattle.scene_defs.specs.Valid.{IsValid, is_root_at}
 use Rattle.scene_defs.specs.Visible.{shown_trees}
 use Rattle.scene_defs.proofs.Handles.{has-handles}
 use Rattle.gui_change.specs.Gone.{is_shown}
-use Rattle.gui_change.proofs.Below.{parent-gone}
 use Rattle.gui_change.proofs.Orders.{root_there, shown_there}
 use Rattle.gui_change.proofs.Rooted.{ends_at, shown-by}
 use Rattle.gui_change.proofs.ShownTrees.{shown-above, shown-below}
@@ -40,12 +40,12 @@ module _ (scene : Scene) (valid : IsValid scene) where
   shown-up k p up = elim (cases_Bool (has f k)) [
     | inl there ↦
         let above = is_above f k p valid.trees.once there up in
-        let inside : has (tree_at f p.0) k ≡ true = above.encloses k (in_own_tree f k valid.trees.once there) in
+        let inside : has (tree_at f p.0) k ≡ true = above.encloses k (own_tree f k there) in
         among-shown scene p.0
         ∙ (same-of (has (handles_of (shown_trees scene)) p.0) (has (handles_of (shown_trees scene)) k) (λ s. shown-below scene valid p.0 k s inside) (λ s. shown-above scene valid p.0 k s inside)
         ∙ sym (among-shown scene k))
     | inr gone ↦
-        let none : Some p ≡ None = up ∙ ap (option_map as_handle) (parent-gone f k None gone) in cc
+        let none : Some p ≡ None = up ∙ ap (option_map as_handle) (parent_gone f k None gone) in cc
   ]
 
   abbrev roots : ℕ → Bool
@@ -58,7 +58,7 @@ module _ (scene : Scene) (valid : IsValid scene) where
   pub top-shown : (k : ℕ) → None ≡ option_map as_handle (parent_of f k) → is_shown scene k ≡ roots k
   top-shown k none = among-shown scene k ∙ elim (cases_Bool (has f k)) [
     | inl there ↦
-        let path : path_of f k ≡ k ∷ [] = (goes_up f k valid.trees.once there).path ∙ ap (λ (o : Option Handle). k ∷ rest_at f o) (sym none) in
+        let path : path_of f k ≡ k ∷ [] = (goes_up f k valid.trees.once there).path ∙ ap (λ (o : Option Handle). k ∷ path_from o f) (sym none) in
         let one : map handle_of (path_at scene k) ≡ k ∷ [] = map-path_by handle_of (λ j. eqb j k) [] scene.trees ∙ path in
         shown-by scene valid k
         ∙ rw (ends-one scene.active k (path_at scene k) one, ends-one 1 k (path_at scene k) one, ends-one 2 k (path_at scene k) one) refl

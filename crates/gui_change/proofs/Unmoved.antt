@@ -39,7 +39,7 @@ use Rattle.gui_layout.specs.Views.{no_box}
 use Rattle.gui_layout.specs.declared.entry.Entry.{Entry}
 use Rattle.gui_layout.specs.declared.places.Places.{Places}
 use Rattle.gui_layout.proofs.Before.{settled_but_marks}
-use Rattle.gui_layout.proofs.Parts.{distinct_once as handles-distinct}
+use Rattle.gui_tree.proofs.Parts.{distinct_once as handles-distinct}
 use Rattle.gui_layout.proofs.SceneBoxes.{none_found, row_found}
 use Rattle.gui_change.specs.Concerned.{may_be}
 use Rattle.gui_change.specs.Edits.{WasEdited, WasMade, edit_of, is_gone}
@@ -47,7 +47,8 @@ use Rattle.gui_change.specs.Moving.{moves_nobody}
 use Rattle.gui_change.specs.declared.concerned.Concerned.{Concerned}
 use Rattle.gui_change.specs.declared.edits.Edit.{Edit}
 use Rattle.gui_change.specs.declared.edits.Edit.TheVariants.{Beside}
-use Rattle.gui_change.proofs.Below.{after-handles, handles-stay, kids-gone, parent-gone}
+use Rattle.gui_tree.proofs.Paths.{children_gone, parent_gone}
+use Rattle.gui_change.proofs.Below.{after-handles, handles-stay}
 use Rattle.gui_change.proofs.BoxesStay.{boxes_stay}
 use Rattle.gui_change.proofs.Changes.{after_is}
 use Rattle.gui_change.proofs.Comings.{box-left, failed}
@@ -216,8 +217,8 @@ module _ (places : Places) (after : Scene) (made : Change) (concerned : Concerne
   gone-told m c k gone before = record {
     there = gone ∙ sym before;
     box = box-gone after k gone ∙ sym (box-gone was.before k before);
-    kids = same-kids (c k) m (children_of (handles_of after.trees) k) (children_of (handles_of was.before.trees) k) (ap (λ (t : Forest ℕ). roots t) (kids-gone (handles_of after.trees) k gone ∙ sym (kids-gone (handles_of was.before.trees) k before)));
-    root = λ root. parent-gone (handles_of was.before.trees) k None before;
+    kids = same-kids (c k) m (children_of (handles_of after.trees) k) (children_of (handles_of was.before.trees) k) (ap (λ (t : Forest ℕ). roots t) (children_gone (handles_of after.trees) k gone ∙ sym (children_gone (handles_of was.before.trees) k before)));
+    root = λ root. parent_gone (handles_of was.before.trees) k None before;
   }
 
   -- nothing moves where layout does not go by what is set

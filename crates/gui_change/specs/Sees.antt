@@ -7,8 +7,7 @@ use Rattle.std.specs.Global.{Vec}
 use Rattle.gui_base.specs.Area.{Rect}
 use Rattle.gui_base.specs.Forest.{parent_of}
 use Rattle.gui_base.specs.declared.Handle.{Handle}
-use Rattle.gui_damage.specs.Adding.{added_all}
-use Rattle.gui_damage.specs.Pending.{Pending}
+use Rattle.gui_damage.specs.Gridded.{GridList, added_all_in}
 use Rattle.gui_layout.specs.Tables.{listing_of}
 use Rattle.gui_pool.specs.Table.{Table, value_at}
 use Rattle.scene_defs.specs.Scene.{Scene, handles_of}
@@ -35,12 +34,12 @@ KnowsShown table scene = (h : ℕ) → is_some (value_at table h) ≡ is_among (
 
 -- Some objects are seen again. The areas that they owe are listed, in any order; what they owe by the new
 -- table is left.
-pub record SeesAgain (named : Option ℕ) (scene : Scene) (old new : Table Seen) (before after : Pending) : Type 0 where
+pub record SeesAgain (named : Option ℕ) (scene : Scene) (old new : Table Seen) (before after : GridList) : Type 0 where
   pub listing : listing_of new ≡ listing_of old
   pub seen : (h : ℕ) → IsSeenIn old scene h → IsSeenIn new scene h
   pub keeps : (concerned : Concerned) → KeepOthers old concerned scene → KeepOthers new concerned scene
   pub areas : List Rect
-  pub lists : after ≡ added_all before areas
+  pub lists : after ≡ added_all_in before areas
   pub owes : IsPermutation (areas ++ owing None new scene) (owing named old scene)
 
 -- whether an object stands below a user of a style

@@ -1,8 +1,6 @@
 //! What is painted of the trees that are shown, in paint order.
 ghost use Rattle.std.specs.Prelude.{◌≡◌, ◌≤◌, ◌+◌, ◌*◌, ◌++◌, [], true, IfOk, vec_len, vec_capacity};
-ghost use Rattle.std.specs.Option.{ForSome};
-ghost use Rattle.gui_base.specs.Forest.{StandsOnce, has, size, tree_at};
-ghost use Rattle.gui_layout.specs.Walks.{trees_from};
+ghost use Rattle.gui_base.specs.Forest.{has, size, tree_at};
 ghost use Rattle.gui_store.specs.Views.{scene_of};
 ghost use Rattle.scene_defs.specs.Shown.{entries, entries_in};
 ghost use Rattle.gui_change.specs.Entries.{IsEntryRoom, all_entries};
@@ -10,7 +8,7 @@ ghost use Rattle.gui_change.specs.Entries.{IsEntryRoom, all_entries};
 use crate::shown::{SYSTEM_LAYER, TOP_LAYER};
 use gui_base::{Handle, NoMemory};
 use gui_store::Store;
-use gui_tree::Tree;
+use gui_tree::{Children, Tree};
 use std::alloc::Global;
 
 /// What is painted of an object at one time: what it shows by itself, or its bars.
@@ -30,28 +28,24 @@ pub(crate) fn open_entries(alloc: Global, objects: u32) -> Result<Vec<Entry>, No
     Ok(listed)
 }
 
-/// Lists an object and those beside it after it: each by itself, what lies below it, and then its bars.
-fn list_trees(tree: &Tree, listed: &mut Vec<Entry>, first: Option<Handle>)
-    requires once { StandsOnce tree.now.forest }
-    requires there { ForSome first (λ h. has tree.now.forest h.0 ≡ true) }
-    requires room { vec_len listed.old + 2 * size (trees_from first tree.now.forest) ≤ vec_capacity listed.old }
+/// Lists the objects of these trees: each by itself, what lies below it, and then its bars.
+fn list_trees(tree: &Tree, listed: &mut Vec<Entry>, trees: Children<'_>)
+    requires same { trees.forest ≡ tree.now.forest }
+    requires room { vec_len listed.old + 2 * size trees.left ≤ vec_capacity listed.old }
     ensures listed { all_entries listed.new.items
-        ≡ all_entries listed.old.items ++ entries_in (trees_from first tree.now.forest) }
-    ensures len { vec_len listed.new ≡ vec_len listed.old + 2 * size (trees_from first tree.now.forest) }
+        ≡ all_entries listed.old.items ++ entries_in trees.entry.left }
+    ensures len { vec_len listed.new ≡ vec_len listed.old + 2 * size trees.entry.left }
     ensures capacity { vec_capacity listed.new ≡ vec_capacity listed.old }
 {
-    let mut next = first;
-    while let Some(h) = next {
+    for h in trees {
         listed.push_reserved(Entry { h, is_bars: false });
-        list_trees(tree, listed, tree.first_child(h));
+        list_trees(tree, listed, tree.children(h));
         listed.push_reserved(Entry { h, is_bars: true });
-        next = tree.next(h);
     }
 }
 
 /// Lists an object by itself, all below it, and its bars.
 fn list_tree(tree: &Tree, listed: &mut Vec<Entry>, h: Handle)
-    requires once { StandsOnce tree.now.forest }
     requires there { has tree.now.forest h.0 ≡ true }
     requires room { vec_len listed.old + 2 * size (tree_at tree.now.forest h.0) ≤ vec_capacity listed.old }
     ensures listed { all_entries listed.new.items
@@ -60,7 +54,7 @@ fn list_tree(tree: &Tree, listed: &mut Vec<Entry>, h: Handle)
     ensures capacity { vec_capacity listed.new ≡ vec_capacity listed.old }
 {
     listed.push_reserved(Entry { h, is_bars: false });
-    list_trees(tree, listed, tree.first_child(h));
+    list_trees(tree, listed, tree.children(h));
     listed.push_reserved(Entry { h, is_bars: true });
 }
 

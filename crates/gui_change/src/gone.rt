@@ -2,7 +2,7 @@
 ghost use Rattle.std.specs.Prelude.{◌≡◌, ◌==◌, ◌||◌, ℕ, Some, None, true, option_map};
 ghost use Rattle.std.specs.List.{flat_map};
 ghost use Rattle.gui_base.specs.Forest.{parent_of};
-ghost use Rattle.gui_damage.specs.Adding.{added_all};
+ghost use Rattle.gui_damage.specs.Gridded.{added_all_in};
 ghost use Rattle.gui_layout.specs.Listing.{HasThese};
 ghost use Rattle.gui_pool.specs.Table.{value_at};
 ghost use Rattle.gui_store.specs.Views.{scene_of};
@@ -19,7 +19,7 @@ use crate::debts::{is_named, owe};
 use crate::look::put;
 use crate::seen::Seen;
 use crate::shown::{SYSTEM_LAYER, TOP_LAYER};
-use gui_base::Handle;
+use gui_base::{Grid, Handle};
 use gui_damage::Damage;
 use gui_pool::Table;
 use gui_store::Store;
@@ -56,7 +56,7 @@ fn is_shown(store: &Store, h: Handle) -> bool
 /// these objects, and of no others.
 pub(crate) fn forget_hidden(
     table: &mut Table<Seen>,
-    damage: &mut Damage,
+    damage: &mut Damage<Grid>,
     named: Option<Handle>,
     store: &Store,
     listed: &[Handle],
@@ -65,7 +65,7 @@ pub(crate) fn forget_hidden(
     ensures these { HasThese (scene_of store.now).limits.objects table.new
         (shown_of (scene_of store.now) listed.now) }
     ensures rest { (h : ℕ) (s : Seen) → value_at table.new h ≡ Some s → value_at table.old h ≡ Some s }
-    ensures debt { damage.new ≡ added_all damage.old
+    ensures debt { damage.new ≡ added_all_in damage.old
         (flat_map (owed_gone (option_map number_of named) table.old)
         (numbers (gone_of (scene_of store.now) listed.now))) }
 {

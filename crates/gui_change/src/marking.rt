@@ -1,9 +1,8 @@
 //! Which objects a change marks: those that may stand elsewhere after it.
 ghost use Rattle.std.specs.Prelude.{◌≤◌, ◌<◌, ◌+◌, length, List, Some, ◌≡◌, ◌==◌, ◌&&◌, ℕ, true, false, eqb};
 ghost use Rattle.std.specs.Option.{ForSome};
-ghost use Rattle.gui_base.specs.Forest.{StandsOnce, has, tree_at};
+ghost use Rattle.gui_base.specs.Forest.{has, tree_at};
 ghost use Rattle.gui_layout.specs.Marks.{is_changed, is_marked, mark_count, most_marks};
-ghost use Rattle.gui_layout.specs.Walks.{trees_from};
 ghost use Rattle.gui_store.specs.Views.{removed_of, scene_of};
 ghost use Rattle.gui_style.specs.Styles.{uses_style};
 ghost use Rattle.gui_tree.specs.Handles.{numbers};
@@ -19,7 +18,7 @@ use crate::moving::moves_nobody;
 use gui_base::Handle;
 use gui_layout::Marks;
 use gui_store::Store;
-use gui_tree::Tree;
+use gui_tree::{Children, Tree};
 use scene_defs::Change;
 
 /// Marks an object, if it is there.
@@ -35,26 +34,22 @@ fn mark_there(marks: &mut Marks, tree: &Tree, h: Handle)
     marks.mark(h);
 }
 
-/// Marks an object, those beside it after it, and all below these.
-fn mark_trees(marks: &mut Marks, tree: &Tree, first: Option<Handle>)
-    requires once { StandsOnce tree.now.forest }
-    requires there { ForSome first (λ h. has tree.now.forest h.0 ≡ true) }
+/// Marks the objects of these trees.
+fn mark_trees(marks: &mut Marks, tree: &Tree, trees: Children<'_>)
+    requires same { trees.forest ≡ tree.now.forest }
     requires room { AreMarked marks.old tree.now.forest }
-    ensures marks { AlsoMarks marks.old marks.new (λ k. has (trees_from first tree.now.forest) k) }
+    ensures marks { AlsoMarks marks.old marks.new (λ k. has trees.entry.left k) }
     ensures room { AreMarked marks.new tree.now.forest }
     ensures most { most_marks marks.new ≡ most_marks marks.old }
 {
-    let mut next = first;
-    while let Some(h) = next {
+    for h in trees {
         marks.mark(h);
-        mark_trees(marks, tree, tree.first_child(h));
-        next = tree.next(h);
+        mark_trees(marks, tree, tree.children(h));
     }
 }
 
 /// Marks an object and all below it, if it is there.
 fn mark_below(marks: &mut Marks, tree: &Tree, h: Handle)
-    requires once { StandsOnce tree.now.forest }
     requires room { AreMarked marks.old tree.now.forest }
     ensures marks { AlsoMarks marks.old marks.new (λ k. has (tree_at tree.now.forest h.0) k) }
     ensures room { AreMarked marks.new tree.now.forest }
@@ -64,7 +59,7 @@ fn mark_below(marks: &mut Marks, tree: &Tree, h: Handle)
         return;
     }
     marks.mark(h);
-    mark_trees(marks, tree, tree.first_child(h));
+    mark_trees(marks, tree, tree.children(h));
 }
 
 /// Marks the objects that use a style.
@@ -106,7 +101,7 @@ fn mark_all(marks: &mut Marks, store: &Store)
     ensures most { most_marks marks.new ≡ most_marks marks.old }
 {
     let tree = store.tree();
-    mark_trees(marks, tree, tree.first_root());
+    mark_trees(marks, tree, tree.roots());
 }
 
 /// Marks the objects that are there and that a change may concern. Where it concerns some of them, no others

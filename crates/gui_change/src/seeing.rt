@@ -32,7 +32,7 @@ use crate::debts::is_named;
 use crate::look::Look;
 use crate::seen::Seen;
 use crate::shown::list_tree;
-use gui_base::Handle;
+use gui_base::{Grid, Handle};
 use gui_damage::Damage;
 use gui_layout::Places;
 use gui_pool::Table;
@@ -41,7 +41,7 @@ use gui_store::Store;
 /// Sees an object once more, if something is known of it, and lists what it owes.
 fn see_one(
     table: &mut Table<Seen>,
-    damage: &mut Damage,
+    damage: &mut Damage<Grid>,
     named: Option<Handle>,
     store: &Store,
     places: &Places,
@@ -69,7 +69,7 @@ fn see_one(
 /// differs.
 fn see_named(
     table: &mut Table<Seen>,
-    damage: &mut Damage,
+    damage: &mut Damage<Grid>,
     named: Option<Handle>,
     store: &Store,
     places: &Places,
@@ -95,7 +95,7 @@ fn see_named(
 fn see_tree(
     table: &mut Table<Seen>,
     listed: &mut Vec<Handle>,
-    damage: &mut Damage,
+    damage: &mut Damage<Grid>,
     named: Option<Handle>,
     store: &Store,
     places: &Places,
@@ -136,7 +136,7 @@ fn see_tree(
 fn see_trees(
     table: &mut Table<Seen>,
     listed: &mut Vec<Handle>,
-    damage: &mut Damage,
+    damage: &mut Damage<Grid>,
     store: &Store,
     places: &Places,
     concerned: Concerned,
@@ -162,7 +162,7 @@ fn see_trees(
 fn see_below(
     table: &mut Table<Seen>,
     listed: &mut Vec<Handle>,
-    damage: &mut Damage,
+    damage: &mut Damage<Grid>,
     named: Option<Handle>,
     store: &Store,
     places: &Places,
@@ -190,7 +190,7 @@ fn see_below(
 /// Sees each user of a style once more.
 fn see_users(
     table: &mut Table<Seen>,
-    damage: &mut Damage,
+    damage: &mut Damage<Grid>,
     store: &Store,
     places: &Places,
     concerned: Concerned,
@@ -224,7 +224,7 @@ fn is_below_other(store: &Store, style: u16, h: Handle) -> bool
 fn see_below_users(
     table: &mut Table<Seen>,
     listed: &mut Vec<Handle>,
-    damage: &mut Damage,
+    damage: &mut Damage<Grid>,
     store: &Store,
     places: &Places,
     concerned: Concerned,
@@ -255,7 +255,7 @@ fn see_below_users(
 /// Sees all that is shown once more. It is listed in paint order.
 fn see_shown(
     table: &mut Table<Seen>,
-    damage: &mut Damage,
+    damage: &mut Damage<Grid>,
     store: &Store,
     places: &Places,
     concerned: Concerned,
@@ -276,7 +276,7 @@ fn see_shown(
 /// Sees two objects once more.
 fn see_both(
     table: &mut Table<Seen>,
-    damage: &mut Damage,
+    damage: &mut Damage<Grid>,
     store: &Store,
     places: &Places,
     concerned: Concerned,
@@ -300,7 +300,7 @@ fn see_both(
 fn see_concerned(
     table: &mut Table<Seen>,
     listed: &mut Vec<Handle>,
-    damage: &mut Damage,
+    damage: &mut Damage<Grid>,
     named: Option<Handle>,
     store: &Store,
     places: &Places,
@@ -345,7 +345,7 @@ fn see_concerned(
 fn see_own(
     table: &mut Table<Seen>,
     listed: &mut Vec<Handle>,
-    damage: &mut Damage,
+    damage: &mut Damage<Grid>,
     named: Option<Handle>,
     store: &Store,
     places: &Places,
@@ -383,7 +383,7 @@ fn see_own(
 pub(crate) fn see_changed(
     look: &mut Look,
     listed: &mut Vec<Handle>,
-    damage: &mut Damage,
+    damage: &mut Damage<Grid>,
     named: Option<Handle>,
     store: &Store,
     places: &Places,

@@ -1,5 +1,5 @@
 -- Eight bits of a row of bits, and the lanes that they choose.
-use Rattle.std.proofs.Common.{◌≡◌, ℕ, zero, suc, ◌<◌, ◌+◌, ◌-◌, ◌*◌, ◌/◌, ◌%◌, ◌^◌, ◌==◌, false, not, cond, nat_eq, List, slice_index, bit_and, refl, sym, ap, ◌∙◌, arith, inl, inr, Bool, true, [], ◌∷◌, get_or, length}
+use Rattle.std.proofs.Common.{◌≡◌, ℕ, zero, suc, ◌<◌, ◌≤◌, ◌+◌, ◌-◌, ◌*◌, ◌/◌, ◌%◌, ◌^◌, ◌==◌, false, not, cond, nat_eq, List, slice_index, bit_and, refl, sym, ap, ◌∙◌, arith, inl, inr, Bool, [], ◌∷◌, get_or, length}
 use lib.Lanes.{top, sel_l}
 use Rattle.std.specs.Int.{bit_at}
 use Rattle.std.proofs.lemmas.Nat.{and_mask, pow_pos, shr-shr}
@@ -76,3 +76,21 @@ bit_of_row bits at k small h =
           let j : 15 - (at % 8 + k) ≡ 7 - (at + k) % 8 = omega arith in
           bit_at_cat_low hi 8 lo (15 - (at % 8 + k)) (omega arith) ∙ rw (i, j) refl
     ])
+
+-- the bits of the first four of eight pixels, which stand high in a byte
+pub first_bits : (byte low k : ℕ) → low < 16 → k < 4 → bit_at (byte / 16 * 16 + low) (7 - k) ≡ bit_at byte (7 - k)
+first_bits byte low k l h =
+    let e : 4 + (7 - k - 4) ≡ 7 - k = omega arith in
+    bit_at_cat_high (byte / 16) 4 low (7 - k) l (omega arith)
+    ∙ ap (λ z. z % 2) (shr-shr byte 4 (7 - k - 4) ∙ ap (λ z. byte / 2 ^ z) e)
+
+-- and those of the last four of so many, which stand low
+pub last_bits : (byte n k : ℕ) → 4 ≤ n → n ≤ 8 → k < 4 → bit_at (byte / 16 * 16 + byte / 2 ^ (8 - n) % 16) (7 - (4 + k)) ≡ bit_at byte (7 - (n - 4 + k))
+last_bits byte n k p q h =
+    let e : 8 - n + (7 - (4 + k)) ≡ 7 - (n - 4 + k) = omega arith in
+    let x : ℕ = byte / 2 ^ (8 - n) in
+    let split : x / 16 * 16 + x % 16 ≡ x = omega arith in
+    bit_at_cat_low (byte / 16) 4 (x % 16) (7 - (4 + k)) (omega arith)
+    ∙ sym (bit_at_cat_low (x / 16) 4 (x % 16) (7 - (4 + k)) (omega arith))
+    ∙ ap (λ z. bit_at z (7 - (4 + k))) split
+    ∙ ap (λ z. z % 2) (shr-shr byte (8 - n) (7 - (4 + k)) ∙ ap (λ z. byte / 2 ^ z) e)

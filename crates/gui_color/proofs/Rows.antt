@@ -4,6 +4,7 @@ use Rattle.std.proofs.lemmas.Bool.{cases_lt}
 use Rattle.std.proofs.lemmas.List.{ext_get_or, get_or-append_right, get_or-drop, get_or-map, get_or-take, get_or_append_left, length-map, length-take-le}
 use Rattle.gui_base.specs.Color.{black}
 use Rattle.gui_base.specs.declared.color.Rgb565.{Rgb565}
+use Rattle.gui_color.specs.Ends.{HasEnds}
 
 -- maps that agree on each colour
 pub same_map : (f g : Rgb565 → Rgb565) → ((c : Rgb565) → f c ≡ g c) → (xs : List Rgb565) → map f xs ≡ map g xs
@@ -34,6 +35,25 @@ last_mixed change old mid group some same eight groups last k h =
           ∙ (ap (change (length old - 8 + (k - cut))) (get_or-drop (length old - 8) old (k - cut) black)
           ∙ rw (← from, at) refl))
     ]
+
+-- and of each pixel of a row of four to eight, whose ends are changed as one group
+pub ends_mixed : (change : ℕ → Rgb565 → Rgb565) (old was group new : List Rgb565) → length old ≤ 8 → HasEnds old was
+    → ((k : ℕ) → k < 4 → slice_index_or group k black ≡ change k (slice_index_or was k black))
+    → ((k : ℕ) → k < 4 → slice_index_or group (4 + k) black ≡ change (length old - 4 + k) (slice_index_or was (4 + k) black))
+    → ((k : ℕ) → k < 4 → k + 4 < length old → slice_index_or new k black ≡ slice_index_or group k black)
+    → ((k : ℕ) → k < 4 → slice_index_or new (length old - 4 + k) black ≡ slice_index_or group (4 + k) black)
+    → 4 ≤ length old → (k : ℕ) → k < length old → slice_index_or new k black ≡ change k (slice_index_or old k black)
+ends_mixed change old was group new short ends first last front back some k h = elim (cases_lt (k + 4) (length old)) [
+  | inl below ↦
+      let near : k < 4 = omega arith in
+      front k near below ∙ (first k near ∙ ap (change k) (ends k near).0)
+  | inr above ↦
+      let j : ℕ = k - (length old - 4) in
+      let near : j < 4 = omega arith in
+      let at : length old - 4 + j ≡ k = omega arith in
+      ap (λ (i : ℕ). slice_index_or new i black) (sym at)
+      ∙ (back j near ∙ (last j near ∙ (ap (change (length old - 4 + j)) (ends j near).1 ∙ rw at refl)))
+]
 
 -- a row whose pixels are those of another, each mapped
 pub mapped : (f : Rgb565 → Rgb565) (old new : List Rgb565) → length new ≡ length old

@@ -1,3 +1,4 @@
 pub mod Buffer
+pub mod Ends
 pub mod Lending
 pub mod Masks

@@ -138,8 +138,7 @@ fn byte_at(bytes: &[u8], i: usize) -> u16
     if i < bytes.len() { bytes[i] as u16 } else { 0 }
 }
 
-/// Mixes `fg` over each pixel of a group whose bit is 1: pixel i has bit `at + i`. Where it is opaque, there is
-/// nothing to mix.
+/// Mixes `fg` over each pixel of a group whose bit is 1: pixel i has bit `at + i`.
 #[inline(always)]
 pub(crate) fn mix_masked(group: &mut [Rgb565], bits: &[u8], at: usize, fg: Rgb565, opa: u8)
     requires len { length group.old ≡ 8 }
@@ -147,7 +146,17 @@ pub(crate) fn mix_masked(group: &mut [Rgb565], bits: &[u8], at: usize, fg: Rgb56
     ensures { (k : ℕ) → k < 8 → slice_index_or group.new k black
         ≡ masked (mask_bit bits.now (at + k)) fg opa (slice_index_or group.old k black) }
 {
-    let byte = bits_from(bits, at);
+    mix_by(group, bits_from(bits, at), fg, opa);
+}
+
+/// The same by the bits of a byte, the highest first. Where `fg` is opaque, there is nothing to mix.
+#[inline(always)]
+pub(crate) fn mix_by(group: &mut [Rgb565], byte: u16, fg: Rgb565, opa: u8)
+    requires len { length group.old ≡ 8 }
+    requires byte { byte < 256 }
+    ensures { (k : ℕ) → k < 8 → slice_index_or group.new k black
+        ≡ masked (byte / 2 ^ (7 - k) % 2 == 1) fg opa (slice_index_or group.old k black) }
+{
     let colors = u16x8::splat(fg.0);
     if parts_of(opa) == ALL_PARTS {
         write_lanes(group, choose_by(byte, colors, lanes_of(group)));

@@ -2,6 +2,7 @@
 #![tactic(auto)]
 
 pub mod buffer;
+mod ends;
 mod lanes;
 pub mod masks;
 pub mod mixing;

@@ -4,7 +4,8 @@ ghost use Rattle.std.specs.Prelude.{if◌then◌else◌};
 ghost use Rattle.gui_base.specs.Color.{mix, black};
 ghost use Rattle.gui_color.specs.Masks.{mask_bit, masked};
 
-use crate::lanes::{GROUP, bits_from, mix_colors, mix_masked};
+use crate::ends::{HALF, bits_of_ends, ends_of, write_ends};
+use crate::lanes::{GROUP, bits_from, mix_by, mix_colors, mix_masked};
 use crate::mixing::{ALL_PARTS, Veil, mix, parts_of};
 use crate::row::write_last;
 use gui_base::Rgb565;
@@ -28,7 +29,7 @@ pub fn mix_row(row: &mut [Rgb565], src: &[Rgb565], opas: &[u8])
 }
 
 /// Mixes `fg` with an opacity from 0 to 255 over each pixel whose bit is 1: pixel i has bit `first + i`, and
-/// bit 0 is the highest of byte 0. No branch waits for a bit.
+/// bit 0 is the highest of byte 0. In rows of four pixels or more no branch waits for a bit.
 pub fn mask_row(row: &mut [Rgb565], bits: &[u8], first: u32, fg: Rgb565, opa: u8)
     requires { first + length row.old ≤ 8 * length bits.now }
     ensures { (k : ℕ) → k < length row.old → slice_index_or row.new k black
@@ -69,8 +70,7 @@ fn mask_groups(row: &mut [Rgb565], bits: &[u8], first: u32, fg: Rgb565, opa: u8)
     }
 }
 
-/// The same of a row that is no group, as most rows of letters are: its bits are taken as one byte, and each
-/// pixel is mixed by itself. Copied into a group and back, it would wait for its own writes.
+/// The same of a row that is no group, as most rows of letters are: its bits are taken as one byte.
 #[inline(always)]
 fn mask_short(row: &mut [Rgb565], bits: &[u8], first: u32, fg: Rgb565, opa: u8)
     requires short { length row.old < 8 }
@@ -80,11 +80,28 @@ fn mask_short(row: &mut [Rgb565], bits: &[u8], first: u32, fg: Rgb565, opa: u8)
         ≡ masked (mask_bit bits.now (first + k)) fg opa (slice_index_or row.old k black) }
 {
     let byte = bits_from(bits, first as usize);
-    if parts_of(opa) == ALL_PARTS {
+    if row.len() >= HALF {
+        mask_ends(row, byte, fg, opa);
+    } else if parts_of(opa) == ALL_PARTS {
         cover_masked(row, byte, fg);
     } else {
         blend_masked(row, byte, Veil::new(fg, opa));
     }
+}
+
+/// Mixes `fg` over each pixel whose bit of `byte` is 1, the highest first, of a row that has both halves of a
+/// group.
+#[inline(always)]
+fn mask_ends(row: &mut [Rgb565], byte: u16, fg: Rgb565, opa: u8)
+    requires some { 4 ≤ length row.old }
+    requires short { length row.old ≤ 8 }
+    requires byte { byte < 256 }
+    ensures { (k : ℕ) → k < length row.old → slice_index_or row.new k black
+        ≡ masked (byte / 2 ^ (7 - k) % 2 == 1) fg opa (slice_index_or row.old k black) }
+{
+    let mut group = ends_of(row);
+    mix_by(&mut group, bits_of_ends(byte, row.len()), fg, opa);
+    write_ends(row, group);
 }
 
 /// Makes each pixel `fg` whose bit of `byte` is 1, the highest first.

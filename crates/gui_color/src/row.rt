@@ -3,6 +3,7 @@ ghost use Rattle.std.specs.Prelude.{◌≡◌, ℕ, ◌≤◌, ◌<◌, ◌-◌,
 ghost use Rattle.std.specs.Prelude.{length, map, take, slice_index_or};
 ghost use Rattle.gui_base.specs.Color.{mix, black};
 
+use crate::ends::{HALF, ends_of, write_ends};
 use crate::lanes::{GROUP, mix_one};
 use crate::mixing::{ALL_PARTS, Veil, parts_of};
 use gui_base::Rgb565;
@@ -44,6 +45,7 @@ fn blend_row(row: &mut [Rgb565], fg: Rgb565, opa: u8)
             write_last(row, last);
         }
         Some(_) => blend_groups(row, fg, opa),
+        None if row.len() >= HALF => blend_ends(row, fg, opa),
         None => blend_each(row, Veil::new(fg, opa)),
     }
 }
@@ -75,6 +77,18 @@ fn blend_pair(groups: &mut [Rgb565], fg: Rgb565, opa: u8)
         let from = i * GROUP;
         mix_one(&mut groups[from..from + GROUP], fg, opa);
     }
+}
+
+/// Mixes a colour over the pixels of a row that is no group, but has both of its halves.
+#[inline(always)]
+fn blend_ends(row: &mut [Rgb565], fg: Rgb565, opa: u8)
+    requires some { 4 ≤ length row.old }
+    requires short { length row.old ≤ 8 }
+    ensures { row.new ≡ map (λ bg. mix fg bg opa) row.old }
+{
+    let mut group = ends_of(row);
+    mix_one(&mut group, fg, opa);
+    write_ends(row, group);
 }
 
 /// Mixes a colour over each pixel, one by one.

@@ -8,11 +8,12 @@ use Rattle.std.proofs.lemmas.List.Sorted.{IsPermutation-refl, IsPermutation-sym,
 use Rattle.std.proofs.lemmas.List.Sums.{sum_by-cons}
 use Rattle.std.proofs.lemmas.Bool.{ltb-true, or_right}
 use Rattle.std.proofs.lemmas.Int.{ints}
-use Rattle.gui_base.proofs.Areas.{hull_first, hull_second, hull_joined}
+use Rattle.gui_base.proofs.Areas.{hull_first, hull_second, hull_joined, Covers-around, around_corners}
 use Rattle.gui_damage.proofs.Lines.{in_order, not_empty}
-use Rattle.gui_base.specs.Area.{Rect, has, is_empty, size_of, common, joined, Covers, is_within}
+use Rattle.gui_base.specs.Area.{Rect, has, is_empty, size_of, common, joined, Covers, has_corners, is_within}
 use Rattle.gui_damage.specs.Damage.{rects_of}
-use Rattle.gui_damage.specs.Joining.{IsPair, JoinsPair, JoinsPairs, none, one_more, KeepsPixels}
+use Rattle.gui_damage.specs.Joining.{joined_at, IsPair, JoinsPair, JoinsPairs, none, one_more, KeepsPixels}
+use Rattle.gui_base.specs.Rounding.{Rounding, IsRounding}
 use Rattle.gui_damage.specs.Pending.{covered, total}
 use Rattle.gui_base.specs.declared.area.Area.{Area}
 use Rattle.gui_base.specs.Corners.{rect_of}
@@ -21,10 +22,6 @@ use Rattle.gui_damage.proofs.Listed.{within, is_within-of, and_both, and_first, 
 -- an area that was read from the list, among their corners
 pub rect_at : (areas : List Area) (i : ℕ) (area : Area) (d : Rect) → i < length areas → area ≡ get_or areas i area → get_or (rects_of areas) i d ≡ rect_of area
 rect_at areas i area d h e = get_or-map rect_of areas i area d h ∙ sym (ap rect_of e)
-
--- the list with the area at i replaced by another, and without the one at j
-abbrev pub joined_at : List Rect → ℕ → ℕ → Rect → List Rect
-joined_at areas i j area = remove (set areas i area) j
 
 -- A list with two elements a and b of which y takes the place: what else it has, before and after.
 record Replaces {X : Type 0} (xs : List X) (a b y : X) (ys : List X) : Type 0 where
@@ -93,16 +90,19 @@ or_either true b c d e p q h k = rw (p refl) refl
 or_either false true c d e p q h k = rw (q refl) refl
 or_either false false c d e p q h k = or_right d e (sym k ∙ h)
 
-module _ (old new : List Rect) (h : JoinsPair old new) where
+module _ (round : Rect → Rect) (old new : List Rect) (h : JoinsPair round old new) where
   -- one join
   abbrev join : Rect
-  join = joined h.first h.second
+  join = round (joined h.first h.second)
 
   some : (is_empty h.first ≡ false) × (is_empty h.second ≡ false)
   some = both_some h.first h.second (not_true _ (and_first _ _ h.joins))
 
   smaller_join : size_of join < size_of h.first + size_of h.second
   smaller_join = ltb-true (size_of join) (size_of h.first + size_of h.second) (and_second _ _ h.joins)
+
+  join_holds : Covers join (joined h.first h.second)
+  join_holds = Covers-around join (joined h.first h.second) (around_corners join (joined h.first h.second) h.holds)
 
   pub pair_length : length new + 1 ≡ length old
   pair_length = omega (arith, length_permutation _ _ h.listed, length_permutation _ _ h.replaced)
@@ -120,27 +120,35 @@ module _ (old new : List Rect) (h : JoinsPair old new) where
       let first = subst (λ (area : Rect). Covers area h.first) is (hull_first h.first h.second) in
       let second = subst (λ (area : Rect). Covers area h.second) is (hull_second h.first h.second) in
       sym (list_any-IsPermutation test _ _ h.replaced)
-      ∙ or_either (test h.first) (test h.second) (list_any test h.others) (test join) (list_any test h.others) (first x y) (second x y) (sym (list_any-IsPermutation test _ _ h.listed) ∙ t) refl
+      ∙ or_either (test h.first) (test h.second) (list_any test h.others) (test join) (list_any test h.others) (λ k. join_holds x y (first x y k)) (λ k. join_holds x y (second x y k)) (sym (list_any-IsPermutation test _ _ h.listed) ∙ t) refl
 
-  pub pair_within : (panel : Rect) → list_all (is_within panel) old ≡ true → list_all (is_within panel) new ≡ true
-  pair_within panel each =
-      let all = all_permuted (is_within panel) _ _ h.listed each in
-      let others = and_second _ _ (and_second _ _ all) in
-      all_permuted (is_within panel) _ _ h.replaced (and_both _ _ (within_joined panel h.first h.second (and_first _ _ all) (and_first _ _ (and_second _ _ all))) others)
+-- the two areas, and what else was listed
+pub pair_parts : (round : Rect → Rect) (old new : List Rect) (h : JoinsPair round old new) (panel : Rect) → list_all (is_within panel) old ≡ true →
+    (is_within panel h.first ≡ true) × (is_within panel h.second ≡ true) × (list_all (is_within panel) h.others ≡ true)
+pair_parts round old new h panel each =
+    let all = all_permuted (is_within panel) _ _ h.listed each in
+    (and_first _ _ all, and_first _ _ (and_second _ _ all), and_second _ _ (and_second _ _ all))
 
-pub keeps_pixels : (old new : List Rect) → JoinsPairs old new → KeepsPixels old new
-keeps_pixels old _ none = record { covers = λ x y h. h; smaller = omega arith; fewer = omega arith; none_lost = λ h. h }
-keeps_pixels old new (one_more {between} pairs pair) =
-    let before = keeps_pixels old between pairs in
+pub pair_within : (rules : Rounding) (old new : List Rect) → IsRounding rules → JoinsPair rules.round old new → list_all (is_within rules.panel) old ≡ true → list_all (is_within rules.panel) new ≡ true
+pair_within rules old new is h each =
+    let parts = pair_parts rules.round old new h rules.panel each in
+    let join = is.inside (joined h.first h.second) (within_joined rules.panel h.first h.second parts.0 parts.1) in
+    all_permuted (is_within rules.panel) _ _ h.replaced (and_both _ _ join parts.2)
+
+pub keeps_pixels : (round : Rect → Rect) (old new : List Rect) → JoinsPairs round old new → KeepsPixels old new
+keeps_pixels round old _ none = record { covers = λ x y h. h; smaller = omega arith; fewer = omega arith; none_lost = λ h. h }
+keeps_pixels round old new (one_more {between} pairs pair) =
+    let before = keeps_pixels round old between pairs in
     record {
-      covers = λ x y h. pair_covers between new pair x y (before.covers x y h);
-      smaller = let s = before.smaller in omega (arith, pair_total between new pair);
-      fewer = let f = before.fewer in omega (arith, pair_length between new pair);
+      covers = λ x y h. pair_covers round between new pair x y (before.covers x y h);
+      smaller = let s = before.smaller in omega (arith, pair_total round between new pair);
+      fewer = let f = before.fewer in omega (arith, pair_length round between new pair);
       none_lost = λ h. let l = length_permutation _ _ pair.replaced in omega arith;
     }
 
--- the areas at i and j, where they are to be joined, gave way to their join
-pub joins_pair : (areas : List Rect) (i j : ℕ) (a b : Rect) → IsPair areas i j → ((d : Rect) → get_or areas i d ≡ a) → ((d : Rect) → get_or areas j d ≡ b) → JoinsPair areas (joined_at areas i j (joined a b))
-joins_pair areas i j a b pair first second =
-    let r = replaces areas i j a b (joined a b) pair.later pair.within (sym (first a)) (sym (second b)) in
-    record { first = a; second = b; others = r.others; listed = r.before; joins = rw (first a, second a) at (pair.joins a); replaced = r.after }
+-- the areas at i and j, where they are to be joined, gave way to the rounding of their join
+pub joins_pair : (round : Rect → Rect) (areas : List Rect) (i j : ℕ) (a b : Rect) → IsPair round areas i j → ((d : Rect) → get_or areas i d ≡ a) → ((d : Rect) → get_or areas j d ≡ b) →
+    has_corners (round (joined a b)) (joined a b) ≡ true → JoinsPair round areas (joined_at areas i j (round (joined a b)))
+joins_pair round areas i j a b pair first second holds =
+    let r = replaces areas i j a b (round (joined a b)) pair.later pair.within (sym (first a)) (sym (second b)) in
+    record { first = a; second = b; others = r.others; listed = r.before; joins = rw (first a, second a) at (pair.joins a); holds = holds; replaced = r.after }

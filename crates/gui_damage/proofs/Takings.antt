@@ -1,12 +1,13 @@
 -- What a slice and what is left after it have together.
-use Rattle.std.proofs.Common.{◌≡◌, ◌∙◌, refl, sym, ap, subst, ℕ, ◌+◌, ◌/◌, ◌<◌, ◌≤◌, ◌==◌, ℤ, Bool, true, false, ◌||◌, List, [], ◌∷◌, arith, inl, inr, Some, None}
+use Rattle.std.proofs.Common.{◌≡◌, ◌∙◌, refl, sym, ap, subst, ℕ, ◌+◌, ◌/◌, ◌<◌, ◌≤◌, ◌==◌, ℤ, Bool, true, false, ◌||◌, List, [], ◌∷◌, arith, inl, inr, Some}
 use Rattle.std.proofs.Math.Nat.{mul-le-mul_right, div-mul-le_self}
 use Rattle.std.proofs.lemmas.Int.{ints}
 use Rattle.std.proofs.lemmas.Bool.{cases_Bool, eqb-true, eqb-false}
 use Rattle.std.proofs.lemmas.List.Sums.{sum_by-cons}
 use Rattle.gui_base.specs.Area.{Rect, has, is_empty, width_of, height_of, size_of, is_within}
 use Rattle.gui_damage.specs.Pending.{Pending, IsPending, covered, total}
-use Rattle.gui_damage.specs.Slices.{top_lines, lines_below, slice_lines, slice_of, left_after, Takes}
+use Rattle.gui_base.specs.Lines.{top_lines, lines_below}
+use Rattle.gui_damage.specs.Slices.{slice_lines, slice_of, left_after, Takes, HasLine}
 use Rattle.gui_damage.proofs.Lines.{in_order, count_is, size_pos, height_top, height_below}
 use Rattle.gui_damage.proofs.Listed.{within, within_top}
 use Rattle.gui_damage.proofs.Slices.{one_line, first_within, first_some, without_first, with_below, left_whole, left_below}
@@ -23,7 +24,7 @@ size_split area lines some h =
     grind (arith, both)
 
 -- all lines of an area
-top_all : (area : Rect) → is_empty area ≡ false → top_lines area (height_of area) ≡ area
+pub top_all : (area : Rect) → is_empty area ≡ false → top_lines area (height_of area) ≡ area
 top_all area some =
     let order = in_order area some in
     ap (λ (y : ℤ). record area { y2 = y }) (omega (arith, ints, count_is area.y1 area.y2 order.down))
@@ -36,12 +37,12 @@ both_false : (a b : Bool) → (a || b) ≡ false → (a ≡ false) × (b ≡ fal
 both_false true b h = cc
 both_false false b h = (refl, h)
 
-module _ (panel : Rect) (limit : ℕ) (first : Rect) (rest : List Rect) (p : IsPending (record { panel = panel; areas = first ∷ rest })) (wide : width_of panel ≤ limit) where
+module _ (panel : Rect) (limit : ℕ) (first : Rect) (rest : List Rect) (p : IsPending (record { panel = panel; areas = first ∷ rest })) (wide : width_of first ≤ limit) where
   abbrev lines : ℕ
   lines = slice_lines limit first
 
   inside : is_within panel (top_lines first lines) ≡ true
-  inside = within_top panel first lines (first_within panel first rest p) (one_line panel first limit (first_within panel first rest p) p.some wide) (omega arith)
+  inside = within_top panel first lines (first_within panel first rest p) (one_line panel first limit (first_within panel first rest p) wide) (omega arith)
 
   some_of : 0 < size_of (top_lines first lines)
   some_of =
@@ -95,12 +96,8 @@ module _ (panel : Rect) (limit : ℕ) (first : Rect) (rest : List Rect) (p : IsP
 same_some : (a b : Rect) → Some a ≡ Some b → a ≡ b
 same_some a b h = cc
 
-pub takes : (p : Pending) (limit : ℕ) (slice : Rect) → IsPending p → width_of p.panel ≤ limit → Some slice ≡ slice_of limit p.areas → Takes p.panel limit p.areas (left_after limit p.areas) slice
-takes p limit slice h wide e = go p.areas h e where
-  go : (areas : List Rect) → IsPending (record { panel = p.panel; areas = areas }) → Some slice ≡ slice_of limit areas → Takes p.panel limit areas (left_after limit areas) slice
-  go [] h e = cc
-  go (first ∷ rest) h e = subst (Takes p.panel limit (first ∷ rest) (left_after limit (first ∷ rest))) (sym (same_some slice (top_lines first (slice_lines limit first)) e)) (takes_first p.panel limit first rest h wide)
-
-pub takes_none : (areas : List Rect) (limit : ℕ) → None ≡ slice_of limit areas → areas ≡ []
-takes_none [] limit h = refl
-takes_none (first ∷ rest) limit h = cc
+pub takes : (p : Pending) (limit : ℕ) (slice : Rect) → IsPending p → HasLine limit p.areas → Some slice ≡ slice_of limit p.areas → Takes p.panel limit p.areas (left_after limit p.areas) slice
+takes p limit slice h wide e = go p.areas h wide e where
+  go : (areas : List Rect) → IsPending (record { panel = p.panel; areas = areas }) → HasLine limit areas → Some slice ≡ slice_of limit areas → Takes p.panel limit areas (left_after limit areas) slice
+  go [] h wide e = cc
+  go (first ∷ rest) h wide e = subst (Takes p.panel limit (first ∷ rest) (left_after limit (first ∷ rest))) (sym (same_some slice (top_lines first (slice_lines limit first)) e)) (takes_first p.panel limit first rest h wide)

@@ -1,44 +1,56 @@
--- How listed areas are joined.
+-- How listed areas are joined. `round` is what a join is widened to.
 use Rattle.std.specs.Prelude.{◌≡◌, ℕ, ◌+◌, ◌<◌, ◌≤◌, nat_lt, Bool, true, false, not, ◌&&◌, ℤ}
-use Rattle.std.specs.Prelude.{List, ◌∷◌, length, slice_index_or, AllPairs}
+use Rattle.std.specs.Prelude.{List, ◌∷◌, length, slice_index_or, set, remove, AllPairs}
 use Rattle.std.specs.List.Sorted.{IsPermutation}
-use Rattle.gui_base.specs.Area.{Rect, is_empty, size_of, common, joined}
+use Rattle.gui_base.specs.Area.{Rect, is_empty, size_of, common, joined, has_corners}
 use Rattle.gui_damage.specs.Pending.{Pending, covered, total}
 
--- two areas have a pixel in common, and their join has fewer pixels than both together
-abbrev pub can_join : Rect → Rect → Bool
-can_join a b = not (is_empty (common a b)) && nat_lt (size_of (joined a b)) (size_of a + size_of b)
+-- a join that is not widened
+abbrev pub exact : Rect → Rect
+exact area = area
+
+-- two areas have a pixel in common, and the rounding of their join has fewer pixels than both together
+abbrev pub can_join : (Rect → Rect) → Rect → Rect → Bool
+can_join round a b =
+    not (is_empty (common a b)) && nat_lt (size_of (round (joined a b))) (size_of a + size_of b)
 
 -- the areas at i and, later, at j are to be joined
-pub record IsPair (areas : List Rect) (i j : ℕ) : Type 0 where
+pub record IsPair (round : Rect → Rect) (areas : List Rect) (i j : ℕ) : Type 0 where
   pub later : i < j
   pub within : j < length areas
-  pub joins : (d : Rect) → can_join (slice_index_or areas i d) (slice_index_or areas j d) ≡ true
+  pub joins : (d : Rect) → can_join round (slice_index_or areas i d) (slice_index_or areas j d) ≡ true
 
 -- no later area is to be joined with the one at i
-abbrev pub HasNoPartner : List Rect → ℕ → Type 0
-HasNoPartner areas i = (j : ℕ) (d : Rect) → i < j → j < length areas →
-    can_join (slice_index_or areas i d) (slice_index_or areas j d) ≡ false
+abbrev pub HasNoPartner : (Rect → Rect) → List Rect → ℕ → Type 0
+HasNoPartner round areas i = (j : ℕ) (d : Rect) → i < j → j < length areas →
+    can_join round (slice_index_or areas i d) (slice_index_or areas j d) ≡ false
 
--- Two listed areas that are to be joined were replaced by their join. The order of a list is free.
-pub record JoinsPair (old new : List Rect) : Type 0 where
+-- the list with the area at i replaced by another, and without the one at j
+abbrev pub joined_at : List Rect → ℕ → ℕ → Rect → List Rect
+joined_at areas i j area = remove (set areas i area) j
+
+-- Two listed areas that are to be joined were replaced by the rounding of their join. The order of a list is
+-- free.
+pub record JoinsPair (round : Rect → Rect) (old new : List Rect) : Type 0 where
   pub first : Rect
   pub second : Rect
   pub others : List Rect
   pub listed : IsPermutation old (first ∷ second ∷ others)
-  pub joins : can_join first second ≡ true
-  pub replaced : IsPermutation (joined first second ∷ others) new
+  pub joins : can_join round first second ≡ true
+  pub holds : has_corners (round (joined first second)) (joined first second) ≡ true
+  pub replaced : IsPermutation (round (joined first second) ∷ others) new
 
 -- such pairs were replaced, one after another
-pub data JoinsPairs (old : List Rect) : List Rect → Type 0 where
-  none : JoinsPairs old old
-  one_more : {between new : List Rect} → JoinsPairs old between → JoinsPair between new → JoinsPairs old new
+pub data JoinsPairs (round : Rect → Rect) (old : List Rect) : List Rect → Type 0 where
+  none : JoinsPairs round old old
+  one_more : {between new : List Rect} → JoinsPairs round old between → JoinsPair round between new →
+      JoinsPairs round old new
 
 -- pairs of listed areas were joined until none was left to join
-pub record JoinsAll (old new : Pending) : Type 0 where
+pub record JoinsAll (round : Rect → Rect) (old new : Pending) : Type 0 where
   pub panel : new.panel ≡ old.panel
-  pub joins : JoinsPairs old.areas new.areas
-  pub apart : AllPairs (λ a b. can_join a b ≡ false) new.areas
+  pub joins : JoinsPairs round old.areas new.areas
+  pub apart : AllPairs (λ a b. can_join round a b ≡ false) new.areas
 
 -- what joining keeps
 pub record KeepsPixels (old new : List Rect) : Type 0 where

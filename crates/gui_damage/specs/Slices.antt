@@ -1,17 +1,15 @@
 -- How slices are taken from what is pending.
 use Rattle.std.specs.Prelude.{◌≡◌, ℕ, ◌+◌, ◌/◌, ◌<◌, ◌≤◌, ◌==◌, min, true, false, if◌then◌else◌}
-use Rattle.std.specs.Prelude.{List, [], ◌∷◌, length, Some, None, ℤ, pos, ◌+ℤ◌, ◌-ℤ◌}
+use Rattle.std.specs.Prelude.{List, [], ◌∷◌, length, Some, None, ⊤, ℤ}
 use Rattle.std.specs.declared.option.Option.{Option}
 use Rattle.gui_base.specs.Area.{Rect, has, width_of, height_of, size_of, is_within}
+use Rattle.gui_base.specs.Lines.{top_lines, lines_below}
 use Rattle.gui_damage.specs.Pending.{IsPending, covered, total}
 
--- the first lines of an area
-abbrev pub top_lines : Rect → ℕ → Rect
-top_lines area lines = record area { y2 = (area.y1 +ℤ pos lines) -ℤ pos 1 }
-
--- the lines of an area below its first ones
-abbrev pub lines_below : Rect → ℕ → Rect
-lines_below area lines = record area { y1 = area.y1 +ℤ pos lines }
+-- the first of the listed areas
+abbrev pub first_of : List Rect → Option Rect
+first_of [] = None
+first_of (first ∷ rest) = Some first
 
 -- how many lines of an area have at most so many pixels
 abbrev pub slice_lines : ℕ → Rect → ℕ
@@ -28,6 +26,11 @@ left_after limit [] = []
 left_after limit (first ∷ rest) =
     if slice_lines limit first == height_of first then rest
     else lines_below first (slice_lines limit first) ∷ rest
+
+-- the limit is at least the width of the first area
+abbrev pub HasLine : ℕ → List Rect → Type 0
+HasLine limit [] = ⊤
+HasLine limit (first ∷ rest) = width_of first ≤ limit
 
 -- a slice of at most so many pixels was taken from the areas, and these are left
 pub record Takes (panel : Rect) (limit : ℕ) (areas left : List Rect) (slice : Rect) : Type 0 where

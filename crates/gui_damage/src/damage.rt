@@ -1,168 +1,121 @@
 //! The list of the pending areas.
-ghost use Rattle.std.specs.Prelude.{◌≡◌, ◌<◌, ◌≤◌, true, false, [], ◌∷◌, pos, ◌+ℤ◌};
-ghost use Rattle.std.specs.List.{list_any, list_all};
+ghost use Rattle.std.specs.Prelude.{◌≡◌, ◌*◌, ◌≤◌, true, ◌∷◌, [], map};
+ghost use Rattle.std.specs.List.{list_all};
 ghost use Rattle.std.specs.Option.{option_map};
-ghost use Rattle.gui_base.specs.Area.{IsCoordinate, is_empty, width_of, height_of, has_corners, is_within};
+ghost use Rattle.gui_base.specs.Area.{width_of, is_within};
 ghost use Rattle.gui_base.specs.Corners.{rect_of};
-ghost use Rattle.gui_damage.specs.Pending.{IsPending};
-ghost use Rattle.gui_damage.specs.Adding.{added, AddsAll};
-ghost use Rattle.gui_damage.specs.Joining.{JoinsAll};
-ghost use Rattle.gui_damage.specs.Slices.{top_lines, lines_below, slice_of, left_after};
+ghost use Rattle.gui_damage.specs.Adding.{AddsAll};
 ghost use Rattle.gui_damage.specs.Damage.{rects_of};
+ghost use Rattle.gui_damage.specs.Joining.{JoinsAll};
+ghost use Rattle.gui_damage.specs.Rounded.{IsRounded, pending_in, added_to, added_all_to};
+ghost use Rattle.gui_damage.specs.Rounded.{round_slice_of, left_round};
 
+use crate::area_list::AreaList;
 use crate::pairs::pair_to_join;
-use arrayvec::ArrayVec;
-use gui_base::Area;
+use gui_base::{Area, Round};
 use std::marker::Model;
 
-/// A panel, and a list of at most 32 areas of it whose pixels are to be sent. None of them is empty.
+/// A panel, and a list of at most 32 areas of it whose pixels are to be sent. None of them is empty, and each
+/// is its own rounding.
 #[derive(Drop)]
-pub struct Damage {
-    panel: Area,
-    listed: ArrayVec<Area, 32>,
+pub struct Damage<R: Round> {
+    round: R,
+    list: AreaList,
 }
 
-impl Model for Damage {
-    ghost use Rattle.gui_damage.specs.Pending.{Pending, IsPending};
-    ghost use Rattle.gui_damage.specs.Damage.{pending_of};
+impl<R: Round> Model for Damage<R> {
+    ghost use Rattle.std.specs.Prelude.{◌≡◌};
+    ghost use Rattle.gui_damage.specs.Rounded.{Rounded, IsRounded};
 
-    ghost Value = { Pending };
+    ghost Value = { Rounded R };
 
-    ghost view = { λ d. pending_of d.panel d.listed.items };
+    ghost view = { λ d. record { round = d.round; areas = d.list.areas } };
 
-    ghost invariant = { λ d. IsPending (pending_of d.panel d.listed.items) };
+    ghost invariant = { λ d.
+        (d.list.panel ≡ (R.rules d.round).panel) × IsRounded (R.rules d.round) d.list.areas };
 }
 
-impl Damage {
-    /// The list with the whole panel, which is not empty.
-    pub fn new(panel: Area) -> Damage
-        requires { is_empty (rect_of panel) ≡ false }
-        ensures { result ≡ record { panel = rect_of panel; areas = rect_of panel ∷ [] } }
+impl<R: Round> Damage<R> {
+    /// The list with the whole panel, which is that of the rounding.
+    pub fn new(panel: Area, round: R) -> Damage<R>
+        requires { rect_of panel ≡ (R.rules round).panel }
+        ensures { result ≡ record { round = round; areas = rect_of panel ∷ [] } }
     {
-        let mut listed = ArrayVec::new();
-        listed.push(panel);
-        Damage { panel, listed }
+        Damage {
+            round,
+            list: AreaList::new(panel),
+        }
     }
 
-    /// Lists the area's part of the panel, which goes last. Nothing happens where that is empty or lies in a
-    /// listed area. Where 32 areas are listed, the list becomes the whole panel alone.
+    /// Lists the rounding of the area's part of the panel, which goes last. Nothing happens where that part
+    /// is empty, or where the rounding lies in a listed area. Where 32 areas are listed, the list becomes the
+    /// whole panel alone.
     pub fn add(&mut self, area: Area)
-        ensures list { self.new ≡ added self.old (rect_of area) }
-        ensures panel { self.new.panel ≡ self.old.panel }
-        ensures sound { IsPending self.old }
+        ensures list { self.new ≡ added_to R.rules self.old (rect_of area) }
+        ensures sound { IsRounded (R.rules self.old.round) self.old.areas }
     {
-        let part = area.meet(self.panel);
-        if part.is_empty() {
-            return;
+        let part = area.meet(self.list.panel());
+        if !part.is_empty() {
+            self.list.add(self.round.round(part));
         }
-        if is_listed(&self.listed, part) {
-            return;
-        }
-        if self.listed.is_full() {
-            self.listed.clear();
-            self.listed.push(self.panel);
-            return;
-        }
-        self.listed.push(part);
     }
 
-    /// Adds areas, none of them empty, which lie in the panel. The list grows by no more than these, or it
-    /// becomes the whole panel alone, where they come to more than 32 areas with those that were listed.
+    /// Adds areas, none of them empty, which lie in the panel. The list grows by no more than their
+    /// roundings, or it becomes the whole panel alone, where they come to more than 32 areas with those that
+    /// were listed.
     pub fn add_all(&mut self, areas: &[Area])
-        requires { list_all (is_within self.old.panel) (rects_of areas.now) ≡ true }
-        ensures { AddsAll self.old self.new (rects_of areas.now) }
+        requires { list_all (is_within (R.rules self.old.round).panel) (rects_of areas.now) ≡ true }
+        ensures list { self.new ≡ added_all_to R.rules self.old (rects_of areas.now) }
+        ensures adds { AddsAll (pending_in R.rules self.old) (pending_in R.rules self.new)
+            (map (R.rules self.old.round).round (rects_of areas.now)) }
     {
-        let _ = &self.panel;
+        let _ = &self.round;
         for area in areas {
             self.add(*area);
         }
     }
 
-    /// Replaces two listed areas that have a pixel in common, and whose join has fewer pixels than both
-    /// together, by their join, until there is no such pair. What was covered stays covered, and the sum of
-    /// the sizes does not grow.
+    /// Replaces two listed areas that have a pixel in common, where the rounding of their join has fewer
+    /// pixels than both together, by that rounding, until there is no such pair. What was covered stays
+    /// covered, and the sum of the sizes does not grow.
     pub fn join_all(&mut self)
-        ensures { JoinsAll self.old self.new }
+        ensures round { self.new.round ≡ self.old.round }
+        ensures joins { JoinsAll (R.rules self.old.round).round
+            (pending_in R.rules self.old) (pending_in R.rules self.new) }
+        ensures sound { IsRounded (R.rules self.old.round) self.old.areas }
     {
-        while let Some((i, j)) = pair_to_join(&self.listed) {
-            let join = self.listed[i].join(self.listed[j]);
-            self.listed[i] = join;
-            self.listed.remove(j);
+        while let Some((i, j)) = pair_to_join(&self.round, self.list.areas()) {
+            let areas = self.list.areas();
+            let join = self.round.round(areas[i].join(areas[j]));
+            self.list.replace(i, j, join);
         }
     }
 
-    /// Takes the topmost lines of the first area, as many as have at most `limit` pixels, which is at least
-    /// the panel's width. The rest of the area stays first. None where nothing is listed.
+    /// Takes the topmost lines of the first area: all of them, or the most whole steps of the rounding that
+    /// have at most `limit` pixels, which is at least the panel's width times the step. The rest of the area
+    /// stays first. None where nothing is listed.
     pub fn take_slice(&mut self, limit: u32) -> Option<Area>
-        requires { width_of self.old.panel ≤ limit }
-        ensures slice { option_map rect_of result ≡ slice_of limit self.old.areas }
-        ensures rest { self.new ≡ record self.old { areas = left_after limit self.old.areas } }
-        ensures sound { IsPending self.old }
+        requires { width_of (R.rules self.old.round).panel * (R.rules self.old.round).step ≤ limit }
+        ensures slice { option_map rect_of result
+            ≡ round_slice_of (R.rules self.old.round) limit self.old.areas }
+        ensures rest { self.new ≡ record self.old {
+          areas = left_round (R.rules self.old.round) limit self.old.areas;
+        } }
+        ensures sound { IsRounded (R.rules self.old.round) self.old.areas }
     {
-        if self.listed.is_empty() {
+        let Some(first) = self.list.first() else {
             return None;
-        }
-        let first = self.listed[0];
-        let lines = first.height().min(limit / first.width());
-        let slice = top_lines(first, lines);
-        if lines == first.height() {
-            self.listed.remove(0);
-            return Some(slice);
-        }
-        self.listed[0] = lines_below(first, lines);
-        Some(slice)
+        };
+        let width = first.width();
+        let step = self.round.step();
+        self.list.take_slice(limit / width / step * step * width)
     }
 
     /// The listed areas.
     pub fn areas(&self) -> &[Area]
         ensures areas { rects_of result.now ≡ self.now.areas }
-        ensures sound { IsPending self.now }
+        ensures sound { IsRounded (R.rules self.now.round) self.now.areas }
     {
-        &self.listed
+        self.list.areas()
     }
-}
-
-/// Whether a listed area has all pixels of an area that is not empty.
-fn is_listed(listed: &[Area], part: Area) -> bool
-    ensures { result ≡ list_any (λ area. has_corners (rect_of area) (rect_of part)) listed.now }
-{
-    listed.iter().any(|area| area.holds_corners(part))
-}
-
-/// The first lines of an area.
-fn top_lines(area: Area, lines: u32) -> Area
-    requires some { is_empty (rect_of area) ≡ false }
-    requires line { 0 < lines }
-    requires within { lines ≤ height_of (rect_of area) }
-    ensures { rect_of result ≡ top_lines (rect_of area) lines }
-{
-    Area {
-        x1: area.x1,
-        y1: area.y1,
-        x2: area.x2,
-        y2: line_at(area.y1, lines - 1),
-    }
-}
-
-/// The lines of an area below its first ones.
-fn lines_below(area: Area, lines: u32) -> Area
-    requires some { is_empty (rect_of area) ≡ false }
-    requires within { lines < height_of (rect_of area) }
-    ensures { rect_of result ≡ lines_below (rect_of area) lines }
-{
-    Area {
-        x1: area.x1,
-        y1: line_at(area.y1, lines),
-        x2: area.x2,
-        y2: area.y2,
-    }
-}
-
-/// The line that stands so many lines below another.
-fn line_at(y: i32, lines: u32) -> i32
-    requires { IsCoordinate (y +ℤ pos lines) }
-    ensures value { result ≡ y +ℤ pos lines }
-    ensures fits { IsCoordinate result }
-{
-    (i64::from(y) + i64::from(lines)) as i32
 }

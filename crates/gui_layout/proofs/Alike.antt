@@ -12,7 +12,7 @@ use Rattle.gui_layout.specs.Scrolled.{IsScrolled, IsScrolledIn}
 use Rattle.gui_layout.specs.Settled.{Layout, known_at, tall_of}
 use Rattle.gui_layout.specs.Slots.{slot_at, talls, tall_at}
 use Rattle.gui_layout.proofs.Fitting.{tall_roots}
-use Rattle.gui_layout.proofs.Parts.{IsDistinct, distinct-part, found, there}
+use Rattle.gui_tree.proofs.Parts.{IsDistinct, distinct-part, found, there}
 use Rattle.gui_layout.proofs.Settling.{tree-in}
 
 -- Own heights.

@@ -28,7 +28,7 @@ use Rattle.gui_layout.proofs.Entering.{boxed_are, joined, place_in}
 use Rattle.gui_layout.proofs.Finds.{elsewhere, widths-handles}
 use Rattle.gui_layout.proofs.Marking.{marked-has}
 use Rattle.gui_layout.proofs.Listed.{told_at}
-use Rattle.gui_layout.proofs.Parts.{IsDistinct, distinct_once}
+use Rattle.gui_tree.proofs.Parts.{IsDistinct, distinct_once}
 use Rattle.gui_layout.proofs.Solves.{handles_solved, placed_handle}
 
 -- what is found in some trees and then in others

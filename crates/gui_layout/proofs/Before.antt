@@ -13,7 +13,7 @@ use Rattle.gui_layout.specs.SettledBut.{AreRightBut, AreSettledButMarks, Differs
 use Rattle.gui_layout.specs.Solved.{AreSettled}
 use Rattle.gui_layout.specs.Settles.{known_in}
 use Rattle.gui_layout.proofs.Marking.{but-alike, fill-fewer, fits-left, left-graded, marked-has, natural-others, steady-is}
-use Rattle.gui_layout.proofs.Parts.{IsDistinct, IsPart, below, beside, distinct_once, found, has-part, here, part_below, part_beside, part_children, there as there_in, whole}
+use Rattle.gui_tree.proofs.Parts.{IsDistinct, IsPart, below, beside, distinct_once, found, has-part, here, part_below, part_beside, part_children, there as there_in, whole}
 use Rattle.gui_layout.proofs.Renewals.{some-box}
 use Rattle.gui_layout.specs.Scrolled.{scrolled_known}
 use Rattle.gui_layout.proofs.Overs.{kids-same, root-in}

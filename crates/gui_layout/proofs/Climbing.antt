@@ -1,19 +1,14 @@
 -- What stands above an object, by its handle.
 use Rattle.std.proofs.Common.{◌≡◌, ◌∙◌, sym, ap, ℕ, ◌<◌, true, false, ◌⊎◌, List, ◌∷◌, length, Option, Some, None, inl, inr, arith}
 use Rattle.std.specs.Prelude.{option_map}
-use Rattle.gui_base.specs.Forest.{Forest, Empty, StandsOnce, has, tree_at, parent_of, path_of}
+use Rattle.gui_base.specs.Forest.{Forest, StandsOnce, has, tree_at, parent_of, path_of}
 use Rattle.gui_base.specs.declared.Handle.{Handle}
 use Rattle.gui_tree.specs.Handles.{as_handle}
-use Rattle.gui_store.proofs.Paths.{goes_up, rest_at}
+use Rattle.gui_tree.proofs.Below.{own_tree}
+use Rattle.gui_tree.proofs.Paths.{goes_up, path_from}
 use Rattle.gui_layout.specs.Frames.{Encloses}
-use Rattle.gui_layout.proofs.Parts.{there, found, distinct_once, here}
+use Rattle.gui_tree.proofs.Parts.{distinct_once}
 use Rattle.gui_layout.proofs.Settling.{parent-in, parent-out, tree-there}
-
-pub in_own_tree : (f : Forest ℕ) (h : ℕ) → StandsOnce f → has f h ≡ true → has (tree_at f h) h ≡ true
-in_own_tree f h once is =
-    let at = there f h is in
-    let known = found at.part (distinct_once f once) in
-    rw known.tree (here h at.children Empty)
 
 number : (o : Option ℕ) (p : Handle) → Some p ≡ option_map as_handle o → o ≡ Some p.0
 number None p e = cc
@@ -31,11 +26,11 @@ pub is_above : (f : Forest ℕ) (h : ℕ) (p : Handle) → StandsOnce f → has 
 is_above f h p once is up =
     let parent = number (parent_of f h) p up in
     let distinct = distinct_once f once in
-    let path : path_of f h ≡ h ∷ path_of f p.0 = (goes_up f h once is).path ∙ ap (λ (o : Option Handle). h ∷ rest_at f o) (sym up) in
+    let path : path_of f h ≡ h ∷ path_of f p.0 = (goes_up f h once is).path ∙ ap (λ (o : Option Handle). h ∷ path_from o f) (sym up) in
     let shorter : length (path_of f p.0) < length (path_of f h) = omega (arith, ap (λ (hs : List ℕ). length hs) path) in
     record {
       parent = parent;
-      there = tree-there p.0 h f (inside h (in_own_tree f h once is));
+      there = tree-there p.0 h f (inside h (own_tree f h is));
       encloses = inside;
       out = parent-out h p.0 None f distinct is parent (λ e. absurd (no_parent e));
       higher = shorter;

@@ -25,9 +25,9 @@ use Rattle.gui_layout.specs.Listing.{AreProper}
 use Rattle.gui_layout.specs.Scenes.{scene_box}
 use Rattle.gui_layout.specs.Slots.{HoldsPlaced, slot_of}
 use Rattle.gui_layout.specs.Tables.{area_in, slot_or, told, width_or}
-use Rattle.gui_layout.specs.Walks.{trees_from}
+use Rattle.gui_tree.specs.Walks.{trees_from}
 use Rattle.gui_layout.proofs.Listed.{told_at}
-use Rattle.gui_layout.proofs.Parts.{distinct_once, first_of, trees_from-first_of, whole}
+use Rattle.gui_tree.proofs.Parts.{distinct_once, first_of, trees_from-first_of, whole}
 use Rattle.gui_layout.proofs.SceneBoxes.{boxes_are, scene_named}
 use Rattle.gui_layout.proofs.Solves.{handles_solved, placed_handle}
 use Rattle.gui_layout.proofs.These.{proper_of}

@@ -2,14 +2,14 @@
 use Rattle.std.proofs.Common.{◌≡◌, ◌∙◌, refl, ap, subst, ℕ, true, false, cond, eqb, eq-eqb, inl, inr}
 use Rattle.std.specs.Prelude.{Option, Some, None, IsSome}
 use Rattle.std.proofs.lemmas.Bool.{cases_Bool, eqb-true, both_ways, false_from_ne_true, false≢true}
-use Rattle.gui_base.specs.Forest.{Forest, StandsOnce, has, tree_at}
+use Rattle.gui_base.specs.Forest.{Forest, has, tree_at}
 use Rattle.gui_pool.specs.Table.{Table, value_at, value_replaced}
+use Rattle.gui_tree.proofs.Below.{own_tree}
 use Rattle.gui_layout.specs.declared.mark.Mark.{Mark}
 use Rattle.gui_layout.specs.declared.mark.Mark.TheVariants.{Settled}
 use Rattle.gui_layout.specs.Pending.{is_all, is_pending}
 use Rattle.gui_layout.specs.Tables.{listing_of}
 use Rattle.gui_layout.proofs.Listed.{listed_replaced, some_listed}
-use Rattle.gui_layout.proofs.Climbing.{in_own_tree}
 use Rattle.gui_layout.proofs.These.{value-set, within_of}
 
 abbrev pub IsFinished : Table Mark → ℕ → Type 0
@@ -42,8 +42,8 @@ finishes t h some =
     }
 
 -- what stands outside of an object's tree is another
-pub not-own : (f : Forest ℕ) (h k : ℕ) → StandsOnce f → has f h ≡ true → has (tree_at f h) k ≡ false → eqb h k ≡ false
-not-own f h k once is out = false_from_ne_true (eqb h k) (λ e. both_ways (has (tree_at f h) k) out (subst (λ m. has (tree_at f h) m ≡ true) (eqb-true h k e) (in_own_tree f h once is)))
+pub not-own : (f : Forest ℕ) (h k : ℕ) → has f h ≡ true → has (tree_at f h) k ≡ false → eqb h k ≡ false
+not-own f h k is out = false_from_ne_true (eqb h k) (λ e. both_ways (has (tree_at f h) k) out (subst (λ m. has (tree_at f h) m ≡ true) (eqb-true h k e) (own_tree f h is)))
 
 pub keeps-finished : (old new : Table Mark) (t : Forest ℕ) → AreFinished new t → ((k : ℕ) → has t k ≡ false → is_pending new k ≡ is_pending old k) → KeepsFinished old new
 keeps-finished old new t own rest k is = elim (cases_Bool (has t k)) [ inl i ↦ own k i | inr out ↦ rest k out ∙ is ]

@@ -14,7 +14,7 @@ use Rattle.gui_layout.specs.Kids.{tall_kid}
 use Rattle.gui_layout.specs.declared.layout_box.LayoutBox.{LayoutBox}
 use Rattle.gui_layout.specs.Views.{box_of, box_at}
 use Rattle.gui_layout.specs.Slots.{tall_at, talls, flow_item, item_slot, arranged, at_roots, IsClose, Deals}
-use Rattle.gui_layout.proofs.Parts.{IsDistinct}
+use Rattle.gui_tree.proofs.Parts.{IsDistinct}
 use Rattle.gui_layout.proofs.Finds.{keeps_none, keeps_same, keeps_first, keeps_top}
 use Rattle.gui_layout.proofs.Kids.{named}
 use Rattle.gui_layout.proofs.Lists.{map-in_order}

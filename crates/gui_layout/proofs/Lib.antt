@@ -7,7 +7,6 @@ pub mod Leaving
 pub mod Adding
 pub mod Renewing
 pub mod Listed
-pub mod Parts
 pub mod Sums
 pub mod Kids
 pub mod Finds
@@ -23,7 +22,6 @@ pub mod Heightens
 pub mod Columns
 pub mod Bridges
 pub mod OwnHeights
-pub mod Within
 pub mod Solves
 pub mod Fitting
 pub mod Filled

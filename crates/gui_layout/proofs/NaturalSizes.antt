@@ -21,7 +21,7 @@ use Rattle.gui_layout.proofs.Apart.{none-of, placed-marked, there, wide-marked, 
 use Rattle.gui_layout.proofs.Entering.{boxed_are, row_none}
 use Rattle.gui_layout.proofs.Fitting.{settled_high, settled_wide}
 use Rattle.gui_layout.proofs.Listed.{told_at}
-use Rattle.gui_layout.proofs.Parts.{distinct_once}
+use Rattle.gui_tree.proofs.Parts.{distinct_once}
 use Rattle.gui_layout.proofs.Solves.{placed_handle}
 
 abbrev sizes_told : Layout → ℕ → Sizes

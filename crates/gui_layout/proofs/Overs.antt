@@ -1,6 +1,7 @@
 -- How far children reach around the trees that were solved.
 use Rattle.std.proofs.Common.{◌≡◌, ◌∙◌, ◌<◌, ◌+◌, refl, sym, ap, subst, ℕ, Bool, true, false, eqb, eq-eqb, cond, ◌||◌, inl, inr, List, [], ◌∷◌, ◌++◌, Option, Some, None, option_map, arith}
 use Rattle.std.proofs.lemmas.Bool.{cases_Bool, eqb-true, both_ways, false_from_ne_true, or_cases, or_left, or_right, or_parts, false≢true}
+use Rattle.gui_tree.proofs.Below.{own_tree}
 use Rattle.gui_base.specs.Forest.{Forest, Empty, Tree, StandsOnce, has, tree_at, children_of, parent_of, parent_by, roots, map_forest}
 use Rattle.gui_base.specs.declared.Handle.{Handle}
 use Rattle.gui_tree.specs.Handles.{as_handle}
@@ -19,8 +20,8 @@ use Rattle.gui_layout.specs.Settles.{LetsStand, SolvesTree, known_in}
 use Rattle.gui_layout.specs.Solved.{layout_of}
 use Rattle.gui_layout.specs.Tops.{ScrollsAt, in_trees_at, is_it, is_over}
 use Rattle.gui_layout.specs.Views.{box_at}
-use Rattle.gui_layout.proofs.Climbing.{in_own_tree, is_above}
-use Rattle.gui_layout.proofs.Parts.{IsDistinct, distinct_once}
+use Rattle.gui_layout.proofs.Climbing.{is_above}
+use Rattle.gui_tree.proofs.Parts.{IsDistinct, distinct_once}
 use Rattle.gui_layout.proofs.Settling.{is_at, parent-root, root-has, root-out, tree-in}
 use Rattle.gui_layout.proofs.Solves.{rest_same}
 use Rattle.gui_layout.proofs.Stepping.{mark-inside, marked-fewer}
@@ -252,7 +253,7 @@ module _ (scene : Scene) where
     marked = λ v q some up k is.
         let up_u : parent_of f u.0 ≡ Some q = ap (parent_of f) (only u v some) ∙ up in
         let above = is_above f u.0 (as_handle q) once tree.there (sym (ap (option_map as_handle) up_u)) in
-        mark-inside m h q k f on (above.encloses h (tree.encloses h (in_own_tree f h once there))) is;
+        mark-inside m h q k f on (above.encloses h (tree.encloses h (own_tree f h there))) is;
   }
 
   pub scrolls-then : StandsOnce f → (a b c : Places) (m n : ℕ → Bool) (us vs : List Handle) → ((k : ℕ) → n k ≡ true → m k ≡ true) → ScrollsAt a b scene m us → ScrollsAt b c scene n vs → ScrollsAt a c scene m (us ++ vs)

@@ -19,7 +19,7 @@ use Rattle.gui_layout.specs.Scenes.{scene_box}
 use Rattle.gui_layout.specs.Slots.{HoldsSlots, talls, tall_at}
 use Rattle.gui_layout.specs.Talls.{HoldsNaturalHeights, heights_of, widened_at}
 use Rattle.gui_layout.specs.Views.{axis_of, box_of, box_or, box_at}
-use Rattle.gui_layout.proofs.Parts.{here}
+use Rattle.gui_tree.proofs.Parts.{here}
 use Rattle.gui_layout.proofs.These.{value-set}
 
 -- what a table holds of rows that are made of others

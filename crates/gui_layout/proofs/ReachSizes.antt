@@ -25,7 +25,7 @@ use Rattle.gui_layout.proofs.Apart.{none-of, placed-marked, there}
 use Rattle.gui_layout.proofs.Entering.{boxed_are, row_none}
 use Rattle.gui_layout.proofs.Fitting.{settled_scrolled, tall_roots}
 use Rattle.gui_layout.proofs.Listed.{told_at}
-use Rattle.gui_layout.proofs.Parts.{IsPart, distinct_once, found, here, part_below, part_beside, whole}
+use Rattle.gui_tree.proofs.Parts.{IsPart, distinct_once, found, here, part_below, part_beside, whole}
 use Rattle.gui_layout.proofs.Solves.{placed_handle}
 
 -- What is right of each object of trees, a table holds of them.

@@ -8,7 +8,7 @@ use Rattle.layout_defs.specs.Solving.{Tall, Slot, Span, nowhere, no_span, room_o
 use Rattle.layout_defs.specs.Tables.{KeepsOthers}
 use Rattle.gui_layout.specs.Slots.{tall_at, talls, at_roots}
 use Rattle.gui_layout.specs.Scrolls.{Scrolled, HoldsScrolls, not_scrolled, scrolled_by, scrolled_in}
-use Rattle.gui_layout.proofs.Parts.{IsDistinct}
+use Rattle.gui_tree.proofs.Parts.{IsDistinct}
 use Rattle.gui_layout.proofs.Finds.{keeps_none, keeps_first, apart}
 use Rattle.gui_layout.proofs.Stands.{Stands, stands_none, stands_first, stands_top, stands_leaf}
 

@@ -28,7 +28,7 @@ use Rattle.gui_layout.proofs.Alike.{inside-alike}
 use Rattle.gui_layout.proofs.Fitting.{tall_roots}
 use Rattle.gui_layout.proofs.Marking.{left-fits, steady-is}
 use Rattle.gui_layout.proofs.Overs.{kid-over, over-is, root-in, scrolled-same}
-use Rattle.gui_layout.proofs.Parts.{distinct_once}
+use Rattle.gui_tree.proofs.Parts.{distinct_once}
 
 -- no child has changed where none is marked
 pub unmarked-root : (m : ℕ → Bool) (g : Forest ℕ) (j : ℕ) → is_any_root m g ≡ false → is_root j g ≡ true → m j ≡ false

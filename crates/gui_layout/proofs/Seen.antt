@@ -9,7 +9,7 @@ use Rattle.gui_base.proofs.Visits.{IsDistinct, distinct_once}
 use Rattle.gui_base.proofs.Forests.{map-parent_by}
 use Rattle.gui_base.specs.declared.Handle.{Handle}
 use Rattle.gui_tree.specs.Handles.{as_handle}
-use Rattle.gui_store.proofs.Paths.{goes_up, rest_at}
+use Rattle.gui_tree.proofs.Paths.{goes_up, path_from}
 use Rattle.scene_defs.specs.declared.Row.{Row}
 use Rattle.scene_defs.specs.Place.{panel_of, place}
 use Rattle.scene_defs.specs.Valid.{IsValid}
@@ -283,5 +283,5 @@ module _ (scene : Scene) (valid : IsValid scene) where
       let above : Some p ≡ option_map as_handle (parent_of (handles_of scene.trees) h.0) = up_is ∙ ap (λ (f : Forest ℕ). option_map as_handle (parent_of f h.0)) same in
       let is_there = (row_found scene h.0 row e).0 in
       let up = goes_up (handles_of scene.trees) h.0 valid.trees.once is_there in
-      let path : path_of (handles_of scene.trees) h.0 ≡ h.0 ∷ path_of (handles_of scene.trees) p.0 = up.path ∙ ap (λ (o : Option Handle). h.0 ∷ rest_at (handles_of scene.trees) o) (sym above) in
+      let path : path_of (handles_of scene.trees) h.0 ≡ h.0 ∷ path_of (handles_of scene.trees) p.0 = up.path ∙ ap (λ (o : Option Handle). h.0 ∷ path_from o (handles_of scene.trees)) (sym above) in
       omega (arith, ap (λ (hs : List ℕ). length hs) path)

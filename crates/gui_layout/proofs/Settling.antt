@@ -11,7 +11,7 @@ use Rattle.layout_defs.proofs.Scrolling.{still_stands_flat}
 use Rattle.gui_layout.specs.Settled.{Known, wide_of, tall_of, width_of, slot_of, Fits, StandsFree, IsSteady, is_content}
 pub use Rattle.gui_layout.specs.Marked.{is_root}
 use Rattle.gui_layout.proofs.Lists.{dealt-none}
-use Rattle.gui_layout.proofs.Parts.{IsDistinct}
+use Rattle.gui_tree.proofs.Parts.{IsDistinct}
 
 -- Roots and trees.
 

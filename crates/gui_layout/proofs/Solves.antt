@@ -11,7 +11,7 @@ use Rattle.gui_layout.specs.Layouts.{KeepsRest}
 use Rattle.gui_layout.specs.Scrolls.{HoldsScrolls, not_scrolled, scrolled_at, scrolled_in}
 use Rattle.gui_layout.proofs.Fitting.{tall_roots}
 use Rattle.gui_layout.specs.Settled.{Layout, Known, tall_of, known_at, known, IsSettled}
-use Rattle.gui_layout.proofs.Parts.{IsDistinct}
+use Rattle.gui_tree.proofs.Parts.{IsDistinct}
 use Rattle.gui_layout.proofs.Finds.{keeps_none, keeps_first, elsewhere, widths-handles}
 
 abbrev wide_handle : Wide → ℕ

@@ -21,7 +21,7 @@ use Rattle.gui_layout.specs.Solved.{layout_of}
 use Rattle.gui_layout.specs.Views.{box_at}
 use Rattle.gui_layout.proofs.Marking.{Stays, fill-step, step}
 use Rattle.gui_layout.proofs.OwnHeights.{tree_first}
-use Rattle.gui_layout.proofs.Parts.{distinct_once}
+use Rattle.gui_tree.proofs.Parts.{distinct_once}
 use Rattle.gui_layout.proofs.Renewals.{room-same, steady-same}
 use Rattle.gui_layout.proofs.Settling.{parent-root, root-out, tree-in}
 use Rattle.gui_layout.proofs.Solves.{rest_same}

@@ -9,7 +9,6 @@ pub mod Scrolls
 pub mod Talls
 pub mod Tables
 pub mod Listing
-pub mod Walks
 pub mod Scenes
 pub mod OwnHeights
 pub mod Kids

@@ -1,6 +1,6 @@
 //! All roots.
 ghost use Rattle.std.specs.Prelude.{◌≡◌, ◌≤◌, length};
-ghost use Rattle.gui_base.specs.Forest.{StandsOnce, size};
+ghost use Rattle.gui_base.specs.Forest.{size};
 ghost use Rattle.gui_base.specs.Forest.{height as levels_of};
 ghost use Rattle.gui_store.specs.Views.{scene_of};
 ghost use Rattle.gui_layout.specs.Scenes.{scene_box, HoldsBoxes};
@@ -26,7 +26,6 @@ pub(crate) fn solve_trees(
     width: Size,
     height: Size,
 )
-    requires once { StandsOnce tree.now.forest }
     requires boxes { HoldsBoxes (told entries.old).boxes (scene_of store.now) }
     requires listed { AreListed (listing_of entries.old) tree.now.forest }
     requires few { size tree.now.forest ≤ 4000 }
@@ -40,8 +39,7 @@ pub(crate) fn solve_trees(
     ensures boxes { HoldsBoxes (told entries.new).boxes (scene_of store.now) }
     ensures listed { listing_of entries.new ≡ listing_of entries.old }
 {
-    let mut next = tree.first_root();
-    while let Some(root) = next {
+    for root in tree.roots() {
         solve_tree(
             tree,
             store,
@@ -50,6 +48,5 @@ pub(crate) fn solve_trees(
             root,
             Frame::Panel(width, height),
         );
-        next = tree.next(root);
     }
 }

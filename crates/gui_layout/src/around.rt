@@ -54,7 +54,6 @@ pub(crate) fn renew_parents(tree: &Tree, entries: &mut Table<Entry>, tops: &[Han
 
 /// Finds anew how far the children reach of an object, if it is there and moves none.
 fn renew_there(tree: &Tree, entries: &mut Table<Entry>, h: Handle)
-    requires once { StandsOnce tree.now.forest }
     requires listed { has tree.now.forest h.0 ≡ true →
         AreListed (listing_of entries.old) (tree_at tree.now.forest h.0) }
     ensures own { has tree.now.forest h.0 ≡ true → (box_at (told entries.old).boxes h.0).scrollable ≡ false →
@@ -71,7 +70,6 @@ fn renew_there(tree: &Tree, entries: &mut Table<Entry>, h: Handle)
 
 /// Finds anew how far the children reach of these objects, of those that are there and move none.
 pub(crate) fn renew_all_there(tree: &Tree, entries: &mut Table<Entry>, marked: &[Handle])
-    requires once { StandsOnce tree.now.forest }
     requires listed { (k : ℕ) → 0 < times marked.now k → has tree.now.forest k ≡ true →
         AreListed (listing_of entries.old) (tree_at tree.now.forest k) }
     ensures own { (k : ℕ) → 0 < times marked.now k → has tree.now.forest k ≡ true →

@@ -1,7 +1,7 @@
 //! Natural heights.
 ghost use Rattle.std.specs.Prelude.{◌≡◌, ◌≤◌, ◌<◌, ◌+◌, true, length, map};
 ghost use Rattle.std.specs.Prelude.{slice_index};
-ghost use Rattle.gui_base.specs.Forest.{StandsOnce, has, size, tree_at};
+ghost use Rattle.gui_base.specs.Forest.{has, size, tree_at};
 ghost use Rattle.layout_defs.specs.declared.Course.TheVariants.{Across};
 ghost use Rattle.layout_defs.specs.Flex.{spanned, thickness, tracks};
 ghost use Rattle.layout_defs.specs.Boxes.{course_of, inner, is_reversed, wraps};
@@ -55,7 +55,6 @@ fn row_height(
     h: Handle,
     own: &Entry,
 ) -> u32
-    requires once { StandsOnce tree.now.forest }
     requires few { size tree.now.forest ≤ 4000 }
     requires found { BelowHaveHeights (told entries.now) tree.now.forest h.0 }
     requires enough { size tree.now.forest ≤ length items.old }
@@ -85,7 +84,6 @@ fn kids_height(
     own: &Entry,
     row: Row,
 ) -> u32
-    requires once { StandsOnce tree.now.forest }
     requires few { size tree.now.forest ≤ 4000 }
     requires found { BelowHaveHeights (told entries.now) tree.now.forest h.0 }
     requires enough { size tree.now.forest ≤ length items.old }
@@ -117,7 +115,6 @@ fn natural_height(
     own: &Entry,
     row: Row,
 ) -> u16
-    requires once { StandsOnce tree.now.forest }
     requires few { size tree.now.forest ≤ 4000 }
     requires found { BelowHaveHeights (told entries.now) tree.now.forest h.0 }
     requires enough { size tree.now.forest ≤ length items.old }
@@ -140,7 +137,6 @@ pub(crate) fn find_natural_heights(
     items: &mut [FlexItem],
     h: Handle,
 ) -> u16
-    requires once { StandsOnce tree.now.forest }
     requires listed { AreListed (listing_of entries.old) (tree_at tree.now.forest h.0) }
     requires few { size tree.now.forest ≤ 4000 }
     requires there { has tree.now.forest h.0 ≡ true }
@@ -156,12 +152,10 @@ pub(crate) fn find_natural_heights(
 {
     let run = run_down(course_of(entry_of(entries, h).wanted.flow));
     let mut row = no_kids();
-    let mut next = tree.first_child(h);
-    while let Some(child) = next {
+    for child in tree.children(h) {
         let natural = find_natural_heights(tree, entries, items, child);
         let kid = entry_of(entries, child);
         row = with_kid(row, run, &kid.wanted, &kid.wanted.down, natural);
-        next = tree.next(child);
     }
     let own = entry_of(entries, h);
     let natural = natural_height(tree, entries, items, h, own, row);

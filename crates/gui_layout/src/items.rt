@@ -1,6 +1,6 @@
 //! The children that take part in a flow, as its items.
 ghost use Rattle.std.specs.Prelude.{◌≡◌, ◌≤◌, ◌<◌, ◌+◌, ◌∷◌, ◌++◌, [], ℕ, length, map, take};
-ghost use Rattle.gui_base.specs.Forest.{StandsOnce, size, tree_at};
+ghost use Rattle.gui_base.specs.Forest.{size, tree_at};
 ghost use Rattle.layout_defs.specs.Solving.{taking_part, in_order};
 ghost use Rattle.gui_flex.specs.Items.{items_of, item_of};
 ghost use Rattle.gui_layout.specs.Slots.{item_in};
@@ -85,7 +85,6 @@ pub(crate) fn fill_items(
     h: Handle,
     sizing: Sizing,
 ) -> usize
-    requires once { StandsOnce tree.now.forest }
     requires few { size tree.now.forest ≤ 4000 }
     requires enough { size tree.now.forest ≤ length items.old }
     requires listed { AreListed (listing_of entries.now) (tree_at tree.now.forest h.0) }
@@ -95,10 +94,8 @@ pub(crate) fn fill_items(
     ensures few { result ≤ 4000 }
 {
     let mut count = 0;
-    let mut next = tree.first_child(h);
-    while let Some(child) = next {
+    for child in tree.children(h) {
         count = put_kid(items, count, entry_of(entries, child), sizing);
-        next = tree.next(child);
     }
     count
 }

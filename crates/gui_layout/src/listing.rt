@@ -1,32 +1,27 @@
 //! The objects that have entries.
 ghost use Rattle.std.specs.Prelude.{◌≡◌, ◌≤◌, ◌<◌, ◌+◌, ◌++◌, [], ℕ, true, None, length, vec_len};
 ghost use Rattle.std.specs.Prelude.{vec_capacity};
-ghost use Rattle.std.specs.Option.{ForSome, option_to_list};
-ghost use Rattle.gui_base.specs.Forest.{StandsOnce, has, preorder, size};
+ghost use Rattle.std.specs.Option.{option_to_list};
+ghost use Rattle.gui_base.specs.Forest.{preorder, size};
 ghost use Rattle.gui_pool.specs.Table.{value_at, value_inserted};
 ghost use Rattle.gui_tree.specs.Handles.{numbers};
 ghost use Rattle.gui_layout.specs.Listing.{AreProper, HasThese};
-ghost use Rattle.gui_layout.specs.Walks.{trees_from};
 
 use gui_base::Handle;
 use gui_pool::Table;
-use gui_tree::Tree;
+use gui_tree::{Children, Tree};
 
-/// Lists an object and those beside it after it, each before those below it.
-pub(crate) fn list_trees(tree: &Tree, listed: &mut Vec<Handle>, first: Option<Handle>)
-    requires once { StandsOnce tree.now.forest }
-    requires there { ForSome first (λ h. has tree.now.forest h.0 ≡ true) }
-    requires room { vec_len listed.old + size (trees_from first tree.now.forest) ≤ vec_capacity listed.old }
-    ensures listed { numbers listed.new.items
-        ≡ numbers listed.old.items ++ preorder (trees_from first tree.now.forest) }
-    ensures len { vec_len listed.new ≡ vec_len listed.old + size (trees_from first tree.now.forest) }
+/// Lists these trees after what is listed, each object before those below it.
+pub(crate) fn list_trees(tree: &Tree, listed: &mut Vec<Handle>, trees: Children<'_>)
+    requires same { trees.forest ≡ tree.now.forest }
+    requires room { vec_len listed.old + size trees.left ≤ vec_capacity listed.old }
+    ensures listed { numbers listed.new.items ≡ numbers listed.old.items ++ preorder trees.entry.left }
+    ensures len { vec_len listed.new ≡ vec_len listed.old + size trees.entry.left }
     ensures capacity { vec_capacity listed.new ≡ vec_capacity listed.old }
 {
-    let mut next = first;
-    while let Some(h) = next {
+    for h in trees {
         listed.push_reserved(h);
-        list_trees(tree, listed, tree.first_child(h));
-        next = tree.next(h);
+        list_trees(tree, listed, tree.children(h));
     }
 }
 

@@ -1,6 +1,6 @@
 //! Natural widths.
 ghost use Rattle.std.specs.Prelude.{◌≡◌, ◌≤◌, ℕ, true, List};
-ghost use Rattle.gui_base.specs.Forest.{StandsOnce, has, size, tree_at};
+ghost use Rattle.gui_base.specs.Forest.{has, size, tree_at};
 ghost use Rattle.layout_defs.specs.Boxes.{course_of};
 ghost use Rattle.layout_defs.specs.Solving.{Wide, natural_width};
 ghost use Rattle.layout_defs.specs.Tables.{KeepsOthers};
@@ -34,7 +34,6 @@ fn natural_width(own: &LayoutBox, row: Row) -> u16
 
 /// Finds the natural widths of an object and of all below it, children first. It answers that of the object.
 pub(crate) fn find_natural_widths(tree: &Tree, entries: &mut Table<Entry>, h: Handle) -> u16
-    requires once { StandsOnce tree.now.forest }
     requires listed { AreListed (listing_of entries.old) (tree_at tree.now.forest h.0) }
     requires few { size tree.now.forest ≤ 4000 }
     requires there { has tree.now.forest h.0 ≡ true }
@@ -49,12 +48,10 @@ pub(crate) fn find_natural_widths(tree: &Tree, entries: &mut Table<Entry>, h: Ha
 {
     let run = run_across(course_of(entry_of(entries, h).wanted.flow));
     let mut row = no_kids();
-    let mut next = tree.first_child(h);
-    while let Some(child) = next {
+    for child in tree.children(h) {
         let natural = find_natural_widths(tree, entries, child);
         let kid = entry_of(entries, child);
         row = with_kid(row, run, &kid.wanted, &kid.wanted.across, natural);
-        next = tree.next(child);
     }
     let own = entry_of(entries, h);
     let natural = natural_width(&own.wanted, row);

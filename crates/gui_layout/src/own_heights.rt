@@ -1,6 +1,6 @@
 //! Own heights, at the widths that were found.
 ghost use Rattle.std.specs.Prelude.{◌≡◌, true};
-ghost use Rattle.gui_base.specs.Forest.{StandsOnce, has, tree_at};
+ghost use Rattle.gui_base.specs.Forest.{has, tree_at};
 ghost use Rattle.gui_store.specs.Views.{scene_of};
 ghost use Rattle.gui_layout.specs.Layouts.{ButBoxes};
 ghost use Rattle.gui_layout.specs.OwnHeights.{IsFixed, AreFixed, KeepsFixed};
@@ -40,7 +40,6 @@ fn set_own_height(entries: &mut Table<Entry>, store: &Store, h: Handle)
 
 /// Sets the own heights of an object and of all below it, whose widths are found.
 pub(crate) fn set_own_heights(tree: &Tree, entries: &mut Table<Entry>, store: &Store, h: Handle)
-    requires once { StandsOnce tree.now.forest }
     requires listed { AreListed (listing_of entries.old) (tree_at tree.now.forest h.0) }
     requires there { has tree.now.forest h.0 ≡ true }
     requires boxes { AreRenewed (scene_of store.now) (told entries.old).boxes
@@ -54,9 +53,7 @@ pub(crate) fn set_own_heights(tree: &Tree, entries: &mut Table<Entry>, store: &S
     ensures listed { listing_of entries.new ≡ listing_of entries.old }
 {
     set_own_height(entries, store, h);
-    let mut next = tree.first_child(h);
-    while let Some(child) = next {
+    for child in tree.children(h) {
         set_own_heights(tree, entries, store, child);
-        next = tree.next(child);
     }
 }

@@ -1,6 +1,6 @@
 //! Marks that are still to be settled.
 ghost use Rattle.std.specs.Prelude.{◌≡◌, ℕ, true, false, eqb, is_some};
-ghost use Rattle.gui_base.specs.Forest.{StandsOnce, has, tree_at};
+ghost use Rattle.gui_base.specs.Forest.{has, tree_at};
 ghost use Rattle.gui_pool.specs.Table.{value_at};
 ghost use Rattle.gui_layout.specs.Pending.{is_partly, is_pending};
 ghost use Rattle.gui_layout.specs.Tables.{listing_of};
@@ -50,7 +50,6 @@ fn finish(pending: &mut Table<Mark>, h: Handle)
 
 /// What the marks of an object and of all below it concern is settled.
 pub(crate) fn finish_tree(tree: &Tree, pending: &mut Table<Mark>, h: Handle)
-    requires once { StandsOnce tree.now.forest }
     requires there { has tree.now.forest h.0 ≡ true }
     ensures own { (k : ℕ) → has (tree_at tree.now.forest h.0) k ≡ true → is_pending pending.new k ≡ false }
     ensures rest { (k : ℕ) → has (tree_at tree.now.forest h.0) k ≡ false →
@@ -58,9 +57,7 @@ pub(crate) fn finish_tree(tree: &Tree, pending: &mut Table<Mark>, h: Handle)
     ensures listed { listing_of pending.new ≡ listing_of pending.old }
 {
     finish(pending, h);
-    let mut next = tree.first_child(h);
-    while let Some(child) = next {
+    for child in tree.children(h) {
         finish_tree(tree, pending, child);
-        next = tree.next(child);
     }
 }

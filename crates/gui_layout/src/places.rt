@@ -812,7 +812,7 @@ impl Places {
     {
         let tree = store.tree();
         self.found.clear();
-        list_trees(tree, &mut self.found, tree.first_root());
+        list_trees(tree, &mut self.found, tree.roots());
         if !are_same(self.listed.as_slice(), self.found.as_slice()) {
             self.replace_entries();
         }

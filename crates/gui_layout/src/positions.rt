@@ -212,7 +212,6 @@ fn place_flow(
     own: &LayoutBox,
     inside: Inside,
 ) -> usize
-    requires once { StandsOnce tree.now.forest }
     requires few { size tree.now.forest ≤ 4000 }
     requires enough { size tree.now.forest ≤ length items.old }
     requires listed { AreListed (listing_of entries.now) (tree_at tree.now.forest h.0) }
@@ -255,7 +254,6 @@ fn deal_positions(
     course: Course,
     inside: Inside,
 )
-    requires once { StandsOnce tree.now.forest }
     requires listed { AreListed (listing_of entries.old) (tree_at tree.now.forest h.0) }
     ensures deals { Deals (box_at (told entries.old).boxes) (told entries.old).widths
         (told entries.old).natural_heights (room_in inside) (told entries.old).slots (told entries.new).slots
@@ -263,13 +261,11 @@ fn deal_positions(
     ensures rest { ButSlots (told entries.old) (told entries.new) }
     ensures listed { listing_of entries.new ≡ listing_of entries.old }
 {
-    let mut next = tree.first_child(h);
     let mut i = 0;
-    while let Some(child) = next {
+    for child in tree.children(h) {
         let (position, later) = dealt_position(entry_of(entries, child), course, inside, items, i);
         set_position(entries, child, position);
         i = later;
-        next = tree.next(child);
     }
 }
 
@@ -300,7 +296,6 @@ fn move_kids(
     inside: Inside,
     offset: Offset,
 )
-    requires once { StandsOnce tree.now.forest }
     requires listed { AreListed (listing_of entries.old) (tree_at tree.now.forest h.0) }
     requires left { pos 0 ≤ℤ (inside.x +ℤ pos 940000000) }
     requires top { pos 0 ≤ℤ (inside.y +ℤ pos 940000000) }
@@ -401,9 +396,7 @@ pub(crate) fn find_places(
         return;
     }
     set_kid_positions(tree, entries, items, h);
-    let mut next = tree.first_child(h);
-    while let Some(child) = next {
+    for child in tree.children(h) {
         find_places(tree, entries, items, child);
-        next = tree.next(child);
     }
 }

@@ -1,7 +1,7 @@
 //! How far the children of an object reach out of its content area, and how far it moves them.
 ghost use Rattle.std.specs.Prelude.{◌≡◌, ◌≤◌, ◌-ℤ◌, ◌+ℤ◌, ◌≤ℤ◌, ℕ, eqb, false, true, max, min, negsuc, pos, if◌then◌else◌};
 ghost use Rattle.gui_base.specs.Area.{nat_of};
-ghost use Rattle.gui_base.specs.Forest.{StandsOnce, children_of, has, tree_at};
+ghost use Rattle.gui_base.specs.Forest.{children_of, has, tree_at};
 ghost use Rattle.layout_defs.specs.Scrolling.{moved_room};
 ghost use Rattle.layout_defs.specs.Solving.{end_across, end_down, no_span, offset_of, reach_in, room_of};
 ghost use Rattle.gui_layout.specs.Around.{IsFlat, ReadsReaches};
@@ -88,7 +88,6 @@ fn farther(kid: &Entry, x: i32, y: i32, ends: Reach) -> Reach
 /// How far the children of an object reach out of its content area from where they stand. Hidden ones do not
 /// count.
 pub(crate) fn reach_of(tree: &Tree, entries: &Table<Entry>, h: Handle) -> Reach
-    requires once { StandsOnce tree.now.forest }
     requires there { has tree.now.forest h.0 ≡ true }
     requires listed { AreListed (listing_of entries.now) (tree_at tree.now.forest h.0) }
     ensures { span_of result ≡ reach_in
@@ -103,10 +102,8 @@ pub(crate) fn reach_of(tree: &Tree, entries: &Table<Entry>, h: Handle) -> Reach
     let wide = inner(&own.wanted.across, own.width.pixels);
     let high = inner(&own.wanted.down, own.position.height);
     let mut ends = Reach { across: 0, down: 0 };
-    let mut next = tree.first_child(h);
-    while let Some(child) = next {
+    for child in tree.children(h) {
         ends = farther(entry_of(entries, child), x, y, ends);
-        next = tree.next(child);
     }
     Reach {
         across: ends.across.saturating_sub(wide as u32),
@@ -180,7 +177,6 @@ pub(crate) fn moved_inside(inside: Inside, offset: Offset) -> Inside
 
 /// Finds anew how far the children of an object reach, unless it may move them.
 pub(crate) fn renew_reach(tree: &Tree, entries: &mut Table<Entry>, h: Handle)
-    requires once { StandsOnce tree.now.forest }
     requires there { has tree.now.forest h.0 ≡ true }
     requires listed { AreListed (listing_of entries.old) (tree_at tree.now.forest h.0) }
     ensures own { (box_at (told entries.old).boxes h.0).scrollable ≡ false →

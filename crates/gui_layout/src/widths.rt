@@ -1,7 +1,7 @@
 //! Widths, downward.
 ghost use Rattle.std.specs.Prelude.{◌≡◌, ◌≤◌, ◌<◌, ◌+◌, ◌∷◌, [], ℕ, List, true, length, map, take, drop};
 ghost use Rattle.std.specs.Prelude.{slice_index};
-ghost use Rattle.gui_base.specs.Forest.{StandsOnce, has, roots, size, tree_at, children_of};
+ghost use Rattle.gui_base.specs.Forest.{has, roots, size, tree_at, children_of};
 ghost use Rattle.layout_defs.specs.Flex.{shared};
 ghost use Rattle.layout_defs.specs.Boxes.{course_of, wraps, is_reversed};
 ghost use Rattle.layout_defs.specs.Solving.{Wide, wide_box, in_order, dealt, width_in};
@@ -65,7 +65,6 @@ fn dealt_width(kid: &Entry, room: u16, items: &[FlexItem], i: usize) -> (u16, us
 /// Sets the widths of the children of an object: the shares to those that take part, and its own to each
 /// other.
 fn deal_widths(tree: &Tree, entries: &mut Table<Entry>, items: &[FlexItem], h: Handle, room: u16)
-    requires once { StandsOnce tree.now.forest }
     requires listed { AreListed (listing_of entries.old) (tree_at tree.now.forest h.0) }
     requires found { BelowHaveWidths (told entries.old) tree.now.forest h.0 }
     ensures dealt { map (slice_index (told entries.new).widths) (roots (children_of tree.now.forest h.0))
@@ -76,13 +75,11 @@ fn deal_widths(tree: &Tree, entries: &mut Table<Entry>, items: &[FlexItem], h: H
     ensures rest { ButWidths (told entries.old) (told entries.new) }
     ensures listed { listing_of entries.new ≡ listing_of entries.old }
 {
-    let mut next = tree.first_child(h);
     let mut i = 0;
-    while let Some(child) = next {
+    for child in tree.children(h) {
         let (width, later) = dealt_width(entry_of(entries, child), room, items, i);
         set_width(entries, child, width);
         i = later;
-        next = tree.next(child);
     }
 }
 
@@ -96,7 +93,6 @@ fn row_shares(
     own: &LayoutBox,
     room: u16,
 ) -> usize
-    requires once { StandsOnce tree.now.forest }
     requires few { size tree.now.forest ≤ 4000 }
     requires found { BelowHaveWidths (told entries.now) tree.now.forest h.0 }
     requires enough { size tree.now.forest ≤ length items.old }
@@ -121,7 +117,6 @@ fn row_shares(
 /// without children pays nothing for it.
 #[inline(never)]
 fn set_kid_widths(tree: &Tree, entries: &mut Table<Entry>, items: &mut [FlexItem], h: Handle)
-    requires once { StandsOnce tree.now.forest }
     requires listed { AreListed (listing_of entries.old) (tree_at tree.now.forest h.0) }
     requires few { size tree.now.forest ≤ 4000 }
     requires found { BelowHaveWidths (told entries.old) tree.now.forest h.0 }
@@ -148,7 +143,6 @@ pub(crate) fn find_widths(
     items: &mut [FlexItem],
     h: Handle,
 )
-    requires once { StandsOnce tree.now.forest }
     requires listed { AreListed (listing_of entries.old) (tree_at tree.now.forest h.0) }
     requires few { size tree.now.forest ≤ 4000 }
     requires there { has tree.now.forest h.0 ≡ true }
@@ -167,9 +161,7 @@ pub(crate) fn find_widths(
         return;
     }
     set_kid_widths(tree, entries, items, h);
-    let mut next = tree.first_child(h);
-    while let Some(child) = next {
+    for child in tree.children(h) {
         find_widths(tree, entries, items, child);
-        next = tree.next(child);
     }
 }

@@ -1,5 +1,6 @@
 pub mod Coating
 pub mod Counting
+pub mod Drawable
 pub mod Listing
 pub mod Plain
 pub mod Ready

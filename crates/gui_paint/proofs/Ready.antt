@@ -57,7 +57,7 @@ items_ready fonts look place ended narrow texts k d within =
     all_ready fonts look ended (width_of place) (omega arith) place k d within (texts k d within)
 
 -- a number that names a finished font, as the value of a property
-ended_by : (answer : Option Bool) → unwrap_or answer false ≡ true → answer ≡ Some true
+pub ended_by : (answer : Option Bool) → unwrap_or answer false ≡ true → answer ≡ Some true
 ended_by None is = cc
 ended_by (Some done) is = rw is refl
 

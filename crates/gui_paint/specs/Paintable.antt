@@ -1,6 +1,7 @@
 -- The items that can be painted.
-use Rattle.std.specs.Prelude.{◌≡◌, ℕ, Bool, true, false, List, Some}
-use Rattle.gui_base.specs.Area.{Rect}
+use Rattle.std.specs.Prelude.{◌≡◌, ◌&&◌, ℕ, Bool, true, false, nat_le, List, Some}
+use Rattle.gui_base.specs.Area.{Rect, width_of}
+use Rattle.text_defs.specs.Building.{is_finished}
 use Rattle.text_defs.specs.Fonts.{Font, finished}
 use Rattle.text_defs.specs.declared.TextLook.{TextLook}
 use Rattle.widget_defs.specs.declared.ItemPaint.{ItemPaint}
@@ -36,3 +37,14 @@ is_plain_paint (Picture image recolor opa) = true
 
 abbrev pub is_plain : Item → Bool
 is_plain item = is_plain_paint item.paint
+
+-- whether the text of an item, if it has one, can be drawn
+abbrev pub is_drawable_paint : List Font → Rect → ItemPaint → Bool
+is_drawable_paint fonts area (Ink look color opa) =
+    is_finished fonts look.font && (nat_le look.letter 100 && (nat_le look.line 100 && nat_le (width_of area) widest_area))
+is_drawable_paint fonts area (Fill color opa) = true
+is_drawable_paint fonts area (Ring width color opa) = true
+is_drawable_paint fonts area (Picture image recolor opa) = true
+
+abbrev pub is_drawable : List Font → Item → Bool
+is_drawable fonts item = is_drawable_paint fonts item.area item.paint

@@ -1,12 +1,14 @@
 //! Painting objects whose items are known.
-ghost use Rattle.std.specs.Prelude.{◌≡◌, ◌≤◌, ◌+◌, true};
+ghost use Rattle.std.specs.Prelude.{◌≡◌, ◌≤◌, ◌+◌, true, length};
 ghost use Rattle.std.specs.List.{list_all};
 ghost use Rattle.cover_defs.specs.Steps.{bar_steps, object_steps};
 ghost use Rattle.gui_base.specs.Area.{size_of};
 ghost use Rattle.gui_base.specs.Corners.{rect_of};
 ghost use Rattle.gui_store.specs.Views.{scene_of};
 ghost use Rattle.gui_widgets.specs.Looks.{item_of, items_of};
-ghost use Rattle.gui_paint.specs.Paintable.{is_plain};
+ghost use Rattle.gui_paint.specs.Paintable.{is_drawable, is_plain};
+ghost use Rattle.scene_defs.specs.Edits.{text_at};
+ghost use Rattle.scene_defs.specs.Scene.{is_there};
 
 use crate::items::paint_items;
 use crate::paint::paint_object;
@@ -14,6 +16,8 @@ use crate::shown::Shown;
 use arrayvec::ArrayVec;
 use gui_base::{Area, Handle, Steps};
 use gui_color::DrawBuf;
+use gui_font::Fonts;
+use gui_store::Store;
 use gui_widgets::{Item, ItemPaint};
 use std::sync::ledger::Ledger;
 
@@ -38,14 +42,54 @@ fn are_plain(items: &[Item]) -> bool
     are_plain
 }
 
+/// The widest area that a text can be set in, in pixels.
+const WIDEST: u32 = 400_000;
+
+/// Whether the text of an item, if it has one, can be drawn as it is set.
+fn is_drawable(item: &Item, fonts: &Fonts) -> bool
+    ensures { result ≡ is_drawable fonts.now.fonts (item_of item.now) }
+{
+    match item.paint {
+        ItemPaint::Ink { look, .. } => {
+            fonts.finished(look.font).unwrap_or(false)
+                && (look.letter <= 100 && (look.line <= 100 && item.area.width() <= WIDEST))
+        }
+        ItemPaint::Fill { .. } | ItemPaint::Ring { .. } | ItemPaint::Picture { .. } => true,
+    }
+}
+
+/// Whether the texts of all items can.
+fn are_drawable(items: &[Item], fonts: &Fonts) -> bool
+    ensures { result ≡ list_all (is_drawable fonts.now.fonts) (items_of items.now) }
+{
+    let mut are_drawable = true;
+    for item in items {
+        are_drawable = are_drawable && is_drawable(item, fonts);
+    }
+    are_drawable
+}
+
+/// The text of an object that is there, whose bytes are written into `room`.
+fn text_of<'a>(store: &Store, h: Handle, room: &'a mut ArrayVec<u8, 1000>) -> &'a str
+    requires { is_there (scene_of store.now) h.0 ≡ true }
+    ensures text { result.now ≡ text_at (scene_of store.now) h.0 }
+    ensures short { length result.now ≤ 1000 }
+{
+    store.text_into(h, room);
+    match std::str::from_utf8(room.as_slice()) {
+        Ok(text) => text,
+        Err(_) => unreachable!(),
+    }
+}
+
 impl<'a> Shown<'a> {
     ghost use Rattle.scene_defs.specs.Items.{bars, items};
     ghost use Rattle.scene_defs.specs.Scene.{is_there};
     ghost use Rattle.gui_paint.specs.Painting.{Paints, painted_bars, painted_object};
 
     /// Paints an object by itself over the pixels of the buffer that are in `visible`. It is there, and
-    /// `known` is all that it paints: where no text is among that, nothing of it is looked up. `text` is room
-    /// for a text.
+    /// `known` is all that it paints: nothing of it is looked up but the bytes of its text, where it has one.
+    /// `text` is room for a text.
     pub fn paint_known<L: Ledger>(
         &self,
         buf: &mut DrawBuf,
@@ -67,6 +111,10 @@ impl<'a> Shown<'a> {
         if are_plain(known) {
             let (fonts, images) = (store.fonts(), store.images());
             paint_items(buf, visible, known, fonts, images, "", steps);
+        } else if are_drawable(known, store.fonts()) {
+            let (fonts, images) = (store.fonts(), store.images());
+            let letters = text_of(store, h, text);
+            paint_items(buf, visible, known, fonts, images, letters, steps);
         } else if let Some(place) = self.places.place(h) {
             paint_object(self, buf, visible, place, h, text, steps);
         }

@@ -23,5 +23,4 @@ pub mod Stepped
 pub mod Touching
 pub mod Turning
 pub mod Values
-pub mod Walks
 pub mod Writes

@@ -3,8 +3,10 @@ ghost use Rattle.std.specs.Prelude.{◌≡◌, ◌∷◌, [], false, IfOk, OnErr
 ghost use Rattle.gui_base.specs.Area.{area_at, is_empty};
 ghost use Rattle.gui_base.specs.Bounded.{bounds_of};
 ghost use Rattle.gui_base.specs.Corners.{rect_of};
+ghost use Rattle.gui_base.specs.Gridded.{HasPixels};
 ghost use Rattle.gui_base.specs.Refusing.{result_of};
 ghost use Rattle.gui_change.specs.Canvas.{scene_in, removed_in};
+ghost use Rattle.gui_damage.specs.Gridded.{listed_in};
 ghost use Rattle.gui_damage.specs.Pending.{IsPending};
 ghost use Rattle.gui_edge.specs.Sink.{SinkState};
 ghost use Rattle.gui_layout.specs.Solved.{AreReached, AreSolved};
@@ -23,7 +25,7 @@ ghost use Rattle.gui_play.specs.Sizes.{AreSized};
 use crate::inputs::Inputs;
 use crate::scribe::Scribe;
 use gui_anim::Anims;
-use gui_base::{Area, Bits, Handle, Limits, NoMemory, Refusal, State, Steps};
+use gui_base::{Area, Bits, Grid, Handle, Limits, NoMemory, Refusal, State, Steps};
 use gui_change::Canvas;
 use gui_damage::Damage;
 use gui_edge::{Failed, Panel};
@@ -42,13 +44,14 @@ use std::sync::ledger::Ledger;
 #[derive(Drop)]
 pub struct Board {
     pub(crate) canvas: Canvas,
-    damage: Damage,
+    damage: Damage<Grid>,
     pub(crate) handlers: Handlers,
     pub(crate) groups: Groups,
     pub(crate) anims: Anims,
     pub(crate) inputs: Inputs,
     pub(crate) scribe: Scribe,
-    ghost panel: { damage.panel ≡ panel_of (scene_in canvas) },
+    ghost panel: { (listed_in damage).panel ≡ panel_of (scene_in canvas) },
+    ghost pixels: { HasPixels damage.round },
     ghost sized: { AreSized handlers groups anims (scene_in canvas).limits },
 }
 
@@ -63,7 +66,8 @@ impl Board {
         ensures whole { IfOk result (λ board. (pending_of board).areas ≡ (pending_of board).panel ∷ []) }
     {
         let canvas = Canvas::open(alloc, limits)?;
-        let damage = Damage::new(panel_area(limits));
+        let panel = panel_area(limits);
+        let damage = Damage::new(panel, Grid::of_pixels(panel));
         let handlers = Handlers::open(alloc, limits.handlers)?;
         let groups = Groups::open(alloc, limits.groups, limits.objects)?;
         let anims = Anims::open(alloc, limits.anims)?;

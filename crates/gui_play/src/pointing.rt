@@ -5,7 +5,7 @@ ghost use Rattle.gui_base.specs.Forest.{StandsOnce, has, preorder, tree_at};
 ghost use Rattle.gui_base.specs.Props.{is_value, values_of};
 ghost use Rattle.gui_base.specs.declared.intervals.TheConstants.{PAD};
 ghost use Rattle.gui_base.specs.declared.words.Part.TheVariants.{Main};
-ghost use Rattle.gui_layout.specs.Walks.{trees_from};
+ghost use Rattle.gui_tree.specs.Walks.{trees_from};
 ghost use Rattle.run_defs.specs.Pointing.{content, hit, is_flagged, is_hit};
 ghost use Rattle.run_defs.specs.Reactions.{is_slider};
 ghost use Rattle.scene_defs.specs.Row.{brought_in};

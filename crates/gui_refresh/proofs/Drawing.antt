@@ -7,6 +7,7 @@ use Rattle.gui_base.specs.Area.{Rect, area_at, has, is_within, width_of, size_of
 use Rattle.gui_color.specs.Buffer.{Buffer, color_at}
 use Rattle.gui_damage.specs.Pending.{Pending, IsPending}
 use Rattle.gui_damage.specs.Slices.{slice_of, left_after, Takes}
+use Rattle.gui_damage.proofs.Slices.{line_of_panel}
 use Rattle.gui_damage.proofs.Takings.{takes}
 use Rattle.gui_refresh.specs.Stages.{Sizes, IsSizes, IsDrawn, Refreshing, IsRefreshing}
 use Rattle.gui_refresh.specs.Steps.{DrawnStep}
@@ -22,7 +23,7 @@ pub taken : (sizes : Sizes) (d : Pending) (slice : Rect) → IsSizes sizes → d
     Takes d.panel sizes.limit d.areas (left_after sizes.limit d.areas) slice
 taken sizes d slice is panel sound e =
     let line = is.least_limit in
-    takes d sizes.limit slice sound (omega (arith, ap width_of panel ∙ span sizes.width)) e
+    takes d sizes.limit slice sound (line_of_panel d sizes.limit sound (omega (arith, ap width_of panel ∙ span sizes.width))) e
 
 -- it is the last of its area, or it has half of the limit
 pub cut : (sizes : Sizes) (d : Pending) (slice : Rect) → IsSizes sizes → d.panel ≡ area_at (pos 0) (pos 0) sizes.width sizes.height → IsPending d → Some slice ≡ slice_of sizes.limit d.areas →

@@ -10,9 +10,10 @@ use Rattle.gui_base.specs.Area.{Rect, width_of, height_of, size_of}
 use Rattle.gui_color.specs.Buffer.{Buffer}
 use Rattle.gui_edge.specs.Causes.{last_count}
 use Rattle.gui_edge.specs.Panel.{PanelState}
-use Rattle.gui_damage.specs.Joining.{JoinsAll}
+use Rattle.gui_damage.specs.Joining.{exact, JoinsAll}
 use Rattle.gui_damage.specs.Pending.{Pending, IsPending, most_areas}
-use Rattle.gui_damage.specs.Slices.{top_lines, slice_lines, slice_of, left_after}
+use Rattle.gui_base.specs.Lines.{top_lines}
+use Rattle.gui_damage.specs.Slices.{slice_lines, slice_of, left_after}
 use Rattle.gui_damage.proofs.Joins.{keeps_pixels}
 use Rattle.gui_damage.proofs.Lines.{height_top, size_pos}
 use Rattle.gui_damage.proofs.Slices.{first_within, first_some, width_within, left_whole}
@@ -98,8 +99,8 @@ module _ (per_pixel per_slice : ℕ) where
       ]
 
   -- the areas were joined, and nothing was drawn yet
-  pub draws_joined : (old : Stage) (joined : Pending) (t : ℕ) → JoinsAll old.pending joined → Draws per_pixel per_slice old (stage old.refresher old.panel joined) 0 t t
-  draws_joined old joined t joins = let keeps = keeps_pixels _ _ joins.joins in draws_none old (stage old.refresher old.panel joined) 0 t t (omega (arith, keeps.fewer)) (omega arith) (omega arith)
+  pub draws_joined : (old : Stage) (joined : Pending) (t : ℕ) → JoinsAll exact old.pending joined → Draws per_pixel per_slice old (stage old.refresher old.panel joined) 0 t t
+  draws_joined old joined t joins = let keeps = keeps_pixels exact _ _ joins.joins in draws_none old (stage old.refresher old.panel joined) 0 t t (omega (arith, keeps.fewer)) (omega arith) (omega arith)
 
   -- what callers see of a refresh
   pub draws_slices : (old new : Stage) (failed from to : ℕ) → 0 < old.refresher.sizes.limit → length old.pending.areas ≤ most_areas → failed ≤ length new.pending.areas → drawn_size new.refresher.drawn ≤ old.refresher.sizes.limit →
@@ -183,8 +184,8 @@ module _ (per_pixel per_slice : ℕ) where
         draws_slice color old (stage s mid.panel e) old.pending from to (none_drawn color old h buf was (omega arith)) (ap (λ (p : PanelState). p.sent) step.goes_on.is) (omega arith) k steps
 
     -- one was drawn from the joined areas
-    pub draws_first : (d e : Pending) (s : Refreshing) (from to : ℕ) → old.refresher.drawn ≡ None → JoinsAll old.pending d → DrawnStep color old.refresher s d e → to ≤ from + slice_steps per_pixel per_slice s.drawn true → DrawsOne per_pixel per_slice old (stage s old.panel e) 0 from to
-    draws_first d e s from to none joins k steps = draws_slice color old (stage s old.panel e) d from to none refl (keeps_pixels _ _ joins.joins).fewer k steps
+    pub draws_first : (d e : Pending) (s : Refreshing) (from to : ℕ) → old.refresher.drawn ≡ None → JoinsAll exact old.pending d → DrawnStep color old.refresher s d e → to ≤ from + slice_steps per_pixel per_slice s.drawn true → DrawsOne per_pixel per_slice old (stage s old.panel e) 0 from to
+    draws_first d e s from to none joins k steps = draws_slice color old (stage s old.panel e) d from to none refl (keeps_pixels exact _ _ joins.joins).fewer k steps
 
     pub draws_waiting : (new : Stage) (from to : ℕ) → PumpsAt color old new Waiting → to ≤ from → DrawsOne per_pixel per_slice old new 0 from to
     draws_waiting new from to k same =

@@ -14,7 +14,7 @@ use Rattle.gui_edge.specs.KeepsTelling.{KeepsTelling}
 use Rattle.gui_edge.specs.Panel.{PanelState, area_of, CanStart, Starts, Started, StartFailed, Arrives, GoesOn, Breaks}
 use Rattle.gui_edge.proofs.Telling.{keeps_telling-some}
 use Rattle.gui_damage.specs.Adding.{AddsAll}
-use Rattle.gui_damage.specs.Joining.{JoinsAll}
+use Rattle.gui_damage.specs.Joining.{exact, JoinsAll}
 use Rattle.gui_damage.specs.Pending.{Pending, covered, total}
 use Rattle.gui_damage.specs.Slices.{left_after}
 use Rattle.gui_damage.proofs.Joins.{keeps_pixels}
@@ -136,9 +136,9 @@ agrees_on : (color : ℤ → ℤ → Rgb565) (p q : PanelState) (R : List Rgb565
 agrees_on color p q R a b d e f g same shows step h = subst (λ (area : Rect). IfSome q.shows (Agrees area color b f g)) (sym same) (told_on p.shows q.shows R _ _ shows step h)
 
 -- the areas were joined
-pub quiet_joined : (color : ℤ → ℤ → Rgb565) (r : Refreshing) (p : PanelState) (d e : Pending) → CanRefresh (stage r p d) → JoinsAll d e → Quiet color (stage r p d) (stage r p e)
+pub quiet_joined : (color : ℤ → ℤ → Rgb565) (r : Refreshing) (p : PanelState) (d e : Pending) → CanRefresh (stage r p d) → JoinsAll exact d e → Quiet color (stage r p d) (stage r p e)
 quiet_joined color r p d e can joins =
-    let keeps = keeps_pixels _ _ joins.joins in
+    let keeps = keeps_pixels exact _ _ joins.joins in
     let smaller = keeps.smaller in
     record {
       can = record { width = can.width; height = can.height; limit = can.limit; area = joins.panel ∙ can.area; started = can.started; coming = can.coming };
@@ -150,8 +150,8 @@ quiet_joined color r p d e can joins =
       faults = refl;
     }
 
-pub work_joined : (r : Refreshing) (p : PanelState) (d e : Pending) → JoinsAll d e → work (stage r p e) ≤ work (stage r p d)
-work_joined r p d e joins = let smaller = (keeps_pixels _ _ joins.joins).smaller in omega arith
+pub work_joined : (r : Refreshing) (p : PanelState) (d e : Pending) → JoinsAll exact d e → work (stage r p e) ≤ work (stage r p d)
+work_joined r p d e joins = let smaller = (keeps_pixels exact _ _ joins.joins).smaller in omega arith
 
 module _ (color : ℤ → ℤ → Rgb565) (r : Refreshing) (p : PanelState) (d : Pending) (h : IsSound (stage r p d)) where
   abbrev old : Stage

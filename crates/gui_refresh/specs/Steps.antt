@@ -5,7 +5,7 @@ use Rattle.gui_base.specs.declared.color.Rgb565.{Rgb565}
 use Rattle.gui_base.specs.Area.{has, size_of}
 use Rattle.gui_color.specs.Buffer.{Buffer, color_at}
 use Rattle.gui_damage.specs.Adding.{added}
-use Rattle.gui_damage.specs.Joining.{JoinsAll}
+use Rattle.gui_damage.specs.Joining.{exact, JoinsAll}
 use Rattle.gui_damage.specs.Pending.{Pending, IsPending}
 use Rattle.gui_damage.specs.Slices.{slice_of, left_after, Takes}
 use Rattle.gui_edge.specs.Panel.{Starts, Started, StartFailed, Arrives, GoesOn, Breaks}
@@ -103,7 +103,7 @@ pub record DrawnFirst (color : ℤ → ℤ → Rgb565) (old new : Stage) : Type 
   pub none : old.refresher.drawn ≡ None
   pub panel : new.panel ≡ old.panel
   pub joined : Pending
-  pub joins : JoinsAll old.pending joined
+  pub joins : JoinsAll exact old.pending joined
   pub drawn : DrawnStep color old.refresher new.refresher joined new.pending
 
 -- a transfer goes on, and nothing else could be done

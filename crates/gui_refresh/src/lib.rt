@@ -3,6 +3,7 @@
 #![tactic(auto)]
 
 pub mod laws;
+mod listed;
 mod refresher;
 mod spares;
 

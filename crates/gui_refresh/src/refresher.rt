@@ -5,7 +5,9 @@ ghost use Rattle.std.specs.Option.{ForSome};
 ghost use Rattle.gui_base.specs.Area.{area_at, has, is_empty, size_of, width_of};
 ghost use Rattle.gui_base.specs.Bounded.{bounds_of};
 ghost use Rattle.gui_base.specs.Corners.{rect_of};
+ghost use Rattle.gui_base.specs.Gridded.{HasPixels};
 ghost use Rattle.gui_color.specs.Buffer.{color_at};
+ghost use Rattle.gui_damage.specs.Gridded.{listed_in};
 ghost use Rattle.gui_edge.specs.Panel.{CanStart};
 ghost use Rattle.gui_refresh.specs.Stages.{CanRefresh, IsRefreshing, sizes_of, stage};
 ghost use Rattle.gui_refresh.specs.Steps.{DrawAnswer, StartAnswer, FlightAnswer};
@@ -13,9 +15,9 @@ ghost use Rattle.gui_refresh.specs.Refreshes.{RefreshesAt, PumpsAt, failures_in}
 ghost use Rattle.gui_refresh.specs.Slicing.{DrawsOne, DrawsSlices, slice_steps};
 ghost use Rattle.gui_refresh.specs.Sums.{color_sum};
 
-use crate::Refreshed;
 use crate::spares::Spares;
-use gui_base::{Area, Limits, NoMemory, Rgb565, Steps};
+use crate::{Refreshed, listed};
+use gui_base::{Area, Grid, Limits, NoMemory, Rgb565, Steps};
 use gui_color::DrawBuf;
 use gui_damage::Damage;
 use gui_draw::Picture;
@@ -85,25 +87,27 @@ impl Refresher {
 
     /// Joins the pending areas, and pumps until nothing is pending, drawn or in flight. It stops at the first
     /// start or transfer that fails, whose slice is pending again. `steps` counts the pixels that are made
-    /// black as each slice begins, and what painting it takes.
+    /// black as each slice begins, and what painting it takes. The blocks of `damage` are single pixels.
     pub fn refresh<Q: Picture, P: Panel, L: Ledger>(
         &mut self,
         picture: &Q,
-        damage: &mut Damage,
+        damage: &mut Damage<Grid>,
         panel: &mut P,
         steps: &mut Steps<L>,
     ) -> Refreshed
-        requires { CanRefresh (stage self.old (P.state panel.old) damage.old) }
+        requires can { CanRefresh (stage self.old (P.state panel.old) (listed_in damage.old)) }
+        requires pixels { HasPixels damage.old.round }
+        ensures round { damage.new.round ≡ damage.old.round }
         ensures refreshes { RefreshesAt (Q.color picture.now)
-            (stage self.old (P.state panel.old) damage.old)
-            (stage self.new (P.state panel.new) damage.new) result }
+            (stage self.old (P.state panel.old) (listed_in damage.old))
+            (stage self.new (P.state panel.new) (listed_in damage.new)) result }
         ensures draws { DrawsSlices self.old.sizes.limit (Q.per_pixel picture.now) (Q.per_slice picture.now)
             (P.state panel.old).sent (P.state panel.new).sent steps.old steps.new }
     {
         // Looking at the refresher and at the list tells that both are sound.
         let _started = self.is_started();
         let _areas = damage.areas();
-        damage.join_all();
+        listed::join_all(damage);
         loop {
             match self.pump(picture, damage, panel, steps) {
                 Pumped::Idle => return Refreshed::Done,
@@ -116,21 +120,24 @@ impl Refresher {
     /// Goes one step on. Where a transfer is in flight it is polled; where that ends it, this is the step.
     /// Else, where nothing is in flight, a drawn buffer that waits is started. Else the next slice is drawn
     /// into a free buffer, where there is one and something is pending; the areas are joined first where
-    /// nothing is in flight. `steps` counts as in a refresh.
+    /// nothing is in flight. `steps` counts as in a refresh. The blocks of `damage` are single pixels.
     pub fn pump<Q: Picture, P: Panel, L: Ledger>(
         &mut self,
         picture: &Q,
-        damage: &mut Damage,
+        damage: &mut Damage<Grid>,
         panel: &mut P,
         steps: &mut Steps<L>,
     ) -> Pumped
-        requires { CanRefresh (stage self.old (P.state panel.old) damage.old) }
+        requires can { CanRefresh (stage self.old (P.state panel.old) (listed_in damage.old)) }
+        requires pixels { HasPixels damage.old.round }
+        ensures round { damage.new.round ≡ damage.old.round }
         ensures pumps { PumpsAt (Q.color picture.now)
-            (stage self.old (P.state panel.old) damage.old)
-            (stage self.new (P.state panel.new) damage.new) result }
+            (stage self.old (P.state panel.old) (listed_in damage.old))
+            (stage self.new (P.state panel.new) (listed_in damage.new)) result }
         ensures draws { DrawsOne (Q.per_pixel picture.now) (Q.per_slice picture.now)
-            (stage self.old (P.state panel.old) damage.old)
-            (stage self.new (P.state panel.new) damage.new) (failures_in result) steps.old steps.new }
+            (stage self.old (P.state panel.old) (listed_in damage.old))
+            (stage self.new (P.state panel.new) (listed_in damage.new))
+            (failures_in result) steps.old steps.new }
     {
         if self.is_started() {
             return self.pump_started(picture, damage, panel, steps);
@@ -138,7 +145,7 @@ impl Refresher {
         if self.is_drawn() {
             return self.start(damage, panel);
         }
-        damage.join_all();
+        listed::join_all(damage);
         if self.draw(picture, damage, steps) {
             Pumped::Moved
         } else {
@@ -150,19 +157,22 @@ impl Refresher {
     fn pump_started<Q: Picture, P: Panel, L: Ledger>(
         &mut self,
         picture: &Q,
-        damage: &mut Damage,
+        damage: &mut Damage<Grid>,
         panel: &mut P,
         steps: &mut Steps<L>,
     ) -> Pumped
-        requires can { CanRefresh (stage self.old (P.state panel.old) damage.old) }
+        requires can { CanRefresh (stage self.old (P.state panel.old) (listed_in damage.old)) }
         requires sound { IsRefreshing self.old }
         requires started { self.old.started ≡ true }
+        requires pixels { HasPixels damage.old.round }
+        ensures round { damage.new.round ≡ damage.old.round }
         ensures pumps { PumpsAt (Q.color picture.now)
-            (stage self.old (P.state panel.old) damage.old)
-            (stage self.new (P.state panel.new) damage.new) result }
+            (stage self.old (P.state panel.old) (listed_in damage.old))
+            (stage self.new (P.state panel.new) (listed_in damage.new)) result }
         ensures draws { DrawsOne (Q.per_pixel picture.now) (Q.per_slice picture.now)
-            (stage self.old (P.state panel.old) damage.old)
-            (stage self.new (P.state panel.new) damage.new) (failures_in result) steps.old steps.new }
+            (stage self.old (P.state panel.old) (listed_in damage.old))
+            (stage self.new (P.state panel.new) (listed_in damage.new))
+            (failures_in result) steps.old steps.new }
     {
         match self.poll(damage, panel) {
             Some(answer) => answer,
@@ -192,12 +202,14 @@ impl Refresher {
     }
 
     /// Asks how the transfer in flight stands. `None`: it goes on.
-    fn poll<P: Panel>(&mut self, damage: &mut Damage, panel: &mut P) -> Option<Pumped>
+    fn poll<P: Panel>(&mut self, damage: &mut Damage<Grid>, panel: &mut P) -> Option<Pumped>
         requires flying { IsSome (P.state panel.old).coming }
         requires limit { ForSome (P.state panel.old).coming (λ buf. buf.limit ≡ self.old.sizes.limit) }
         requires started { self.old.started ≡ true }
-        ensures { FlightAnswer (stage self.old (P.state panel.old) damage.old)
-            (stage self.new (P.state panel.new) damage.new) result }
+        requires pixels { HasPixels damage.old.round }
+        ensures round { damage.new.round ≡ damage.old.round }
+        ensures step { FlightAnswer (stage self.old (P.state panel.old) (listed_in damage.old))
+            (stage self.new (P.state panel.new) (listed_in damage.new)) result }
     {
         match panel.poll() {
             Polled::Ready(buf) => {
@@ -206,7 +218,7 @@ impl Refresher {
             }
             Polled::NotYet => None,
             Polled::Failed(buf) => {
-                damage.add(buf.area());
+                listed::add(damage, buf.area());
                 self.take_back(buf);
                 Some(Pumped::Fault)
             }
@@ -224,13 +236,15 @@ impl Refresher {
     }
 
     /// Starts the drawn buffer.
-    fn start<P: Panel>(&mut self, damage: &mut Damage, panel: &mut P) -> Pumped
+    fn start<P: Panel>(&mut self, damage: &mut Damage<Grid>, panel: &mut P) -> Pumped
         requires drawn { IsSome self.old.drawn }
         requires free { (P.state panel.old).coming ≡ None }
         requires started { self.old.started ≡ false }
         requires part { ForSome self.old.drawn (CanStart (P.state panel.old)) }
-        ensures { StartAnswer (stage self.old (P.state panel.old) damage.old)
-            (stage self.new (P.state panel.new) damage.new) result }
+        requires pixels { HasPixels damage.old.round }
+        ensures round { damage.new.round ≡ damage.old.round }
+        ensures step { StartAnswer (stage self.old (P.state panel.old) (listed_in damage.old))
+            (stage self.new (P.state panel.new) (listed_in damage.new)) result }
     {
         match self.drawn.take() {
             None => unreachable!(),
@@ -240,7 +254,7 @@ impl Refresher {
                     Pumped::Moved
                 }
                 Err((Failed, back)) => {
-                    damage.add(back.area());
+                    listed::add(damage, back.area());
                     self.spares.put(back);
                     Pumped::Fault
                 }
@@ -253,19 +267,22 @@ impl Refresher {
     fn draw<Q: Picture, L: Ledger>(
         &mut self,
         picture: &Q,
-        damage: &mut Damage,
+        damage: &mut Damage<Grid>,
         steps: &mut Steps<L>,
     ) -> bool
-        requires area { damage.old.panel
+        requires pixels { HasPixels damage.old.round }
+        requires area { (listed_in damage.old).panel
             ≡ area_at (pos 0) (pos 0) self.old.sizes.width self.old.sizes.height }
         requires none { 0 < self.old.free → self.old.drawn ≡ None }
-        ensures step { DrawAnswer (Q.color picture.now) self.old self.new damage.old damage.new result }
+        ensures round { damage.new.round ≡ damage.old.round }
+        ensures step { DrawAnswer (Q.color picture.now) self.old self.new
+            (listed_in damage.old) (listed_in damage.new) result }
         ensures steps { steps.new ≤ steps.old
             + slice_steps (Q.per_pixel picture.now) (Q.per_slice picture.now) self.new.drawn result }
     {
         match self.spares.take() {
             None => false,
-            Some(mut buf) => match damage.take_slice(self.limit) {
+            Some(mut buf) => match listed::take_slice(damage, self.limit) {
                 None => {
                     self.spares.put(buf);
                     false

@@ -2,6 +2,6 @@ pub mod Calls
 pub mod Common
 pub mod Edits
 pub mod Kept
-pub mod Paths
+pub mod Values
 pub mod Rows
 pub mod Shown

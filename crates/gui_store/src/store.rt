@@ -251,14 +251,12 @@ impl Store {
         requires { has self.now.tree.forest h.0 ≡ true }
         ensures { result ≡ inherited_at (parts_of self.now) h.0 prop }
     {
-        let mut at = Some(h);
-        while let Some(k) = at {
+        for k in self.tree.ancestors(h) {
             let states = self.states_of(k);
             let found = self.styles.lookup(k, Part::Main, states, prop);
             if found.is_some() {
                 return found;
             }
-            at = self.tree.parent(k);
         }
         None
     }

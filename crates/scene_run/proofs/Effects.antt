@@ -1,5 +1,6 @@
 -- How effects go on, and what a line does before a write fails.
-use Rattle.std.proofs.Common.{◌≡◌, ℕ, List, [], ◌∷◌, ◌++◌, arith, rules, refl, inl, inr, append-nil, Option, Ok, Err}
+use Rattle.std.proofs.Common.{◌≡◌, ◌≤◌, ℕ, List, [], ◌∷◌, ◌++◌, arith, rules, refl, inl, inr, append-nil, Option, Ok, Err}
+use Rattle.std.specs.Io.KnownBytes.{Appends}
 use Rattle.std.proofs.KnownBytes.{Appends-trans, Appends-nil}
 use Rattle.std.proofs.lemmas.Grind.{flat_map-append}
 use Rattle.std.proofs.lemmas.List.Elements.{filter_map-append}
@@ -44,6 +45,20 @@ breaks_reply a b p n lines reply prefix rose = record {
   shown = tt;
   faults = omega arith;
   cause = rose;
+}
+
+-- the log took the lines of a reply whole
+pub reply_effects : (a b : SinkState) (p : PanelState) (seen : Option Scene) (n : ℕ) (lines : List ℕ) (reply : Reply) → Appends a.held b.held (log_lines (Replied n lines reply)) → a.faults ≤ b.faults →
+    Effects (output a p) (output b p) seen (Replied n lines reply ∷ [])
+reply_effects a b p seen n lines reply grows later = record {
+  panel = record {
+    frames = λ t. Appends-nil p.frames;
+    shown = tt;
+    faults = omega arith;
+    keeps = record { told = λ t. t; flush_faults = omega arith; present_faults = omega arith };
+  };
+  log = rw (append-nil (log_lines (Replied n lines reply))) grows;
+  log_faults = later;
 }
 
 -- what failed at a line is a write

@@ -3,7 +3,7 @@ use Rattle.std.specs.Prelude.{option_map}
 use Rattle.std.specs.List.{flat_map}
 use Rattle.std.proofs.lemmas.List.{drop_all}
 use Rattle.gui_base.specs.declared.Handle.{Handle}
-use Rattle.gui_damage.specs.Adding.{added_all}
+use Rattle.gui_damage.specs.Gridded.{added_all_in}
 use Rattle.gui_layout.specs.Listing.{HasThese}
 use Rattle.gui_layout.proofs.These.{these_after}
 use Rattle.gui_store.specs.Views.{scene_of}
@@ -39,7 +39,7 @@ loop-h-preserved-then-is_shown c =
     record {
       these = subst (λ (ks : List Handle). HasThese scene.limits.objects c.loop-h.table (ks ++ shown_of scene hs)) step c.loop-h.invariant.these;
       rest = c.loop-h.invariant.rest;
-      owed = ap (λ (ks : List Handle). added_all c.loop-h.damage (flat_map owes (numbers ks))) (sym step) ∙ c.loop-h.invariant.owed;
+      owed = ap (λ (ks : List Handle). added_all_in c.loop-h.damage (flat_map owes (numbers ks))) (sym step) ∙ c.loop-h.invariant.owed;
     }
 
 -- the next one that is shown no longer
@@ -69,7 +69,7 @@ loop-h-preserved c =
       these = these_after objects t c.remove.new.self h (rest ++ shown_of scene hs) c.remove.result c.remove.ensures.value c.remove.ensures.removes these;
       rest = λ k s found. c.loop-h.invariant.rest k s (one_less t c.remove.new.self h.0 c.remove.result c.remove.ensures.value c.remove.ensures.removes some k s found);
       owed = one_gone owes h rest c.loop-h.damage c.owe.new.damage _
-          (ap (λ (ks : List Handle). added_all c.loop-h.damage (flat_map owes (numbers ks))) (sym more) ∙ c.loop-h.invariant.owed)
+          (ap (λ (ks : List Handle). added_all_in c.loop-h.damage (flat_map owes (numbers ks))) (sym more) ∙ c.loop-h.invariant.owed)
           (rw (c.is_named.ensures, c.get.ensures, still) at c.owe.ensures);
     }
 
@@ -83,4 +83,4 @@ pub returns-clause-debt : goal.returns-clause-debt
 returns-clause-debt c =
     let scene = scene_of c.args.store.now in
     let none = ap (gone_of scene) (drop_all c.loop-h.h-index c.args.listed.now c.loop-h-test.false) in
-    ap (λ (xs : List Handle). added_all c.loop-h.damage (flat_map (owed_gone (option_map number_of c.args.named) c.args.table.now) (numbers xs))) (sym none) ∙ c.loop-h.invariant.owed
+    ap (λ (xs : List Handle). added_all_in c.loop-h.damage (flat_map (owed_gone (option_map number_of c.args.named) c.args.table.now) (numbers xs))) (sym none) ∙ c.loop-h.invariant.owed

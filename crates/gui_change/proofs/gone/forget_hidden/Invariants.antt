@@ -1,7 +1,7 @@
 use Rattle.std.proofs.Common.{◌≡◌, ◌++◌, ℕ, Some, drop}
 use Rattle.std.specs.Prelude.{option_map}
 use Rattle.std.specs.List.{flat_map}
-use Rattle.gui_damage.specs.Adding.{added_all}
+use Rattle.gui_damage.specs.Gridded.{added_all_in}
 use Rattle.gui_layout.specs.Listing.{HasThese}
 use Rattle.gui_pool.specs.Table.{value_at}
 use Rattle.gui_store.specs.Views.{scene_of}
@@ -19,5 +19,5 @@ invariant-loop-h l =
     record {
       these : HasThese scene.limits.objects l.table (left ++ shown_of scene l.listed);
       rest : (h : ℕ) (s : Seen) → value_at l.table h ≡ Some s → value_at l.fn.table h ≡ Some s;
-      owed : added_all l.damage (flat_map owes (numbers left)) ≡ added_all l.fn.damage (flat_map owes (numbers (gone_of scene l.listed)));
+      owed : added_all_in l.damage (flat_map owes (numbers left)) ≡ added_all_in l.fn.damage (flat_map owes (numbers (gone_of scene l.listed)));
     }

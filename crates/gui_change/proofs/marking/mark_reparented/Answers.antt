@@ -26,9 +26,10 @@ still-parent old new f p was there all parents most = record {
   room = let fit = was.room in omega arith;
 }
 
-pub mark_below-requires-clause-room : goal.mark_below-requires-clause-room
-mark_below-requires-clause-room c =
-    subst (λ (f : Forest ℕ). AreMarked c.args.marks.now f) (sym c.tree.ensures.forest) (none-there c.args.marks.now (scene_of c.args.store.now) c.tree.ensures.valid c.requires.none)
+pub mark_below-requires : goal.mark_below-requires
+mark_below-requires c = record {
+  room = subst (λ (f : Forest ℕ). AreMarked c.args.marks.now f) (sym c.tree.ensures.forest) (none-there c.args.marks.now (scene_of c.args.store.now) c.tree.ensures.valid c.requires.none);
+}
 
 marked : (c : After-mark_below) → AreMarked c.mark_below.new.marks (handles_of (scene_of c.args.store.now).trees)
 marked c = subst (λ (f : Forest ℕ). AreMarked c.mark_below.new.marks f) c.tree.ensures.forest c.mark_below.ensures.room

@@ -30,6 +30,12 @@ returns-in-One-clause-all c k may =
     let same = eqb-true k c.in-One.h.0 (told scene c.args.concerned _ k c.in-One.is may) in
     subst (IsSeenIn c.args.table.now scene) (sym same) (c.requires.own c.in-One.h.0 (sym c.is_named.ensures ∙ c.if-is_named.true))
 
+pub returns-in-One-2-clause-all : goal.returns-in-One-2-clause-all
+returns-in-One-2-clause-all c k may =
+    let scene = scene_of c.args.store.now in
+    let same = eqb-true k c.in-One-2.h.0 (told scene c.args.concerned _ k c.in-One-2.is may) in
+    subst (IsSeenIn c.see_one.new.table scene) (sym same) c.see_one.ensures.own
+
 pub returns-in-Both-clause-all : goal.returns-in-Both-clause-all
 returns-in-Both-clause-all c k may =
     let scene = scene_of c.args.store.now in

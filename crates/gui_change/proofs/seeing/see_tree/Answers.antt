@@ -1,6 +1,7 @@
 use Rattle.std.proofs.Common.{◌≡◌, ◌∙◌, not, ◌<◌, ◌≤◌, sym, ap, subst, ℕ, true, false, eqb, List, ◌++◌, is_some, arith}
 use Rattle.std.specs.Prelude.{option_map}
 use Rattle.std.proofs.lemmas.Bool.{both_ways, eqb-true, false_from_ne_true}
+use Rattle.gui_tree.proofs.Below.{own_tree}
 use Rattle.gui_base.specs.Forest.{Forest, count, has, preorder, size, tree_at}
 use Rattle.gui_base.specs.declared.Handle.{Handle}
 use Rattle.gui_base.proofs.Visits.{count-has}
@@ -10,11 +11,10 @@ use Rattle.scene_defs.specs.Scene.{handles_of}
 use Rattle.scene_defs.specs.Visible.{shown_trees}
 use Rattle.gui_layout.specs.Listing.{times}
 use Rattle.gui_layout.proofs.Entering.{few}
-use Rattle.gui_layout.proofs.Parts.{there, found, distinct_once, size-part}
+use Rattle.gui_tree.proofs.Parts.{there, found, distinct_once, size-part}
 use Rattle.gui_layout.proofs.Settling.{tree-in}
 use Rattle.gui_layout.proofs.These.{has-times, times_is}
 use Rattle.debt_defs.specs.Debt.{is_named}
-use Rattle.gui_layout.proofs.Climbing.{in_own_tree}
 use Rattle.gui_change.specs.Again.{AreKnown}
 use Rattle.gui_change.specs.Handles.{number_of}
 use Rattle.gui_change.proofs.Reordering.{copied-some}
@@ -86,7 +86,7 @@ unnamed : (c : After-as_slice) (k : ℕ) → times c.as_slice.result.now k ≡ 0
 unnamed c k off = c.requires.named k (false_from_ne_true (eqb c.args.top.0 k) (λ is.
     let f = handles_of (scene_of c.args.store.now).trees in
     let u = c.args.top.0 in
-    let own = in_own_tree f u c.tree-tree.ensures.valid.trees.once c.requires.there in
+    let own = own_tree f u c.requires.there in
     let there : has (tree_at f u) k ≡ true = subst (λ (j : ℕ). has (tree_at f u) j ≡ true) (eqb-true u k is) own in
     let some = count-has (tree_at f u) k there in
     let listed = times_is c.as_slice.result.now (tree_at f u) (listed c) k in

@@ -1,6 +1,6 @@
 use Rattle.std.proofs.Common.{◌∙◌, ap, rules, arith, Bool, ◌+◌, slice_index_or, if◌then◌else◌}
 use Rattle.gui_base.specs.declared.color.Rgb565.{Rgb565}
-use Rattle.gui_base.specs.Color.{black, parts}
+use Rattle.gui_base.specs.Color.{black}
 use Rattle.gui_color.specs.Masks.{mask_bit}
 use Rattle.gui_color.proofs.Mixes.{masked_all}
 use Rattle.gui_color.proofs.masks.mask_short.Goals as goal

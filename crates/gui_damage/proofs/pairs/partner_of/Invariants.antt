@@ -5,4 +5,4 @@ use Rattle.gui_damage.specs.Joining.{can_join}
 use Rattle.gui_damage.proofs.pairs.partner_of.Given as goal
 
 abbrev pub invariant-loop-j : goal.invariant-loop-j
-invariant-loop-j l = (j : ℕ) (d : Rect) → l.i < j → j < l.j → can_join (slice_index_or (rects_of l.areas) l.i d) (slice_index_or (rects_of l.areas) j d) ≡ false
+invariant-loop-j g l = (j : ℕ) (d : Rect) → l.i < j → j < l.j → can_join (g.R.Round.rules l.round).round (slice_index_or (rects_of l.areas) l.i d) (slice_index_or (rects_of l.areas) j d) ≡ false

@@ -1,24 +1,20 @@
 use Rattle.std.proofs.Common.{◌≡◌}
-use Rattle.gui_base.specs.Forest.{size}
 use Rattle.gui_layout.specs.Settled.{Layout}
 use Rattle.gui_layout.specs.Tables.{listing_of, told}
 use Rattle.gui_store.specs.Views.{scene_of}
 use Rattle.gui_layout.specs.Scenes.{scene_box, HoldsBoxes}
-use Rattle.gui_layout.proofs.Parts.{IsNext, trees_from}
 use Rattle.gui_layout.proofs.Solves.{Solves}
 use Rattle.gui_layout.proofs.all.solve_trees.Given as goal
 
-abbrev pub invariant-loop-next : goal.invariant-loop-next
-invariant-loop-next l =
+abbrev pub invariant-loop-root : goal.invariant-loop-root
+invariant-loop-root l =
     let f = l.tree.forest in
+    let trees = l.root-iterator.left in
     record {
-      next_is : IsNext f l.next;
+      same : l.root-iterator.forest ≡ f;
       boxes : HoldsBoxes (told l.entries).boxes (scene_of l.store);
       listed : listing_of l.entries ≡ listing_of l.fn.entries;
       later : (now : Layout) →
-          Solves (scene_box (scene_of l.store)) l.width.pixels l.height.pixels (told l.entries) now (trees_from l.next f) →
+          Solves (scene_box (scene_of l.store)) l.width.pixels l.height.pixels (told l.entries) now trees →
           Solves (scene_box (scene_of l.store)) l.width.pixels l.height.pixels (told l.fn.entries) now f;
     }
-
-abbrev pub decreases-loop-next : goal.decreases-loop-next
-decreases-loop-next l = size (trees_from l.next l.tree.forest)

@@ -12,12 +12,14 @@ use Rattle.gui_layout.proofs.around.renew_all_there.Goals as goal
 pub loop-h-init : goal.loop-h-init
 loop-h-init c = record { own = λ k some left there still. absurd (omega arith); reads = reads-none c.args.tree.now.forest (told c.args.entries.now); others = λ k off. refl; listed = refl }
 
-pub renew_there-requires-clause-listed : goal.renew_there-requires-clause-listed
-renew_there-requires-clause-listed c there =
+pub renew_there-requires : goal.renew_there-requires
+renew_there-requires c =
     let hs = c.args.marked.now in
     let i = c.loop-h.h-index in
     let h = get_or hs i nothing in
-    subst (λ (ks : Listing). AreListed ks (tree_at c.args.tree.now.forest h.0)) (sym c.loop-h.invariant.listed) (c.requires.listed h.0 (first-times hs i c.loop-h-test.true) there)
+    record {
+      listed = λ there. subst (λ (ks : Listing). AreListed ks (tree_at c.args.tree.now.forest h.0)) (sym c.loop-h.invariant.listed) (c.requires.listed h.0 (first-times hs i c.loop-h-test.true) there);
+    }
 
 pub loop-h-preserved : goal.loop-h-preserved
 loop-h-preserved c =

@@ -1,24 +1,18 @@
 use Rattle.std.proofs.Common.{◌≡◌, ◌≤◌, ◌+◌, ◌++◌, vec_len, vec_capacity}
 use Rattle.gui_base.specs.Forest.{size, preorder}
 use Rattle.gui_tree.specs.Handles.{numbers}
-use Rattle.gui_layout.specs.Walks.{trees_from}
-use Rattle.gui_layout.proofs.Parts.{IsNext}
 use Rattle.gui_layout.proofs.listing.+list_trees.Given as goal
 
 abbrev pub decreases-list_trees : goal.decreases-list_trees
-decreases-list_trees l = size (trees_from l.first l.tree.now.forest)
+decreases-list_trees l = size l.trees.left
 
-abbrev pub invariant-loop-next : goal.invariant-loop-next
-invariant-loop-next l =
-    let f = l.tree.forest in
-    let later = trees_from l.next f in
+abbrev pub invariant-loop-h : goal.invariant-loop-h
+invariant-loop-h l =
+    let later = l.h-iterator.left in
     record {
-      next_is : IsNext f l.next;
-      fewer : size later ≤ size (trees_from l.fn.first f);
-      len : vec_len l.listed + size later ≡ vec_len l.fn.listed + size (trees_from l.fn.first f);
+      same : l.h-iterator.forest ≡ l.tree.forest;
+      fewer : size later ≤ size l.fn.trees.left;
+      len : vec_len l.listed + size later ≡ vec_len l.fn.listed + size l.fn.trees.left;
       capacity : vec_capacity l.listed ≡ vec_capacity l.fn.listed;
-      left : numbers l.listed.items ++ preorder later ≡ numbers l.fn.listed.items ++ preorder (trees_from l.fn.first f);
+      left : numbers l.listed.items ++ preorder later ≡ numbers l.fn.listed.items ++ preorder l.fn.trees.left;
     }
-
-abbrev pub decreases-loop-next : goal.decreases-loop-next
-decreases-loop-next l = size (trees_from l.next l.tree.forest)

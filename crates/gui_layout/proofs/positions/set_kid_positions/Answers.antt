@@ -14,18 +14,17 @@ use Rattle.gui_layout.specs.Settled.{Layout}
 use Rattle.gui_layout.specs.Tables.{Listing, AreListed, IsListed, listing_of, told}
 use Rattle.gui_layout.specs.Views.{box_at, box_of}
 use Rattle.gui_layout.specs.Slots.{slot_of, slot_at, at_roots, room_in, item_slot, tall_at, IsAtCorner, IsBelow, IsClose, HasRoom}
-use Rattle.gui_layout.proofs.Climbing.{in_own_tree}
 use Rattle.gui_layout.proofs.Finds.{keeps_then}
 use Rattle.gui_layout.proofs.Flows.{tall_is}
 use Rattle.gui_layout.proofs.Kids.{named}
 use Rattle.gui_layout.proofs.Moving.{moved_below}
-use Rattle.gui_layout.proofs.Parts.{distinct_once, distinct-part, found, there}
+use Rattle.gui_tree.proofs.Below.{own_tree, whole_tree}
 use Rattle.gui_layout.proofs.Stands.{flat_slots_are}
 use Rattle.gui_layout.proofs.positions.set_kid_positions.Goals as goal
 use Rattle.gui_layout.proofs.positions.set_kid_positions.Goals.{After-deal_positions, After-scrolled_by-scrolled, After-set_scrolled, After-move_kids}
 
 own_is : (c : After-deal_positions) → IsListed (listing_of c.args.entries.now) c.args.h.0
-own_is c = c.requires.listed c.args.h.0 (in_own_tree c.args.tree.now.forest c.args.h.0 c.requires.once c.requires.there)
+own_is c = c.requires.listed c.args.h.0 (own_tree c.args.tree.now.forest c.args.h.0 c.requires.there)
 
 -- where the children stand flat
 module _ (c : After-deal_positions) where
@@ -71,10 +70,7 @@ module _ (c : After-deal_positions) where
       (c.inside_of-inside.ensures.value h (get_or l.natural_heights h 0)) c.deal_positions.ensures.deals.dealt flow)
 
   own_out : has (children_of f h) h ≡ false
-  own_out =
-      let at = there f h c.requires.there in
-      let known = found at.part (distinct_once f c.requires.once) in
-      rw known.children (distinct-part at.part (distinct_once f c.requires.once)).1
+  own_out = (whole_tree f h c.requires.once c.requires.there).out
 
   stays : slot_at flat.slots h ≡ slot
   stays = c.deal_positions.ensures.deals.others.others h own_out
@@ -83,7 +79,7 @@ module _ (c : After-deal_positions) where
   still_listed = subst (λ (ks : Listing). AreListed ks (tree_at f h)) (sym c.deal_positions.ensures.listed) c.requires.listed
 
 pub entry_of-own-requires : goal.entry_of-own-requires
-entry_of-own-requires c = c.requires.listed c.args.h.0 (in_own_tree c.args.tree.now.forest c.args.h.0 c.requires.once c.requires.there)
+entry_of-own-requires c = c.requires.listed c.args.h.0 (own_tree c.args.tree.now.forest c.args.h.0 c.requires.there)
 
 pub inside_of-inside-requires-clause-room : goal.inside_of-inside-requires-clause-room
 inside_of-inside-requires-clause-room c = subst (λ (s : Slot). HasRoom s 1) (sym c.entry_of-own.ensures.told.slot) c.requires.room
@@ -94,12 +90,12 @@ reach_of-reach-requires-clause-listed c = still_listed (goal.at.reach_of-reach-r
 pub entry_of-requires : goal.entry_of-requires
 entry_of-requires c =
     let d = (goal.at.entry_of-requires c).After-deal_positions in
-    still_listed d c.args.h.0 (in_own_tree c.args.tree.now.forest c.args.h.0 c.requires.once c.requires.there)
+    still_listed d c.args.h.0 (own_tree c.args.tree.now.forest c.args.h.0 c.requires.there)
 
 pub set_scrolled-requires : goal.set_scrolled-requires
 set_scrolled-requires c =
     let d = (goal.at.set_scrolled-requires c).After-deal_positions in
-    still_listed d c.args.h.0 (in_own_tree c.args.tree.now.forest c.args.h.0 c.requires.once c.requires.there)
+    still_listed d c.args.h.0 (own_tree c.args.tree.now.forest c.args.h.0 c.requires.there)
 
 -- how far they reach, and how far they are moved
 module _ (c : After-scrolled_by-scrolled) where

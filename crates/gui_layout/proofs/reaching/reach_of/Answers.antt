@@ -1,7 +1,7 @@
-use Rattle.std.proofs.Common.{◌≡◌, ◌∙◌, sym, ap, subst, ℕ, ℤ, pos, ◌+ℤ◌, max, cond, Option, w32, to_z, of_z, refl, arith}
+use Rattle.std.proofs.Common.{◌≡◌, ◌∙◌, sym, ap, subst, ℕ, ℤ, pos, ◌+ℤ◌, max, cond, w32, to_z, of_z, refl, arith}
 use Rattle.std.proofs.lemmas.Int.{ints, to_z-of_z}
-use Rattle.gui_base.specs.Forest.{Forest, Empty, Tree, roots, children_of, tree_at}
-use Rattle.gui_base.specs.declared.Handle.{Handle}
+use Rattle.gui_base.specs.Forest.{Forest, Empty, roots, children_of}
+use Rattle.gui_tree.proofs.Below.{begins_below, steps_below, own_tree}
 use Rattle.layout_defs.specs.Solving.{Slot, Tall, far_end, end_across, end_down, reach_in, room_of}
 use Rattle.gui_layout.specs.declared.layout_box.LayoutBox.{LayoutBox}
 use Rattle.gui_layout.specs.Kids.{tall_kid}
@@ -9,55 +9,32 @@ use Rattle.gui_layout.specs.Scrolls.{at_corner}
 use Rattle.gui_layout.specs.Tables.{told}
 use Rattle.gui_layout.specs.Views.{box_at}
 use Rattle.gui_layout.specs.Slots.{slot_of, slot_at, talls, tall_at, at_roots}
-use Rattle.gui_layout.proofs.Climbing.{in_own_tree}
 use Rattle.gui_layout.proofs.Farthest.{far_step}
 use Rattle.gui_layout.proofs.Flows.{tall_is}
-use Rattle.gui_layout.proofs.Parts.{distinct_once, IsHead, next_head, IsNext, GoesOn, trees_from, walk_begins, walk_goes_on}
-use Rattle.gui_layout.proofs.Within.{begins_within, child_within, goes_within}
 use Rattle.gui_layout.proofs.reaching.reach_of.Goals as goal
-use Rattle.gui_layout.proofs.reaching.reach_of.Goals.{In-Some, After-next-next}
 
 -- a coordinate as it is read
 abbrev kept : ℤ → ℤ
 kept z = to_z w32 (of_z w32 z)
 
-goes : (c : After-next-next) → GoesOn c.args.tree.now.forest c.in-Some.child c.next-next.result
-goes c =
-    let f = c.args.tree.now.forest in
-    walk_goes_on f c.in-Some.child c.next-next.result (distinct_once f c.requires.once) (subst (IsNext f) c.in-Some.is c.loop-next.invariant.next_is) c.next-next.ensures
-
-now_is : (c : After-next-next) → trees_from c.loop-next.next c.args.tree.now.forest ≡ Tree c.in-Some.child.0 (goes c).children (goes c).rest
-now_is c = ap (λ (o : Option Handle). trees_from o c.args.tree.now.forest) c.in-Some.is ∙ (goes c).is
-
-pub loop-next-smaller : goal.loop-next-smaller
-loop-next-smaller c =
-    let d = (goal.at.loop-next-smaller c).After-next-next in
-    rw (now_is d, (goes d).later) (omega arith)
-
-pub loop-next-init : goal.loop-next-init
-loop-next-init c =
+pub loop-child-init : goal.loop-child-init
+loop-child-init c =
     let f = c.args.tree.now.forest in
     let l = told c.args.entries.now in
     let box = box_at l.boxes in
     let room = at_corner (kept c.inner_corner-x.result) (kept c.inner_corner-y.result) in
-    let begins = walk_begins f c.args.h.0 c.first_child-next.result (distinct_once f c.requires.once) c.first_child-next.ensures in
+    let begins = begins_below f c.args.h.0 _ (c.into_iter-child-iterator.ensures.into_iter_gives ∙ c.children-child-items.ensures.walk) in
     record {
-      next_is = begins.next_is;
-      inside = begins_within f c.args.h.0 c.first_child-next.result begins.all;
+      below = begins.is;
       across = ap (λ (t : Forest ℕ). max 0 (far_end (end_across room) (roots (talls box l.widths l.natural_heights t)) (at_roots l.slots t))) begins.all ∙ omega arith;
       down = ap (λ (t : Forest ℕ). max 0 (far_end (end_down room) (roots (talls box l.widths l.natural_heights t)) (at_roots l.slots t))) begins.all ∙ omega arith;
     }
 
-head : (c : In-Some) → IsHead c.args.tree.now.forest c.in-Some.child
-head c = next_head c.args.tree.now.forest c.in-Some.child (subst (IsNext c.args.tree.now.forest) c.in-Some.is c.loop-next.invariant.next_is)
-
 pub entry_of-own-requires : goal.entry_of-own-requires
-entry_of-own-requires c = c.requires.listed c.args.h.0 (in_own_tree c.args.tree.now.forest c.args.h.0 c.requires.once c.requires.there)
+entry_of-own-requires c = c.requires.listed c.args.h.0 (own_tree c.args.tree.now.forest c.args.h.0 c.requires.there)
 
 pub entry_of-requires : goal.entry_of-requires
-entry_of-requires c =
-    let d = (goal.at.entry_of-requires c).In-Some in
-    c.requires.listed c.in-Some.child.0 (child_within c.args.tree.now.forest (tree_at c.args.tree.now.forest c.args.h.0) c.in-Some.child c.loop-next.next c.in-Some.is c.loop-next.invariant.inside (head d))
+entry_of-requires c = c.requires.listed c.in-Some.child.0 (steps_below c.args.tree.now.forest c.args.h.0 _ _ _ c.loop-child.invariant.below c.in-Some.ensures.steps).own
 
 -- the farther end with a child, by what the tables say of it
 end_of : (end : Tall → Slot → ℕ) (kid : LayoutBox) (h width natural : ℕ) (tall : Tall) (slot at : Slot) (had now : ℕ) → tall_kid h kid width natural ≡ tall → slot ≡ at →
@@ -69,34 +46,31 @@ end_of end kid h width natural tall slot at had now is stands far =
 all_had : (had far : ℕ) → max had 0 ≡ far → had ≡ far
 all_had had far is = omega (arith, is)
 
-pub loop-next-preserved : goal.loop-next-preserved
-loop-next-preserved c =
-    let d = (goal.at.loop-next-preserved c).After-next-next in
-    let inv = c.loop-next.invariant in
+pub loop-child-preserved : goal.loop-child-preserved
+loop-child-preserved c =
+    let inv = c.loop-child.invariant in
     let f = c.args.tree.now.forest in
     let l = told c.args.entries.now in
     let w = l.widths in
     let n = l.natural_heights in
     let box = box_at l.boxes in
     let room = at_corner (kept c.inner_corner-x.result) (kept c.inner_corner-y.result) in
-    let g = goes d in
+    let trees = c.next.new.self.left in
+    let g = steps_below f c.args.h.0 _ _ _ inv.below c.in-Some.ensures.steps in
     let h = c.in-Some.child.0 in
     let kid = c.entry_of.result.now in
     let own = c.entry_of.ensures.told in
     let tall = tall_is l.boxes w n h kid.width.pixels kid.natural_height.pixels kid.wanted own.wanted own.width own.natural_height in
-    let far_across = end_of (end_across room) kid.wanted h kid.width.pixels kid.natural_height.pixels (tall_at box w n h) (slot_of kid.position) (slot_at l.slots h) c.loop-next.ends.across c.farther-ends.result.across tall own.slot (c.farther-ends.ensures.across h) in
-    let far_down = end_of (end_down room) kid.wanted h kid.width.pixels kid.natural_height.pixels (tall_at box w n h) (slot_of kid.position) (slot_at l.slots h) c.loop-next.ends.down c.farther-ends.result.down tall own.slot (c.farther-ends.ensures.down h) in
+    let far_across = end_of (end_across room) kid.wanted h kid.width.pixels kid.natural_height.pixels (tall_at box w n h) (slot_of kid.position) (slot_at l.slots h) c.loop-child.ends.across c.farther-ends.result.across tall own.slot (c.farther-ends.ensures.across h) in
+    let far_down = end_of (end_down room) kid.wanted h kid.width.pixels kid.natural_height.pixels (tall_at box w n h) (slot_of kid.position) (slot_at l.slots h) c.loop-child.ends.down c.farther-ends.result.down tall own.slot (c.farther-ends.ensures.down h) in
     record {
-      next_is = g.next_is;
-      inside = goes_within f (tree_at f c.args.h.0) c.in-Some.child c.loop-next.next c.in-Some.is inv.inside c.next-next.result g;
+      below = g.is;
       across =
-          ap (λ (t : Forest ℕ). max c.farther-ends.result.across (far_end (end_across room) (roots (talls box w n t)) (at_roots l.slots t))) g.later
-          ∙ (far_step (end_across room) (tall_at box w n h) (roots (talls box w n g.rest)) (slot_at l.slots h) (at_roots l.slots g.rest) c.loop-next.ends.across c.farther-ends.result.across far_across
-          ∙ (ap (λ (t : Forest ℕ). max c.loop-next.ends.across (far_end (end_across room) (roots (talls box w n t)) (at_roots l.slots t))) (sym (now_is d)) ∙ inv.across));
+          far_step (end_across room) (tall_at box w n h) (roots (talls box w n trees)) (slot_at l.slots h) (at_roots l.slots trees) c.loop-child.ends.across c.farther-ends.result.across far_across
+          ∙ (ap (λ (t : Forest ℕ). max c.loop-child.ends.across (far_end (end_across room) (roots (talls box w n t)) (at_roots l.slots t))) (sym g.left) ∙ inv.across);
       down =
-          ap (λ (t : Forest ℕ). max c.farther-ends.result.down (far_end (end_down room) (roots (talls box w n t)) (at_roots l.slots t))) g.later
-          ∙ (far_step (end_down room) (tall_at box w n h) (roots (talls box w n g.rest)) (slot_at l.slots h) (at_roots l.slots g.rest) c.loop-next.ends.down c.farther-ends.result.down far_down
-          ∙ (ap (λ (t : Forest ℕ). max c.loop-next.ends.down (far_end (end_down room) (roots (talls box w n t)) (at_roots l.slots t))) (sym (now_is d)) ∙ inv.down));
+          far_step (end_down room) (tall_at box w n h) (roots (talls box w n trees)) (slot_at l.slots h) (at_roots l.slots trees) c.loop-child.ends.down c.farther-ends.result.down far_down
+          ∙ (ap (λ (t : Forest ℕ). max c.loop-child.ends.down (far_end (end_down room) (roots (talls box w n t)) (at_roots l.slots t))) (sym g.left) ∙ inv.down);
     }
 
 pub returns : goal.returns
@@ -108,16 +82,16 @@ returns c =
     let n = l.natural_heights in
     let box = box_at l.boxes in
     let room = at_corner (kept c.inner_corner-x.result) (kept c.inner_corner-y.result) in
-    let inv = c.loop-next.invariant in
+    let inv = c.loop-child.invariant in
     let own = c.entry_of-own.result.now in
     let told_own = c.entry_of-own.ensures.told in
     let kids = roots (talls box w n (children_of f h)) in
     let at = at_roots l.slots (children_of f h) in
-    let none : trees_from c.loop-next.next f ≡ Empty = ap (λ (o : Option Handle). trees_from o f) c.in_default.is in
-    let across = all_had c.loop-next.ends.across (far_end (end_across room) kids at)
-    (ap (λ (t : Forest ℕ). max c.loop-next.ends.across (far_end (end_across room) (roots (talls box w n t)) (at_roots l.slots t))) (sym none) ∙ inv.across) in
-    let down = all_had c.loop-next.ends.down (far_end (end_down room) kids at)
-    (ap (λ (t : Forest ℕ). max c.loop-next.ends.down (far_end (end_down room) (roots (talls box w n t)) (at_roots l.slots t))) (sym none) ∙ inv.down) in
+    let none : c.loop-child.child-iterator.left ≡ Empty = c.in-None.ensures.steps.0 in
+    let across = all_had c.loop-child.ends.across (far_end (end_across room) kids at)
+    (ap (λ (t : Forest ℕ). max c.loop-child.ends.across (far_end (end_across room) (roots (talls box w n t)) (at_roots l.slots t))) (sym none) ∙ inv.across) in
+    let down = all_had c.loop-child.ends.down (far_end (end_down room) kids at)
+    (ap (λ (t : Forest ℕ). max c.loop-child.ends.down (far_end (end_down room) (roots (talls box w n t)) (at_roots l.slots t))) (sym none) ∙ inv.down) in
     let cx = c.inner_corner-x.ensures in
     let cy = c.inner_corner-y.ensures in
     let px : kept own.position.x ≡ own.position.x = let a = own.position.x_fits.0 in let b = own.position.x_fits.1 in to_z-of_z w32 own.position.x (omega (arith, ints)) in

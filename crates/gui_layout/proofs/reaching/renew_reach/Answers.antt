@@ -3,6 +3,7 @@ use Rattle.std.proofs.lemmas.Bool.{cases_Bool, eqb-true, both_ways}
 use Rattle.std.proofs.lemmas.List.{get_or-set_same, get_or-set_other}
 use Rattle.layout_defs.specs.Boxes.{Box}
 use Rattle.layout_defs.specs.Solving.{Span, no_span}
+use Rattle.gui_tree.proofs.Below.{own_tree}
 use Rattle.gui_layout.specs.Around.{IsFlat}
 use Rattle.gui_layout.specs.Kids.{flat_scrolled}
 use Rattle.gui_layout.specs.Layouts.{ButScrolls}
@@ -10,16 +11,15 @@ use Rattle.gui_layout.specs.Scrolls.{not_scrolled}
 use Rattle.gui_layout.specs.Settled.{Layout}
 use Rattle.gui_layout.specs.Tables.{scrolled_or, told}
 use Rattle.gui_layout.specs.Views.{box_at}
-use Rattle.gui_layout.proofs.Climbing.{in_own_tree}
 use Rattle.gui_layout.proofs.Listed.{told_short}
 use Rattle.gui_layout.proofs.reaching.renew_reach.Goals as goal
 use Rattle.gui_layout.proofs.reaching.renew_reach.Goals.{After-set_scrolled}
 
 pub entry_of-requires : goal.entry_of-requires
-entry_of-requires c = c.requires.listed c.args.h.0 (in_own_tree c.args.tree.now.forest c.args.h.0 c.requires.once c.requires.there)
+entry_of-requires c = c.requires.listed c.args.h.0 (own_tree c.args.tree.now.forest c.args.h.0 c.requires.there)
 
 pub set_scrolled-requires : goal.set_scrolled-requires
-set_scrolled-requires c = c.requires.listed c.args.h.0 (in_own_tree c.args.tree.now.forest c.args.h.0 c.requires.once c.requires.there)
+set_scrolled-requires c = c.requires.listed c.args.h.0 (own_tree c.args.tree.now.forest c.args.h.0 c.requires.there)
 
 rest : (c : After-set_scrolled) → ButScrolls (told c.args.entries.now) (told c.set_scrolled.new.entries)
 rest c =
@@ -31,7 +31,7 @@ flat c still =
     let h = c.args.h.0 in
     let f = c.args.tree.now.forest in
     let l = told c.args.entries.now in
-    let short = told_short scrolled_or c.args.entries.now h (c.requires.listed h (in_own_tree f h c.requires.once c.requires.there)) in
+    let short = told_short scrolled_or c.args.entries.now h (c.requires.listed h (own_tree f h c.requires.there)) in
     record {
       still = ap (λ (m : Layout). (box_at m.boxes h).scrollable) (rest c) ∙ still;
       read =

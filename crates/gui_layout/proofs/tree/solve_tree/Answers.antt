@@ -1,5 +1,5 @@
 use Rattle.std.proofs.Common.{◌≡◌, ◌∙◌, ◌≤◌, sym, ap, subst, ℕ, true, List, [], ◌∷◌, get_or, set, arith}
-use Rattle.gui_base.specs.Forest.{Forest, Tree, Empty, has, height, tree_at}
+use Rattle.gui_base.specs.Forest.{Forest, Tree, Empty, has, height, children_of, tree_at}
 use Rattle.gui_store.specs.Views.{scene_of}
 use Rattle.layout_defs.specs.Boxes.{Box}
 use Rattle.layout_defs.specs.OwnHeights.{but_height}
@@ -16,14 +16,14 @@ use Rattle.gui_layout.specs.Tables.{Listing, IsListed, AreListed, listing_of, sl
 use Rattle.gui_layout.specs.Talls.{HoldsNaturalHeights}
 use Rattle.gui_layout.specs.Views.{box_of, box_at}
 use Rattle.gui_layout.proofs.Bridges.{entry_set, keeps_set}
-use Rattle.gui_layout.proofs.Climbing.{in_own_tree}
+use Rattle.gui_tree.proofs.Below.{own_tree, tree_is, tree_low}
 use Rattle.gui_layout.proofs.Fitting.{HoldsAll, fit_of}
 use Rattle.gui_layout.proofs.Alike.{scrolls-alike}
 use Rattle.gui_layout.proofs.Alone.{same_width, same_slot}
 use Rattle.gui_layout.specs.Scrolls.{HoldsScrolls, Scrolled, not_scrolled}
 use Rattle.gui_layout.proofs.Listed.{told_short}
 use Rattle.gui_layout.proofs.OwnHeights.{same_naturals, same_widths, same_heights, same_slots}
-use Rattle.gui_layout.proofs.Parts.{IsThere, IsFound, there, found, distinct_once, height-part, here}
+use Rattle.gui_tree.proofs.Parts.{here}
 use Rattle.gui_layout.proofs.Stands.{room_fewer}
 use Rattle.gui_layout.proofs.tree.solve_tree.Goals as goal
 use Rattle.gui_layout.proofs.tree.solve_tree.Goals.{After-find_natural_widths, After-set_width, After-find_widths, After-set_own_heights, After-find_natural_heights, After-set_position, After-find_places}
@@ -32,7 +32,7 @@ use Rattle.gui_layout.proofs.tree.solve_tree.Goals.{After-find_natural_widths, A
 own_listed : (c : After-find_natural_widths) → IsListed (listing_of c.find_natural_widths.new.entries) c.args.h.0
 own_listed c =
     subst (λ (ks : Listing). IsListed ks c.args.h.0) (sym c.find_natural_widths.ensures.listed)
-    (c.requires.listed c.args.h.0 (in_own_tree c.args.tree.now.forest c.args.h.0 c.requires.once c.requires.there))
+    (c.requires.listed c.args.h.0 (own_tree c.args.tree.now.forest c.args.h.0 c.requires.there))
 
 wide_listed : (c : After-set_width) → listing_of c.set_width.new.entries ≡ listing_of c.args.entries.now
 wide_listed c = c.set_width.ensures.listed ∙ c.find_natural_widths.ensures.listed
@@ -46,7 +46,7 @@ high_listed c = c.find_natural_heights.ensures.listed ∙ fixed_listed (goal.at.
 own_high : (c : After-find_natural_heights) → IsListed (listing_of c.find_natural_heights.new.entries) c.args.h.0
 own_high c =
     subst (λ (ks : Listing). IsListed ks c.args.h.0) (sym (high_listed c))
-    (c.requires.listed c.args.h.0 (in_own_tree c.args.tree.now.forest c.args.h.0 c.requires.once c.requires.there))
+    (c.requires.listed c.args.h.0 (own_tree c.args.tree.now.forest c.args.h.0 c.requires.there))
 
 pub entry_of-own-requires : goal.entry_of-own-requires
 entry_of-own-requires c = own_listed (goal.at.entry_of-own-requires c).After-find_natural_widths
@@ -112,11 +112,9 @@ find_places-requires-clause-room c =
     let d = (goal.at.find_places-requires-clause-room c).After-set_position in
     let f = c.args.tree.now.forest in
     let h = c.args.h.0 in
-    let at = there f h c.requires.there in
-    let is = found at.part (distinct_once f c.requires.once) in
-    let high = height-part at.part in
+    let high = tree_low f h in
     let low = c.requires.low in
-    let lower : height (tree_at f h) ≤ 16 = rw is.tree (omega arith) in
+    let lower : height (tree_at f h) ≤ 16 = omega arith in
     room_fewer _ (height (tree_at f h)) 16 (subst (λ (s : Slot). HasRoom s 16) (sym (placed d)) c.framed_position-position.ensures.room) lower
 
 pub returns-clause-listed : goal.returns-clause-listed
@@ -142,14 +140,11 @@ module _ (c : After-find_places) where
   abbrev l : Layout
   l = told c.find_places.new.entries
 
-  at : IsThere f h
-  at = there f h c.requires.there
-
-  is : IsFound f h at.children at.rest
-  is = found at.part (distinct_once f c.requires.once)
-
   abbrev tree : Forest ℕ
-  tree = Tree h at.children Empty
+  tree = Tree h (children_of f h) Empty
+
+  is : tree_at f h ≡ tree
+  is = tree_is f h c.requires.there
 
   -- what each pass leaves of what was found before it
   passes_widths : told c.find_widths.new.entries ≡ record start { natural_widths = (told c.find_natural_widths.new.entries).natural_widths; widths = (told c.find_widths.new.entries).widths }
@@ -180,7 +175,7 @@ module _ (c : After-find_places) where
   same_h = ap (λ (k : Layout). k.natural_heights) passes
 
   same : (k : ℕ) → has tree k ≡ true → but_height (box_at start.boxes k) ≡ but_height (box k)
-  same k i = c.requires.boxes k (subst (λ (t : Forest ℕ). has t k ≡ true) (sym is.tree) i)
+  same k i = c.requires.boxes k (subst (λ (t : Forest ℕ). has t k ≡ true) (sym is) i)
 
   abbrev ws : List ℕ
   ws = (told c.find_widths.new.entries).widths
@@ -189,12 +184,12 @@ module _ (c : After-find_places) where
   ns = (told c.find_natural_heights.new.entries).natural_heights
 
   are_fixed : AreFixed box ws fixed.boxes tree
-  are_fixed = subst (AreFixed box ws fixed.boxes) is.tree c.set_own_heights.ensures.fixed
+  are_fixed = subst (AreFixed box ws fixed.boxes) is c.set_own_heights.ensures.fixed
 
   natural : HoldsNaturalWidths box l.natural_widths tree
   natural =
       subst (λ (xs : List ℕ). HoldsNaturalWidths box xs tree) (sym same_n)
-      (same_naturals (box_at start.boxes) box tree same _ (subst (HoldsNaturalWidths (box_at start.boxes) (told c.find_natural_widths.new.entries).natural_widths) is.tree c.find_natural_widths.ensures.found))
+      (same_naturals (box_at start.boxes) box tree same _ (subst (HoldsNaturalWidths (box_at start.boxes) (told c.find_natural_widths.new.entries).natural_widths) is c.find_natural_widths.ensures.found))
 
   -- its width as it was set
   abbrev first : ℕ
@@ -204,13 +199,13 @@ module _ (c : After-find_places) where
   wide =
       let boxes : (told c.set_width.new.entries).boxes ≡ start.boxes = ap (λ (k : Layout). k.boxes) (naturals_told (goal.at.After-find_places c).After-set_width) in
       same_widths (box_at start.boxes) box tree same (first ∷ []) ws
-      (subst (λ bs. HoldsWidths (box_at bs) (first ∷ []) ws tree) boxes (subst (HoldsWidths (box_at (told c.set_width.new.entries).boxes) (first ∷ []) ws) is.tree c.find_widths.ensures.found))
+      (subst (λ bs. HoldsWidths (box_at bs) (first ∷ []) ws tree) boxes (subst (HoldsWidths (box_at (told c.set_width.new.entries).boxes) (first ∷ []) ws) is c.find_widths.ensures.found))
 
   tall : HoldsNaturalHeights box ws ns tree
   tall =
       same_heights box ws fixed.boxes tree are_fixed ns
       (subst (λ (xs : List ℕ). HoldsNaturalHeights (box_at fixed.boxes) xs ns tree) (ap (λ (k : Layout). k.widths) c.set_own_heights.ensures.rest)
-      (subst (HoldsNaturalHeights (box_at fixed.boxes) fixed.widths ns) is.tree c.find_natural_heights.ensures.found))
+      (subst (HoldsNaturalHeights (box_at fixed.boxes) fixed.widths ns) is c.find_natural_heights.ensures.found))
 
   abbrev slot : Slot
   slot = slot_at (told c.set_position.new.entries).slots h
@@ -220,7 +215,7 @@ module _ (c : After-find_places) where
       same_slots box ws fixed.boxes tree are_fixed ns (slot ∷ []) l.slots
       (subst (λ (xs : List ℕ). HoldsSlots (box_at fixed.boxes) xs ns (slot ∷ []) l.slots tree) (ap (λ (k : Layout). k.widths) c.set_own_heights.ensures.rest)
       (subst (λ (k : Layout). HoldsSlots (box_at k.boxes) k.widths k.natural_heights (slot ∷ []) l.slots tree) passes_set
-      (subst (HoldsSlots (box_at (told c.set_position.new.entries).boxes) (told c.set_position.new.entries).widths (told c.set_position.new.entries).natural_heights (slot ∷ []) l.slots) is.tree c.find_places.ensures.found)))
+      (subst (HoldsSlots (box_at (told c.set_position.new.entries).boxes) (told c.set_position.new.entries).widths (told c.set_position.new.entries).natural_heights (slot ∷ []) l.slots) is c.find_places.ensures.found)))
 
   scrolled : HoldsScrolls box l.widths l.natural_heights l.slots l.scrolls tree
   scrolled =
@@ -229,7 +224,7 @@ module _ (c : After-find_places) where
       (scrolls-alike (box_at fixed.boxes) box ws ns l.slots l.scrolls tree (λ k i. ap but_height (are_fixed k i))
       (subst (λ (xs : List ℕ). HoldsScrolls (box_at fixed.boxes) xs ns l.slots l.scrolls tree) (ap (λ (k : Layout). k.widths) c.set_own_heights.ensures.rest)
       (subst (λ (k : Layout). HoldsScrolls (box_at k.boxes) k.widths k.natural_heights l.slots l.scrolls tree) passes_set
-      (subst (HoldsScrolls (box_at (told c.set_position.new.entries).boxes) (told c.set_position.new.entries).widths (told c.set_position.new.entries).natural_heights l.slots l.scrolls) is.tree c.find_places.ensures.scrolled)))))
+      (subst (HoldsScrolls (box_at (told c.set_position.new.entries).boxes) (told c.set_position.new.entries).widths (told c.set_position.new.entries).natural_heights l.slots l.scrolls) is c.find_places.ensures.scrolled)))))
 
   all : HoldsAll box l tree
   all =
@@ -252,13 +247,13 @@ module _ (c : After-find_places) where
       ∙ entry_set 0 (told t).widths (told c.set_width.new.entries).widths h _ (told_short width_or t h (own_listed (goal.at.After-find_places c).After-find_natural_widths)) (ap (λ (k : Layout). k.widths) c.set_width.ensures.set))
 
   own : but_height (box_of h c.entry_of-own.result.now.wanted) ≡ but_height (box h)
-  own = ap but_height (c.entry_of-own.ensures.told.wanted ∙ ap (λ (k : Layout). box_at k.boxes h) c.find_natural_widths.ensures.rest) ∙ same h (here h at.children Empty)
+  own = ap but_height (c.entry_of-own.ensures.told.wanted ∙ ap (λ (k : Layout). box_at k.boxes h) c.find_natural_widths.ensures.rest) ∙ same h (here h (children_of f h) Empty)
 
   -- its box once its own height is set
   set_own : but_height (box_of h c.entry_of-own-2.result.now.wanted) ≡ but_height (box h)
   set_own =
       ap but_height (c.entry_of-own-2.ensures.told.wanted ∙ ap (λ (k : Layout). box_at k.boxes h) passes_heights)
-      ∙ c.set_own_heights.ensures.boxes h (ap but_height (ap (λ (k : Layout). box_at k.boxes h) passes_widths) ∙ same h (here h at.children Empty))
+      ∙ c.set_own_heights.ensures.boxes h (ap but_height (ap (λ (k : Layout). box_at k.boxes h) passes_widths) ∙ same h (here h (children_of f h) Empty))
 
   -- the sizes as they were read
   natural_told : c.entry_of-own.result.now.natural_width.pixels ≡ get_or l.natural_widths h 0
@@ -283,12 +278,12 @@ returns-clause-boxes c =
 pub returns-clause-scrolled : goal.returns-clause-scrolled
 returns-clause-scrolled c =
     let e = (goal.at.returns-clause-scrolled c).After-find_places in
-    subst (HoldsScrolls (box e) (l e).widths (l e).natural_heights (l e).slots (l e).scrolls) (sym (is e).tree) (scrolled e)
+    subst (HoldsScrolls (box e) (l e).widths (l e).natural_heights (l e).slots (l e).scrolls) (sym (is e)) (scrolled e)
 
 pub returns-clause-fit : goal.returns-clause-fit
 returns-clause-fit c =
     let e = (goal.at.returns-clause-fit c).After-find_places in
-    subst (λ t. AllFit (known (box e) (l e) t)) (sym (is e).tree) (fit_of (box e) (l e) (tree e) (all e))
+    subst (λ t. AllFit (known (box e) (l e) t)) (sym (is e)) (fit_of (box e) (l e) (tree e) (all e))
 
 pub returns-clause-stands : goal.returns-clause-stands
 returns-clause-stands c =
@@ -319,7 +314,7 @@ returns-clause-others c =
     let d = (goal.at.returns-clause-others c).After-set_width in
     let h = c.args.h.0 in
     let t = tree_at c.args.tree.now.forest h in
-    let inside : has t h ≡ true = rw (is e).tree (here h (at e).children Empty) in
+    let inside = own_tree c.args.tree.now.forest h c.requires.there in
     let start = told c.args.entries.now in
     let set_w : (told c.set_width.new.entries).widths ≡ set start.widths h c.framed_width-width.result =
     ap (λ (k : Layout). k.widths) c.set_width.ensures.set ∙ ap (λ (k : Layout). set k.widths h c.framed_width-width.result) c.find_natural_widths.ensures.rest in

@@ -4,11 +4,11 @@ use Rattle.layout_defs.specs.Solving.{kid_widths, kid_widths_by}
 use Rattle.gui_layout.specs.Kids.{wide_kids}
 use Rattle.gui_layout.specs.Tables.{told}
 use Rattle.gui_layout.specs.Views.{box_at, box_of}
-use Rattle.gui_layout.proofs.Climbing.{in_own_tree}
+use Rattle.gui_tree.proofs.Below.{own_tree}
 use Rattle.gui_layout.proofs.widths.set_kid_widths.Goals as goal
 
 pub entry_of-own-requires : goal.entry_of-own-requires
-entry_of-own-requires c = c.requires.listed c.args.h.0 (in_own_tree c.args.tree.now.forest c.args.h.0 c.requires.once c.requires.there)
+entry_of-own-requires c = c.requires.listed c.args.h.0 (own_tree c.args.tree.now.forest c.args.h.0 c.requires.there)
 
 pub returns-clause-kids : goal.returns-clause-kids
 returns-clause-kids c =

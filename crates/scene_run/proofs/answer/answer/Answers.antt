@@ -7,7 +7,7 @@ use Rattle.gui_core.specs.Machines.{machine_of, pending_in, refresher_in, stage_
 use Rattle.gui_refresh.specs.Owing.{standing_of}
 use Rattle.gui_refresh.proofs.Owing.{adding_counts}
 use Rattle.gui_refresh.specs.Stages.{Refreshing, stage}
-use Rattle.scene_run.proofs.Effects.{AppendsPrefix-nothing, breaks_reply}
+use Rattle.scene_run.proofs.Effects.{AppendsPrefix-nothing, breaks_reply, reply_effects}
 use Rattle.scene_run.proofs.Owing.{panel_is}
 use Rattle.scene_run.proofs.Pumping.{pump_faults, pump_effects, can_keeps, agrees_keeps}
 use Rattle.scene_run.proofs.answer.answer.Goals as goal
@@ -84,6 +84,10 @@ returns-in_err-put-in-Err-clause-err g c = on_err c.from_residual-in_err-put-in-
   counts = refl;
   flies = inl (refl, refl);
 }))
+
+pub returns-in_ok-reply-in-Make-clause-ok : goal.returns-in_ok-reply-in-Make-clause-ok
+returns-in_ok-reply-in-Make-clause-ok g c =
+    rw (c.in-Ok.is, c.in-Make.is) (λ seen shown. reply_effects _ _ _ seen _ _ _ c.in_ok-reply-in-Make.ensures.ok c.in_ok-reply-in-Make.ensures.cause.later)
 
 pub returns-in_ok-put-in-Frame-clause-ok : goal.returns-in_ok-put-in-Frame-clause-ok
 returns-in_ok-put-in-Frame-clause-ok g c = rw (c.in-Ok.is, c.in-Frame.is) (λ seen shown. record {

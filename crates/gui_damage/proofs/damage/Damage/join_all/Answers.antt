@@ -1,67 +1,111 @@
-use Rattle.std.proofs.Common.{◌≡◌, ◌∙◌, refl, sym, false, AllPairs, ap, subst, ◌<◌, length, get_or, set, remove, List, arith}
-use Rattle.std.proofs.lemmas.List.{length-set, length-map}
-use Rattle.gui_base.specs.Area.{Rect}
-use Rattle.gui_damage.specs.Damage.{rects_of, pending_of}
-use Rattle.gui_damage.specs.Joining.{JoinsPair, none, one_more, JoinsAll, can_join, IsPair}
-use Rattle.gui_damage.specs.Pending.{Pending}
-use Rattle.gui_base.specs.declared.area.Area.{Area}
+use Rattle.std.proofs.Common.{◌≡◌, ◌∙◌, refl, sym, ap, subst, ◌<◌, true, false, length, get_or, List, AllPairs, arith}
+use Rattle.std.proofs.lemmas.List.{length-map}
+use Rattle.gui_base.specs.Area.{Rect, joined, is_within}
 use Rattle.gui_base.specs.Corners.{rect_of}
-use Rattle.gui_damage.proofs.Slices.{refill_all}
-use Rattle.gui_damage.proofs.Joins.{joined_at, rect_at, rects-joined_at, joins_pair, pair_within, pair_length}
+use Rattle.gui_base.specs.Rounding.{Rounding, IsRounding}
+use Rattle.gui_damage.specs.Joining.{can_join, joined_at, IsPair, JoinsPair, JoinsPairs, none, one_more, JoinsAll}
+use Rattle.gui_damage.specs.Pending.{Pending}
+use Rattle.gui_damage.specs.Rounded.{Rounded, IsRounded, pending_by, pending_in}
+use Rattle.gui_damage.proofs.Joins.{rect_at, within_joined, pair_length, joins_pair}
+use Rattle.gui_damage.proofs.Replacing.{all_at, rounded_joined}
+use Rattle.gui_damage.proofs.damage.Damage.join_all.Given.{Over}
 use Rattle.gui_damage.proofs.damage.Damage.join_all.Goals as goal
-use Rattle.gui_damage.proofs.damage.Damage.join_all.Goals.{After-join-join}
+use Rattle.gui_damage.proofs.damage.Damage.join_all.Goals.{After-join}
 
-module _ (c : After-join-join) where
-  abbrev items : List Area
-  items = c.loop-i.self-inside.listed.items
+module _ (g : Over) (c : After-join g) where
+  abbrev rules : Rounding
+  rules = g.R.Round.rules c.loop-i.self-inside.round
 
-  pair : IsPair (rects_of items) c.in-Some.i c.in-Some.j
-  pair = subst (λ (xs : List Area). IsPair (rects_of xs) c.in-Some.i c.in-Some.j) c.deref.ensures.0 c.in-Some.ensures
+  abbrev areas : List Rect
+  areas = c.loop-i.self-inside.list.areas
 
-  first : (d : Rect) → get_or (rects_of items) c.in-Some.i d ≡ rect_of c.index-deref-i.result
-  first d =
-      let p : c.in-Some.i < c.in-Some.j = pair.later in
-      let within : c.in-Some.j < length items = omega (arith, pair.within, length-map items rect_of) in
-      rect_at items c.in-Some.i c.index-deref-i.result d (omega arith) (subst (λ (xs : List Area). c.index-deref-i.result ≡ get_or xs c.in-Some.i c.index-deref-i.result) c.deref-in-Some.ensures.0 c.index-deref-i.is)
+  abbrev a : Rect
+  a = rect_of c.index-areas-i.result
 
-  second : (d : Rect) → get_or (rects_of items) c.in-Some.j d ≡ rect_of c.index-deref-j.result
-  second d =
-      let within : c.in-Some.j < length items = omega (arith, pair.within, length-map items rect_of) in
-      rect_at items c.in-Some.j c.index-deref-j.result d within (subst (λ (xs : List Area). c.index-deref-j.result ≡ get_or xs c.in-Some.j c.index-deref-j.result) c.deref-in-Some-2.ensures.0 c.index-deref-j.is)
+  abbrev b : Rect
+  b = rect_of c.index-areas-j.result
 
-  step : JoinsPair (rects_of items) (joined_at (rects_of items) c.in-Some.i c.in-Some.j (rect_of c.join-join.result))
-  step = subst (λ (area : Rect). JoinsPair (rects_of items) (joined_at (rects_of items) c.in-Some.i c.in-Some.j area)) (sym c.join-join.ensures.corners) (joins_pair (rects_of items) c.in-Some.i c.in-Some.j _ _ pair first second)
+  is : IsRounding rules
+  is = g.met.R.Round.sound c.loop-i.self-inside.round
+
+  pair : IsPair rules.round areas c.in-Some.i c.in-Some.j
+  pair = subst (λ (xs : List Rect). IsPair rules.round xs c.in-Some.i c.in-Some.j) c.areas.ensures.areas c.in-Some.ensures
+
+  later : c.in-Some.i < c.in-Some.j
+  later = pair.later
+
+  within : c.in-Some.j < length c.areas-areas.result.now
+  within = omega (arith, pair.within, length-map c.areas-areas.result.now rect_of, ap length c.areas-areas.ensures.areas)
+
+  first : (d : Rect) → get_or areas c.in-Some.i d ≡ a
+  first d = subst (λ (xs : List Rect). get_or xs c.in-Some.i d ≡ a) c.areas-areas.ensures.areas (rect_at c.areas-areas.result.now c.in-Some.i c.index-areas-i.result d (omega (arith, later, within)) c.index-areas-i.is)
+
+  second : (d : Rect) → get_or areas c.in-Some.j d ≡ b
+  second d = subst (λ (xs : List Rect). get_or xs c.in-Some.j d ≡ b) c.areas-areas.ensures.areas (rect_at c.areas-areas.result.now c.in-Some.j c.index-areas-j.result d within c.index-areas-j.is)
+
+  -- both lie in the panel, and so does their join
+  join_inside : is_within rules.panel (joined a b) ≡ true
+  join_inside =
+      let each = c.loop-i.invariant.sound.pending.each in
+      within_joined rules.panel a b
+      (subst (λ (r : Rect). is_within rules.panel r ≡ true) (first rules.panel) (all_at (is_within rules.panel) areas c.in-Some.i rules.panel (omega (arith, later, pair.within)) each))
+      (subst (λ (r : Rect). is_within rules.panel r ≡ true) (second rules.panel) (all_at (is_within rules.panel) areas c.in-Some.j rules.panel pair.within each))
+
+  step : JoinsPair rules.round areas (joined_at areas c.in-Some.i c.in-Some.j (rules.round (joined a b)))
+  step = joins_pair rules.round areas c.in-Some.i c.in-Some.j a b pair first second (is.holds (joined a b) join_inside)
+
+  rounded_is : (r : Rect) → r ≡ rules.round (rect_of c.join.result) → r ≡ rules.round (joined a b)
+  rounded_is r e = e ∙ ap rules.round c.join.ensures.corners
+
+  -- what is listed after the pair was joined
+  now_is : (r : Rect) (now : Pending) → now ≡ record c.loop-i.self-inside.list { areas = joined_at areas c.in-Some.i c.in-Some.j r } → r ≡ rules.round (rect_of c.join.result) →
+      now.areas ≡ joined_at areas c.in-Some.i c.in-Some.j (rules.round (joined a b))
+  now_is r now e f = ap (λ (p : Pending). p.areas) e ∙ ap (joined_at areas c.in-Some.i c.in-Some.j) (rounded_is r f)
+
+pub round-join-requires : goal.round-join-requires
+round-join-requires g c = subst (λ (r : Rect). is_within (rules g c).panel r ≡ true) (sym c.join.ensures.corners) (join_inside g c)
+
+same_within : (p q a b : Rect) → p ≡ q → a ≡ b → is_within q b ≡ true → is_within p a ≡ true
+same_within p q a b e f h = rw (e, f) h
+
+pub replace-requires-clause-area : goal.replace-requires-clause-area
+replace-requires-clause-area g c =
+    let d = (goal.at.replace-requires-clause-area g c).After-join in
+    same_within _ _ _ _ c.loop-i.invariant.panel (rounded_is g d (rect_of c.round-join.result) c.round-join.ensures) ((is g d).inside (joined (a g d) (b g d)) (join_inside g d))
+
+pub loop-i-smaller : goal.loop-i-smaller
+loop-i-smaller g c =
+    let d = (goal.at.loop-i-smaller g c).After-join in
+    let now = now_is g d (rect_of c.round-join.result) c.replace.new.self c.replace.ensures c.round-join.ensures in
+    omega (arith, ap length now, pair_length _ _ _ (step g d))
 
 pub loop-i-preserved : goal.loop-i-preserved
-loop-i-preserved c =
-    let d = (goal.at.loop-i-preserved c).After-join-join in
-    let items = c.loop-i.self-inside.listed.items in
+loop-i-preserved g c =
+    let d = (goal.at.loop-i-preserved g c).After-join in
     let inv = c.loop-i.invariant in
-    let written = set c.deref_mut.result.now c.in-Some.i c.join-join.result in
-    let same = refill_all items written (length-set c.deref_mut.result.now c.in-Some.i c.join-join.result ∙ ap length c.deref_mut.ensures.value)
-    ∙ ap (λ (xs : List Area). set xs c.in-Some.i c.join-join.result) c.deref_mut.ensures.value in
-    let now : joined_at (rects_of items) c.in-Some.i c.in-Some.j (rect_of c.join-join.result) ≡ rects_of c.remove.new.self.items =
-    sym (ap rects_of (c.remove.ensures.items ∙ ap (λ (xs : List Area). remove xs c.in-Some.j) same) ∙ rects-joined_at items c.in-Some.i c.in-Some.j c.join-join.result) in
-    let joins = subst (JoinsPair (rects_of items)) now (step d) in
-    let few = inv.pending.few in
+    let now = now_is g d (rect_of c.round-join.result) c.replace.new.self c.replace.ensures c.round-join.ensures in
+    let inside = join_inside g d in
+    let p = pair g d in
     record {
-      panel = inv.panel;
-      joins = one_more inv.joins joins;
-      pending = record {
-        some = inv.pending.some;
-        each = pair_within _ _ joins (rect_of c.loop-i.self-inside.panel) inv.pending.each;
-        few = omega (arith, few, pair_length _ _ joins);
-      };
+      round = inv.round;
+      panel = ap (λ (p : Pending). p.panel) c.replace.ensures ∙ inv.panel;
+      joins = subst (JoinsPairs (rules g d).round c.self.inside.list.areas) (sym now) (one_more inv.joins (step g d));
+      sound = subst (IsRounded (rules g d)) (sym now)
+          (rounded_joined (rules g d) (areas g d) c.in-Some.i c.in-Some.j ((rules g d).round (joined (a g d) (b g d))) inv.sound p.later p.within ((is g d).inside _ inside) ((is g d).again _ inside));
     }
 
 pub loop-i-init : goal.loop-i-init
-loop-i-init c = record { panel = refl; joins = none; pending = c.self.invariant }
+loop-i-init g c = record { round = refl; panel = c.self.invariant.0; joins = none; sound = c.self.invariant.1 }
 
-pub returns : goal.returns
-returns c =
+pub returns-clause-joins : goal.returns-clause-joins
+returns-clause-joins g c =
     let inv = c.loop-i.invariant in
-    subst (λ (p : Pending). JoinsAll p (pending_of c.loop-i.self-inside.panel c.loop-i.self-inside.listed.items)) c.self.view_is (record {
-      panel = ap rect_of inv.panel;
+    let rules = g.R.Round.rules in
+    let now = c.loop-i.self-inside in
+    let apart = subst (λ (xs : List Rect). AllPairs (λ a b. can_join (rules now.round).round a b ≡ false) xs) c.areas.ensures.areas c.in_default.ensures in
+    subst (λ (d : Rounded g.row.R.Denot). JoinsAll (rules d.round).round (pending_in rules d) (pending_by (rules now.round) now.list.areas)) c.self.view_is
+    (subst (λ (r : g.row.R.Denot). JoinsAll (rules r).round (pending_by (rules c.self.inside.round) c.self.inside.list.areas) (pending_by (rules now.round) now.list.areas)) inv.round (record {
+      panel = ap (λ (r : g.row.R.Denot). (rules r).panel) inv.round;
       joins = inv.joins;
-      apart = subst (λ (xs : List Area). AllPairs (λ a b. can_join a b ≡ false) (rects_of xs)) c.deref.ensures.0 c.in_default.ensures;
-    })
+      apart = apart;
+    }))

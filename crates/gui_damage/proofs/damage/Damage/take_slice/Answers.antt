@@ -1,92 +1,38 @@
-use Rattle.std.proofs.Common.{◌≡◌, ◌∙◌, sym, ap, subst, ℕ, ◌<◌, ◌≤◌, List, ◌∷◌, length, get_or, drop, set, Some, arith}
-use Rattle.std.specs.List.{refill}
-use Rattle.std.proofs.lemmas.List.{length-set}
-use Rattle.std.proofs.lemmas.Bool.Decides.{nat_tests}
-use Rattle.gui_base.specs.Area.{Rect, width_of, height_of}
-use Rattle.gui_damage.specs.Damage.{rects_of, pending_of}
-use Rattle.gui_damage.specs.Pending.{Pending, IsPending}
-use Rattle.gui_damage.specs.Slices.{top_lines, lines_below, slice_lines, slice_of, left_after}
-use Rattle.gui_base.specs.declared.area.Area.{Area}
+use Rattle.std.proofs.Common.{◌≡◌, ◌∙◌, sym, ap, subst, refl, ℕ, ◌*◌, ◌/◌, ◌≤◌}
+use Rattle.gui_base.specs.Area.{Rect, width_of}
 use Rattle.gui_base.specs.Corners.{rect_of}
-use Rattle.gui_damage.proofs.Slices.{from_first, refill_all, one_line, first_within, first_some, without_first, with_below, left_whole, left_below}
+use Rattle.gui_damage.specs.Pending.{Pending}
+use Rattle.gui_damage.specs.Rounded.{Rounded, IsRounded, whole_steps}
+use Rattle.gui_base.specs.Rounding.{Rounding}
+use Rattle.gui_damage.specs.Slices.{HasLine, left_after}
+use Rattle.gui_damage.proofs.Rounds.{has_line, rounded_left}
+use Rattle.gui_damage.proofs.damage.Damage.take_slice.Given.{Over}
 use Rattle.gui_damage.proofs.damage.Damage.take_slice.Goals as goal
-use Rattle.gui_damage.proofs.damage.Damage.take_slice.Goals.{After-min-lines}
+use Rattle.gui_damage.proofs.damage.Damage.take_slice.Goals.{After-step-step}
 
-abbrev first_of : (c : After-min-lines) → Rect
-first_of c = rect_of c.index-deref-0.result
+abbrev rules_of : (g : Over) → After-step-step g → Rounding
+rules_of g c = g.R.Round.rules c.self.inside.round
 
-abbrev rest_of : (c : After-min-lines) → List Area
-rest_of c = drop 1 c.self.inside.listed.items
+wide : (g : Over) (c : After-step-step g) → width_of (rules_of g c).panel * (rules_of g c).step ≤ c.args.limit
+wide g c = subst (λ (d : Rounded g.row.R.Denot). width_of (g.R.Round.rules d.round).panel * (g.R.Round.rules d.round).step ≤ c.args.limit) (sym c.self.view_is) c.requires
 
-items_are : (c : After-min-lines) → c.self.inside.listed.items ≡ c.index-deref-0.result ∷ rest_of c
-items_are c =
-    let some : 0 < length c.self.inside.listed.items = grind (arith, nat_tests) in
-    from_first c.self.inside.listed.items c.index-deref-0.result some (subst (λ (xs : List Area). c.index-deref-0.result ≡ get_or xs 0 c.index-deref-0.result) c.deref.ensures.0 c.index-deref-0.is)
+same : (rules : Rounding) (limit width step : ℕ) (first : Rect) → width ≡ width_of first → step ≡ rules.step → limit / width / step * step * width ≡ whole_steps rules limit first
+same rules limit width step first w s = rw (w, s) refl
 
-pending : (c : After-min-lines) → IsPending (record { panel = rect_of c.self.inside.panel; areas = first_of c ∷ rects_of (rest_of c) })
-pending c = subst (λ (xs : List Area). IsPending (pending_of c.self.inside.panel xs)) (items_are c) c.self.invariant
+most_is : (g : Over) (c : After-step-step g) → c.args.limit / c.width-width.result / c.step-step.result * c.step-step.result * c.width-width.result ≡ whole_steps (rules_of g c) c.args.limit (rect_of c.in-Some.first)
+most_is g c = same (rules_of g c) c.args.limit c.width-width.result c.step-step.result (rect_of c.in-Some.first) c.width-width.ensures c.step-step.ensures
 
-lines_are : (c : After-min-lines) → c.min-lines.result ≡ slice_lines c.args.limit (first_of c)
-lines_are c = rw (← c.width.ensures, ← c.height.ensures) c.min-lines.ensures
-
-wide : (c : After-min-lines) → width_of (rect_of c.self.inside.panel) ≤ c.args.limit
-wide c = subst (λ (p : Pending). width_of p.panel ≤ c.args.limit) (sym c.self.view_is) c.requires
-
-pub top_lines-slice-requires-clause-line : goal.top_lines-slice-requires-clause-line
-top_lines-slice-requires-clause-line c =
-    subst (λ (n : ℕ). 0 < n) (sym (lines_are c)) (one_line (rect_of c.self.inside.panel) (first_of c) c.args.limit (first_within _ _ _ (pending c)) c.self.invariant.some (wide c))
-
-pub top_lines-slice-requires-clause-some : goal.top_lines-slice-requires-clause-some
-top_lines-slice-requires-clause-some c = first_some _ _ _ (pending c)
-
-pub lines_below-requires-clause-some : goal.lines_below-requires-clause-some
-lines_below-requires-clause-some c = first_some _ _ _ (pending (goal.at.lines_below-requires-clause-some c).After-min-lines)
+pub take_slice-requires : goal.take_slice-requires
+take_slice-requires g c =
+    let d = (goal.at.take_slice-requires g c).After-step-step in
+    subst (λ (n : ℕ). HasLine n c.self.inside.list.areas) (sym (most_is g d))
+    (has_line (rules_of g d) c.args.limit c.self.inside.list.areas (rect_of c.in-Some.first) (g.met.R.Round.sound c.self.inside.round) c.self.invariant.1 c.in-Some.ensures (wide g d))
 
 pub invariant_of-self : goal.invariant_of-self
-invariant_of-self c =
-    let d = (goal.at.invariant_of-self c).After-min-lines in
-    subst (λ (xs : List Area). IsPending (pending_of c.self.inside.panel xs)) (sym c.remove.ensures.items) (without_first _ _ _ (pending d))
-
-left_items : (c : goal.After-self-1) → refill (length c.self.inside.listed.items) c.self.inside.listed.items (set c.deref_mut.result.now 0 c.lines_below.result) ≡ c.lines_below.result ∷ drop 1 c.self.inside.listed.items
-left_items c =
-    let d = (goal.at.invariant_of-self-2 c).After-min-lines in
-    let same = c.deref_mut.ensures.value in
-    refill_all c.self.inside.listed.items (set c.deref_mut.result.now 0 c.lines_below.result) (length-set c.deref_mut.result.now 0 c.lines_below.result ∙ ap length same)
-    ∙ ap (λ (xs : List Area). set xs 0 c.lines_below.result) (same ∙ items_are d)
-
-pub invariant_of-self-2 : goal.invariant_of-self-2
-invariant_of-self-2 c =
-    let d = (goal.at.invariant_of-self-2 c).After-min-lines in
-    let below : c.min-lines.result < height_of (first_of d) = omega (arith, lines_are d, c.height-2.ensures, c.if-lines-height.false) in
-    subst (λ (xs : List Area). IsPending (pending_of c.self.inside.panel xs)) (sym (left_items c))
-    (subst (λ (r : Rect). IsPending (record { panel = rect_of c.self.inside.panel; areas = r ∷ rects_of (rest_of d) })) (sym c.lines_below.ensures) (with_below _ _ _ (pending d) c.min-lines.result below))
-
-slice_now : (c : After-min-lines) (slice : Rect) → slice ≡ top_lines (first_of c) c.min-lines.result → Some slice ≡ slice_of c.args.limit c.args.self.now.areas
-slice_now c slice e =
-    ap Some (e ∙ ap (top_lines (first_of c)) (lines_are c))
-    ∙ (ap (λ (xs : List Area). slice_of c.args.limit (rects_of xs)) (sym (items_are c)) ∙ ap (λ (p : Pending). slice_of c.args.limit p.areas) c.self.view_is)
-
-left_now : (c : After-min-lines) (left : List Rect) → left ≡ left_after c.args.limit (first_of c ∷ rects_of (rest_of c)) →
-    record { panel = rect_of c.self.inside.panel; areas = left } ≡ record c.args.self.now { areas = left_after c.args.limit c.args.self.now.areas }
-left_now c left e =
-    ap (λ (areas : List Rect). record { panel = rect_of c.self.inside.panel; areas = areas }) (e ∙ ap (λ (xs : List Area). left_after c.args.limit (rects_of xs)) (sym (items_are c)))
-    ∙ ap (λ (p : Pending). record p { areas = left_after c.args.limit p.areas }) c.self.view_is
-
-pub returns-then-lines-height-clause-slice : goal.returns-then-lines-height-clause-slice
-returns-then-lines-height-clause-slice c = slice_now (goal.at.returns-then-lines-height-clause-slice c).After-min-lines (rect_of c.top_lines-slice.result) c.top_lines-slice.ensures
-
-pub returns-then-lines-height-clause-rest : goal.returns-then-lines-height-clause-rest
-returns-then-lines-height-clause-rest c =
-    let d = (goal.at.returns-then-lines-height-clause-rest c).After-min-lines in
-    left_now d (rects_of c.remove.new.self.items) (ap rects_of c.remove.ensures.items ∙ sym (left_whole c.args.limit (first_of d) (rects_of (rest_of d)) (sym (lines_are d) ∙ (c.if-lines-height.true ∙ c.height-2.ensures))))
-
-pub returns-clause-slice : goal.returns-clause-slice
-returns-clause-slice c = slice_now (goal.at.returns-clause-slice c).After-min-lines (rect_of c.top_lines-slice.result) c.top_lines-slice.ensures
-
-pub returns-clause-rest : goal.returns-clause-rest
-returns-clause-rest c =
-    let d = (goal.at.returns-clause-rest c).After-min-lines in
-    let short = λ (e : slice_lines c.args.limit (first_of d) ≡ height_of (first_of d)). c.if-lines-height.false (lines_are d ∙ (e ∙ sym c.height-2.ensures)) in
-    ap (pending_of c.self.inside.panel) (left_items c)
-    ∙ left_now d (rects_of (c.lines_below.result ∷ rest_of d))
-    (ap (λ (r : Rect). r ∷ rects_of (rest_of d)) (c.lines_below.ensures ∙ ap (lines_below (first_of d)) (lines_are d)) ∙ sym (left_below c.args.limit (first_of d) (rects_of (rest_of d)) short))
+invariant_of-self g c =
+    let d = (goal.at.invariant_of-self g c).After-step-step in
+    let rest = c.take_slice.ensures.rest in
+    let left = rounded_left (rules_of g d) c.args.limit c.self.inside.list.areas (rect_of c.in-Some.first) (g.met.R.Round.sound c.self.inside.round) c.self.invariant.1 c.in-Some.ensures (wide g d) in (
+      ap (λ (p : Pending). p.panel) rest ∙ c.self.invariant.0,
+      subst (λ (p : Pending). IsRounded (rules_of g d) p.areas) (sym rest) (subst (λ (n : ℕ). IsRounded (rules_of g d) (left_after n c.self.inside.list.areas)) (sym (most_is g d)) left),
+    )

@@ -5,28 +5,28 @@ use Rattle.gui_base.specs.declared.Handle.{Handle}
 use Rattle.gui_tree.specs.Handles.{numbers}
 use Rattle.scene_defs.specs.Scene.{handles_of}
 use Rattle.gui_store.specs.Views.{scene_of}
-use Rattle.gui_layout.specs.Walks.{trees_from}
-use Rattle.gui_layout.proofs.Entering.{few, all_from, proper}
+use Rattle.gui_tree.specs.Walks.{Walk}
+use Rattle.gui_layout.proofs.Entering.{few, proper}
 use Rattle.gui_layout.proofs.These.{length_is}
 use Rattle.gui_layout.proofs.places.Places.enter.Goals as goal
-use Rattle.gui_layout.proofs.places.Places.enter.Goals.{After-list_trees}
+use Rattle.gui_layout.proofs.places.Places.enter.Goals.{After-roots, After-list_trees}
+
+all : (c : After-roots) → c.roots.result.left ≡ handles_of (scene_of c.args.store.now).trees
+all c = ap (λ (w : Walk). w.left) c.roots.ensures.walk ∙ c.tree-tree.ensures.forest
 
 pub list_trees-requires-clause-room : goal.list_trees-requires-clause-room
 list_trees-requires-clause-room c =
     let scene = scene_of c.args.store.now in
-    let all = all_from scene c.tree-tree.ensures.valid c.tree-tree.result.now.forest c.first_root.result c.tree-tree.ensures.forest c.first_root.ensures in
     let fits : size (handles_of scene.trees) ≤ scene.limits.objects = few scene c.tree-tree.ensures.valid in
     let objects : c.args.self.now.limits.objects ≡ scene.limits.objects = ap (λ (b : Bounds). b.objects) c.requires in
     let room = c.args.self.now.found_room in
     let cleared = c.clear.ensures in
-    rw all (omega arith)
+    rw (all (goal.at.list_trees-requires-clause-room c).After-roots) (omega arith)
 
 listed : (c : After-list_trees) → numbers c.list_trees.new.listed.items ≡ preorder (handles_of (scene_of c.args.store.now).trees)
 listed c =
-    let scene = scene_of c.args.store.now in
-    let all = all_from scene c.tree-tree.ensures.valid c.tree-tree.result.now.forest c.first_root.result c.tree-tree.ensures.forest c.first_root.ensures in
     c.list_trees.ensures.listed
-    ∙ (ap (λ (hs : List Handle). numbers hs ++ preorder (trees_from c.first_root.result c.tree-tree.result.now.forest)) c.clear.ensures.items ∙ ap (λ (t : Forest ℕ). preorder t) all)
+    ∙ (ap (λ (hs : List Handle). numbers hs ++ preorder c.roots.result.left) c.clear.ensures.items ∙ ap (λ (t : Forest ℕ). preorder t) (all (goal.at.After-list_trees c).After-roots))
 
 pub replace_entries-requires-clause-proper : goal.replace_entries-requires-clause-proper
 replace_entries-requires-clause-proper c =

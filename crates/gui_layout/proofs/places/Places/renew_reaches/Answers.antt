@@ -19,12 +19,15 @@ renew_parents-requires-clause-listed c u q some up =
     let forest = c.tree-tree.ensures.forest in
     subst (λ (g : Forest ℕ). AreListed (listing_of c.args.self.now.entries) (tree_at g q)) (sym forest) (c.requires.above u q some (subst (λ (g : Forest ℕ). parent_of g u ≡ Some q) forest up))
 
-pub renew_all_there-requires-clause-listed : goal.renew_all_there-requires-clause-listed
-renew_all_there-requires-clause-listed c k some there =
+pub renew_all_there-requires : goal.renew_all_there-requires
+renew_all_there-requires c =
     let forest = c.tree-tree.ensures.forest in
-    subst (λ (g : Forest ℕ). AreListed (listing_of c.renew_parents.new.entries) (tree_at g k)) (sym forest)
-    (subst (λ (ks : Listing). AreListed ks (tree_at (handles_of (scene_of c.args.store.now).trees) k)) (sym c.renew_parents.ensures.listed)
-    (c.requires.own k some (subst (λ (g : Forest ℕ). has g k ≡ true) forest there)))
+    record {
+      listed = λ k some there.
+          subst (λ (g : Forest ℕ). AreListed (listing_of c.renew_parents.new.entries) (tree_at g k)) (sym forest)
+          (subst (λ (ks : Listing). AreListed ks (tree_at (handles_of (scene_of c.args.store.now).trees) k)) (sym c.renew_parents.ensures.listed)
+          (c.requires.own k some (subst (λ (g : Forest ℕ). has g k ≡ true) forest there)));
+    }
 
 pub invariant_of-self : goal.invariant_of-self
 invariant_of-self c =

@@ -1,4 +1,5 @@
 use Rattle.std.proofs.Common.{◌≡◌, ◌∙◌, ◌≤◌, sym, ap, subst, ℕ, true, Some, option_map, arith}
+use Rattle.gui_tree.proofs.Below.{own_tree}
 use Rattle.gui_base.specs.Forest.{Forest, has, map_forest, parent_of, size, tree_at}
 use Rattle.gui_base.specs.Limits.{Bounds}
 use Rattle.gui_store.specs.Views.{scene_of}
@@ -14,8 +15,8 @@ use Rattle.gui_layout.specs.Tables.{told}
 use Rattle.gui_layout.specs.Views.{box_at}
 use Rattle.gui_layout.specs.Scrolls.{HoldsScrolls}
 use Rattle.gui_layout.proofs.Alike.{distinct-tree, tree-scrolled}
-use Rattle.gui_layout.proofs.Parts.{distinct_once}
-use Rattle.gui_layout.proofs.Climbing.{in_own_tree, is_above}
+use Rattle.gui_tree.proofs.Parts.{distinct_once}
+use Rattle.gui_layout.proofs.Climbing.{is_above}
 use Rattle.gui_layout.proofs.Entering.{few, flat}
 use Rattle.gui_layout.proofs.Stepping.{lets-stand, root-fills}
 use Rattle.gui_layout.proofs.These.{these_kept}
@@ -26,7 +27,7 @@ frame_of-frame-requires-clause-listed c k encloses there =
     let scene = scene_of c.args.store.now in
     let forest = c.tree-tree.ensures.forest in
     let is : has (handles_of scene.trees) k ≡ true = subst (λ (f : Forest ℕ). has f k ≡ true) forest there in
-    c.requires.entries k (subst (λ (f : Forest ℕ). Encloses f k c.args.h.0) forest encloses) k (in_own_tree (handles_of scene.trees) k c.tree-tree.ensures.valid.trees.once is)
+    c.requires.entries k (subst (λ (f : Forest ℕ). Encloses f k c.args.h.0) forest encloses) k (own_tree (handles_of scene.trees) k is)
 
 pub solve_tree-requires-clause-boxes : goal.solve_tree-requires-clause-boxes
 solve_tree-requires-clause-boxes c =
@@ -96,7 +97,7 @@ returns c =
     let renewed : (q : ℕ) → parent_of f u ≡ Some q → IsRenewed scene l.boxes q =
     λ q up.
     let above = is_above f u (as_handle q) once there (sym (ap (option_map as_handle) up)) in
-    c.requires.boxes q (λ k i. above.encloses k (encloses k i)) q (in_own_tree f q once above.there) in
+    c.requires.boxes q (λ k i. above.encloses k (encloses k i)) q (own_tree f q above.there) in
     record {
       there = there;
       encloses = encloses;

@@ -1,5 +1,6 @@
 use Rattle.std.proofs.Common.{◌≡◌, ◌∙◌, ◌<◌, refl, sym, ap, subst, ℕ, zero, suc, Bool, true, false, Option, Some, None, List, get_or, inl, inr, arith}
 use Rattle.std.specs.Prelude.{is_some, option_map, IsSome}
+use Rattle.gui_tree.proofs.Below.{own_tree}
 use Rattle.gui_layout.specs.declared.layout_box.LayoutBox.{LayoutBox}
 use Rattle.scene_defs.specs.Scene.{Scene}
 use Rattle.layout_defs.specs.OwnHeights.{but_height}
@@ -17,7 +18,6 @@ use Rattle.gui_layout.specs.Tables.{IsListed, area_in, listing_of}
 use Rattle.gui_layout.specs.Tops.{in_trees_at, is_over}
 use Rattle.gui_layout.specs.Views.{box_at}
 use Rattle.gui_layout.proofs.Apart.{naturals-alike, none-of, place-alike}
-use Rattle.gui_layout.proofs.Climbing.{in_own_tree}
 use Rattle.gui_layout.proofs.Listed.{some_listed}
 use Rattle.gui_layout.proofs.Marking.{marked-has}
 use Rattle.gui_layout.proofs.Overs.{over-is}
@@ -34,7 +34,7 @@ use Rattle.gui_layout.specs.Pending.{is_marked_in, is_partly, is_pending}
 use Rattle.gui_layout.specs.Raised.{Rests}
 use Rattle.gui_layout.specs.SettledBut.{AreRightBut, AreRightButChanged, AreScrolledBut, anyone, in_marked, nobody}
 use Rattle.gui_layout.proofs.Closing.{marked-places, marked-settled, marked-sizes}
-use Rattle.gui_layout.proofs.Parts.{distinct_once}
+use Rattle.gui_tree.proofs.Parts.{distinct_once}
 use Rattle.gui_layout.proofs.Pendings.{all-any, any-part, part-any}
 use Rattle.gui_layout.proofs.Grades.{narrowed, right-both, right-raised, settled-raised}
 use Rattle.gui_layout.proofs.Stepping.{mark-inside, mark-own, marked-fewer}
@@ -115,7 +115,7 @@ renew_reaches-requires-clause-above c u q some up k is =
 pub renew_reaches-requires-clause-own : goal.renew_reaches-requires-clause-own
 renew_reaches-requires-clause-own c h some there k is =
     let d = (goal.at.renew_reaches-requires-clause-own c).After-settle_changed in
-    placed d k (mark-inside (w d) h h k (f d) (c.requires.marked h some) (in_own_tree (f d) h (once d) there) is)
+    placed d k (mark-inside (w d) h h k (f d) (c.requires.marked h some) (own_tree (f d) h there) is)
 
 none-times : (m : ℕ) → (0 < m → ⊥) → m ≡ 0
 none-times zero not = refl
@@ -175,7 +175,7 @@ module _ (c : After-renew_reaches) where
       let not_over : is_over (f d) us k ≡ false =
       false_from_ne_true (is_over (f d) us k) (λ i.
       let o = over-is (f d) us k i in
-      both_ways (in_marked (n d) (scene d) k) out_n (c.settle_changed.ensures.scrolls.marked o.top k o.listed o.parent k (in_own_tree (f d) k (once d) there))) in
+      both_ways (in_marked (n d) (scene d) k) out_n (c.settle_changed.ensures.scrolls.marked o.top k o.listed o.parent k (own_tree (f d) k there))) in
       c.renew_reaches.ensures.others k (subst (λ vs. is_over (f d) vs k ≡ false) (sym c.as_slice.ensures.value) not_over) unmarked
       ∙ c.settle_changed.ensures.settles.other_scrolls k there out_n
 

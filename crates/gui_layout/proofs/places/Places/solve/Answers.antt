@@ -11,7 +11,7 @@ use Rattle.gui_layout.specs.Scenes.{scene_box}
 use Rattle.gui_layout.specs.Scrolled.{IsScrolledIn}
 use Rattle.gui_layout.specs.Scrolls.{HoldsScrolls}
 use Rattle.gui_layout.proofs.Alike.{all-scrolled}
-use Rattle.gui_layout.proofs.Parts.{distinct_once}
+use Rattle.gui_tree.proofs.Parts.{distinct_once}
 use Rattle.gui_layout.proofs.ReachSizes.{all-reached}
 use Rattle.gui_layout.proofs.Entering.{few, flat, all_placed}
 use Rattle.gui_layout.proofs.NaturalSizes.{all-naturals}

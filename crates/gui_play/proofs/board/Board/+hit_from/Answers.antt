@@ -3,13 +3,13 @@ use Rattle.std.proofs.lemmas.Int.{to_z-of_z}
 use Rattle.gui_base.specs.Forest.{Forest, Empty, Tree, children_of, first_root, next_to, size, preorder}
 use Rattle.gui_base.specs.declared.Handle.{Handle}
 use Rattle.gui_change.specs.Canvas.{scene_in}
-use Rattle.gui_layout.specs.Walks.{trees_from}
-use Rattle.gui_layout.proofs.Parts.{distinct_once, next_head, IsNext, GoesOn, walk_begins, walk_goes_on, found}
+use Rattle.gui_tree.specs.Walks.{trees_from}
+use Rattle.gui_tree.proofs.Parts.{distinct_once, next_head, IsNext, GoesOn, walk_begins, walk_goes_on, found}
 use Rattle.gui_tree.specs.Handles.{as_handle}
 use Rattle.scene_defs.specs.Scene.{Scene, handles_of}
 use Rattle.gui_play.specs.Hits.{last_hit}
 use Rattle.gui_play.proofs.Hits.{last_hit-append}
-use Rattle.gui_play.proofs.Walks.{next_is, next_there}
+use Rattle.gui_change.proofs.Trees.{next_is, next_there}
 use Rattle.gui_play.proofs.board.Board.+hit_from.Goals as goal
 use Rattle.gui_play.proofs.board.Board.+hit_from.Goals.{After-first_child, After-next-next}
 

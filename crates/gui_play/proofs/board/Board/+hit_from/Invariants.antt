@@ -1,8 +1,8 @@
 use Rattle.std.proofs.Common.{◌≡◌, ◌≤◌}
 use Rattle.gui_base.specs.Forest.{size, preorder}
 use Rattle.gui_change.specs.Canvas.{scene_in}
-use Rattle.gui_layout.specs.Walks.{trees_from}
-use Rattle.gui_layout.proofs.Parts.{IsNext}
+use Rattle.gui_tree.specs.Walks.{trees_from}
+use Rattle.gui_tree.proofs.Parts.{IsNext}
 use Rattle.scene_defs.specs.Scene.{handles_of}
 use Rattle.gui_play.specs.Hits.{last_hit}
 use Rattle.gui_play.proofs.board.Board.+hit_from.Given as goal

@@ -1,4 +1,6 @@
-use Rattle.std.proofs.Common.{◌≡◌, ◌∙◌, sym, ap, refl}
+use Rattle.std.proofs.Common.{◌≡◌, ◌∙◌, sym, ap, subst, refl}
+use Rattle.gui_base.specs.Gridded.{HasPixels}
+use Rattle.gui_damage.specs.Gridded.{listed_in}
 use Rattle.std.proofs.lemmas.Result.{on_err_weaker}
 use Rattle.scene_defs.proofs.Changes.{change_keeps_limits}
 use Rattle.scene_defs.specs.Scene.{Scene}
@@ -18,6 +20,7 @@ pub invariant_of-self : goal.invariant_of-self
 invariant_of-self c =
     let limits = same_limits (goal.at.invariant_of-self c).After-change in record {
       panel = c.change.ensures.debt.panel ∙ (c.args.self.now.panel ∙ sym (same_panel (scene_in c.args.self.now.canvas) (scene_in c.change.new.self) limits));
+      pixels = subst HasPixels (sym c.change.ensures.round) c.args.self.now.pixels;
       sized = sized_for c.args.self.now.handlers c.args.self.now.groups c.args.self.now.anims (sym limits) c.args.self.now.sized;
     }
 
@@ -27,10 +30,10 @@ returns-clause-done c = λ log.
     let limits = same_limits (goal.at.returns-clause-done c).After-change in
     played_change (stage c.args.self.now log) _ c.args.change.now
     (ap (λ (s : Scene). record (machine_of c.args.self.now) { scene = s }) c.change.ensures.after)
-    (adds_of_panel old (scene_in c.change.new.self) c.args.self.now.damage c.change.new.damage (debt_of old c.args.change.now) c.args.self.now.panel limits c.change.ensures.debt)
+    (adds_of_panel old (scene_in c.change.new.self) (listed_in c.args.self.now.damage) (listed_in c.change.new.damage) (debt_of old c.args.change.now) c.args.self.now.panel limits c.change.ensures.debt)
     (writes_nothing c.args.self.now.scribe.cut log) refl
 
 pub returns-clause-refused : goal.returns-clause-refused
 returns-clause-refused c =
     let limits = same_limits (goal.at.returns-clause-refused c).After-change in
-    on_err_weaker c.change.result (stays_of_panel (scene_in c.args.self.now.canvas) (scene_in c.change.new.self) c.args.self.now.damage c.change.new.damage limits) c.change.ensures.refused
+    on_err_weaker c.change.result (λ same. stays_of_panel (scene_in c.args.self.now.canvas) (scene_in c.change.new.self) (listed_in c.args.self.now.damage) (listed_in c.change.new.damage) limits (ap listed_in same)) c.change.ensures.refused

@@ -4,7 +4,7 @@ use Rattle.gui_base.specs.Forest.{Forest, children_of, first_root, preorder}
 use Rattle.gui_base.specs.declared.Handle.{Handle}
 use Rattle.gui_change.specs.Canvas.{scene_in}
 use Rattle.gui_change.proofs.Trees.{opens}
-use Rattle.gui_layout.specs.Walks.{trees_from}
+use Rattle.gui_tree.specs.Walks.{trees_from}
 use Rattle.gui_tree.specs.Handles.{as_handle}
 use Rattle.scene_defs.specs.Scene.{Scene, handles_of}
 use Rattle.std.proofs.lemmas.List.{append-nil}

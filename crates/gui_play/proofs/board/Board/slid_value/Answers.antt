@@ -34,3 +34,15 @@ returns c =
     ∙ (ap (option_map (λ (columns : ℤ × ℕ). value_along row columns.0 columns.1 c.args.x)) c.in_ok-first.ensures.value
     ∙ (sym is
     ∙ ap (λ (o : Option Row). slid_in o area c.args.x) (row_is ((goal.at.returns c).After-is_slider)))))
+
+-- no columns, no value
+pub returns-in_err-first : goal.returns-in_err-first
+returns-in_err-first c =
+    let row = shown_row c.in_ok-row.row.now in
+    let area = content (scene_in c.args.self.now.canvas) c.args.h.0 in
+    let slider : is_slider row.kind ≡ true = sym c.is_slider.ensures ∙ c.if-not-is_slider.false in
+    let is = slid_is row area c.args.x slider in
+    c.from_residual-in_err-first.ensures
+    ∙ (ap (option_map (λ (columns : ℤ × ℕ). value_along row columns.0 columns.1 c.args.x)) c.in_err-first.ensures.value
+    ∙ (sym is
+    ∙ ap (λ (o : Option Row). slid_in o area c.args.x) (row_is ((goal.at.returns-in_err-first c).After-is_slider))))

@@ -1,4 +1,6 @@
-use Rattle.std.proofs.Common.{◌≡◌, ◌∙◌, sym, None, arith}
+use Rattle.std.proofs.Common.{◌≡◌, ◌∙◌, sym, subst, None, arith}
+use Rattle.gui_base.specs.Gridded.{HasPixels}
+use Rattle.gui_damage.specs.Gridded.{listed_in}
 use Rattle.gui_refresh.specs.Stages.{Stage, stage}
 use Rattle.gui_refresh.proofs.Pumps.{pump_start, pump_first, pump_idle, none_of, can_start}
 use Rattle.gui_refresh.proofs.Slicing.{draws_started, draws_first, draws_idle}
@@ -8,13 +10,13 @@ use Rattle.gui_refresh.proofs.refresher.Refresher.pump.Goals as goal
 use Rattle.gui_refresh.proofs.refresher.Refresher.pump.Goals.{After-is_started, Else-is_started, Else-is_drawn}
 
 abbrev at : (g : Over) → After-is_started g → Stage
-at g c = stage c.args.self.now (g.P.Panel.state c.args.panel.now) c.args.damage.now
+at g c = stage c.args.self.now (g.P.Panel.state c.args.panel.now) (listed_in c.args.damage.now)
 
 sound : (g : Over) (c : After-is_started g) → IsSound (at g c)
-sound g c = record { can = c.requires; refresher = c.is_started.ensures.sound; flying = g.met.P.Panel.flying c.args.panel.now }
+sound g c = record { can = c.requires.can; refresher = c.is_started.ensures.sound; flying = g.met.P.Panel.flying c.args.panel.now }
 
 still : (g : Over) (c : Else-is_started g) → (g.P.Panel.state c.args.panel.now).coming ≡ None
-still g c = none_of (g.P.Panel.state c.args.panel.now).coming (sym c.requires.started ∙ (sym c.is_started.ensures.value ∙ c.if-is_started.false))
+still g c = none_of (g.P.Panel.state c.args.panel.now).coming (sym c.requires.can.started ∙ (sym c.is_started.ensures.value ∙ c.if-is_started.false))
 
 none : (g : Over) (c : Else-is_drawn g) → c.args.self.now.drawn ≡ None
 none g c = none_of c.args.self.now.drawn (sym c.is_drawn.ensures ∙ c.if-is_drawn.false)
@@ -27,6 +29,7 @@ start-requires g c =
       drawn = sym c.is_drawn.ensures ∙ c.if-is_drawn.true;
       free = still g d;
       started = sym c.is_started.ensures.value ∙ c.if-is_started.false;
+      pixels = c.requires.pixels;
       part = can_start (g.Q.Picture.color c.args.picture.now) (at g a) (sound g a);
     }
 
@@ -34,41 +37,41 @@ pub returns-then-is_drawn-clause-pumps : goal.returns-then-is_drawn-clause-pumps
 returns-then-is_drawn-clause-pumps g c =
     let d = (goal.at.returns-then-is_drawn-clause-pumps g c).Else-is_started in
     let a = (goal.at.returns-then-is_drawn-clause-pumps g c).After-is_started in
-    pump_start (g.Q.Picture.color c.args.picture.now) (at g a) (sound g a) (stage c.start.new.self (g.P.Panel.state c.start.new.panel) c.start.new.damage) c.start.result (still g d) c.start.ensures
+    pump_start (g.Q.Picture.color c.args.picture.now) (at g a) (sound g a) (stage c.start.new.self (g.P.Panel.state c.start.new.panel) (listed_in c.start.new.damage)) c.start.result (still g d) c.start.ensures.step
 
 pub draw-requires : goal.draw-requires
 draw-requires g c =
     let a = (goal.at.draw-requires g c).After-is_started in
     let e = (goal.at.draw-requires g c).Else-is_drawn in
-    record { area = c.join_all.ensures.panel ∙ (c.requires.area ∙ panel_is (at g a) c.requires); none = λ some. none g e }
+    record { area = c.join_all.ensures.joins.panel ∙ (c.requires.can.area ∙ panel_is (at g a) c.requires.can); none = λ some. none g e; pixels = subst HasPixels (sym c.join_all.ensures.round) c.requires.pixels }
 
 pub returns-then-draw-clause-pumps : goal.returns-then-draw-clause-pumps
 returns-then-draw-clause-pumps g c =
     let a = (goal.at.returns-then-draw-clause-pumps g c).After-is_started in
     let d = (goal.at.returns-then-draw-clause-pumps g c).Else-is_started in
     let e = (goal.at.returns-then-draw-clause-pumps g c).Else-is_drawn in
-    pump_first (g.Q.Picture.color c.args.picture.now) (at g a) (sound g a) c.join_all.new.self c.draw.new.damage c.draw.new.self (none g e) (still g d) c.join_all.ensures c.if-draw.ensures.step
+    pump_first (g.Q.Picture.color c.args.picture.now) (at g a) (sound g a) (listed_in c.join_all.new.damage) (listed_in c.draw.new.damage) c.draw.new.self (none g e) (still g d) c.join_all.ensures.joins c.if-draw.ensures.step
 
 pub returns-else-draw-clause-pumps : goal.returns-else-draw-clause-pumps
 returns-else-draw-clause-pumps g c =
     let a = (goal.at.returns-else-draw-clause-pumps g c).After-is_started in
     let d = (goal.at.returns-else-draw-clause-pumps g c).Else-is_started in
     let e = (goal.at.returns-else-draw-clause-pumps g c).Else-is_drawn in
-    pump_idle (g.Q.Picture.color c.args.picture.now) (at g a) (sound g a) c.join_all.new.self c.draw.new.damage c.draw.new.self (none g e) (still g d) c.join_all.ensures c.if-draw.ensures.step
+    pump_idle (g.Q.Picture.color c.args.picture.now) (at g a) (sound g a) (listed_in c.join_all.new.damage) (listed_in c.draw.new.damage) c.draw.new.self (none g e) (still g d) c.join_all.ensures.joins c.if-draw.ensures.step
 
 pub returns-then-is_drawn-clause-draws : goal.returns-then-is_drawn-clause-draws
 returns-then-is_drawn-clause-draws g c =
     let d = (goal.at.returns-then-is_drawn-clause-draws g c).Else-is_started in
     let a = (goal.at.returns-then-is_drawn-clause-draws g c).After-is_started in
-    let new = stage c.start.new.self (g.P.Panel.state c.start.new.panel) c.start.new.damage in
-    let pumps = pump_start (g.Q.Picture.color c.args.picture.now) (at g a) (sound g a) new c.start.result (still g d) c.start.ensures in
-    draws_started _ _ (g.Q.Picture.color c.args.picture.now) (at g a) (sound g a) new c.start.result _ _ c.start.ensures pumps (omega arith)
+    let new = stage c.start.new.self (g.P.Panel.state c.start.new.panel) (listed_in c.start.new.damage) in
+    let pumps = pump_start (g.Q.Picture.color c.args.picture.now) (at g a) (sound g a) new c.start.result (still g d) c.start.ensures.step in
+    draws_started _ _ (g.Q.Picture.color c.args.picture.now) (at g a) (sound g a) new c.start.result _ _ c.start.ensures.step pumps (omega arith)
 
 pub returns-then-draw-clause-draws : goal.returns-then-draw-clause-draws
 returns-then-draw-clause-draws g c =
     let a = (goal.at.returns-then-draw-clause-draws g c).After-is_started in
     let e = (goal.at.returns-then-draw-clause-draws g c).Else-is_drawn in
-    draws_first _ _ (g.Q.Picture.color c.args.picture.now) (at g a) (sound g a) c.join_all.new.self c.draw.new.damage c.draw.new.self _ _ (none g e) c.join_all.ensures c.if-draw.ensures.step c.if-draw.ensures.steps
+    draws_first _ _ (g.Q.Picture.color c.args.picture.now) (at g a) (sound g a) (listed_in c.join_all.new.damage) (listed_in c.draw.new.damage) c.draw.new.self _ _ (none g e) c.join_all.ensures.joins c.if-draw.ensures.step c.if-draw.ensures.steps
 
 pub returns-else-draw-clause-draws : goal.returns-else-draw-clause-draws
 returns-else-draw-clause-draws g c =
@@ -76,5 +79,5 @@ returns-else-draw-clause-draws g c =
     let d = (goal.at.returns-else-draw-clause-draws g c).Else-is_started in
     let e = (goal.at.returns-else-draw-clause-draws g c).Else-is_drawn in
     let steps = c.if-draw.ensures.steps in
-    draws_idle _ _ (g.Q.Picture.color c.args.picture.now) (at g a) (sound g a) (stage c.draw.new.self (g.P.Panel.state c.args.panel.now) c.draw.new.damage) _ _
-    (pump_idle (g.Q.Picture.color c.args.picture.now) (at g a) (sound g a) c.join_all.new.self c.draw.new.damage c.draw.new.self (none g e) (still g d) c.join_all.ensures c.if-draw.ensures.step) (omega arith)
+    draws_idle _ _ (g.Q.Picture.color c.args.picture.now) (at g a) (sound g a) (stage c.draw.new.self (g.P.Panel.state c.args.panel.now) (listed_in c.draw.new.damage)) _ _
+    (pump_idle (g.Q.Picture.color c.args.picture.now) (at g a) (sound g a) (listed_in c.join_all.new.damage) (listed_in c.draw.new.damage) c.draw.new.self (none g e) (still g d) c.join_all.ensures.joins c.if-draw.ensures.step) (omega arith)

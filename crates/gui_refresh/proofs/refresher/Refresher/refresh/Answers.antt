@@ -1,4 +1,6 @@
-use Rattle.std.proofs.Common.{arith}
+use Rattle.std.proofs.Common.{◌∙◌, sym, subst, arith}
+use Rattle.gui_base.specs.Gridded.{HasPixels}
+use Rattle.gui_damage.specs.Gridded.{listed_in}
 use Rattle.gui_refresh.specs.Stages.{Stage, stage}
 use Rattle.gui_refresh.proofs.Pumps.{begins, goes_on, pumps_on, refresh_done, refresh_stopped}
 use Rattle.gui_refresh.proofs.Slicing.{draws_joined, draws_on, draws_all}
@@ -7,24 +9,25 @@ use Rattle.gui_refresh.proofs.refresher.Refresher.refresh.Goals as goal
 use Rattle.gui_refresh.proofs.refresher.Refresher.refresh.Goals.{After-join_all, After-pump}
 
 abbrev first : (g : Over) → After-join_all g → Stage
-first g c = stage c.args.self.now (g.P.Panel.state c.args.panel.now) c.args.damage.now
+first g c = stage c.args.self.now (g.P.Panel.state c.args.panel.now) (listed_in c.args.damage.now)
 
 abbrev before : (g : Over) → After-pump g → Stage
-before g c = stage c.loop.self (g.P.Panel.state c.loop.panel) c.loop.damage
+before g c = stage c.loop.self (g.P.Panel.state c.loop.panel) (listed_in c.loop.damage)
 
 abbrev after : (g : Over) → After-pump g → Stage
-after g c = stage c.pump.new.self (g.P.Panel.state c.pump.new.panel) c.pump.new.damage
+after g c = stage c.pump.new.self (g.P.Panel.state c.pump.new.panel) (listed_in c.pump.new.damage)
 
 pub loop-init : goal.loop-init
 loop-init g c =
     let start = first g (goal.at.loop-init g c).After-join_all in
     record {
-      comes = begins (g.Q.Picture.color c.args.picture.now) start c.join_all.new.self c.requires c.join_all.ensures;
-      draws = draws_joined _ _ start c.join_all.new.self _ c.join_all.ensures;
+      round = c.join_all.ensures.round;
+      comes = begins (g.Q.Picture.color c.args.picture.now) start (listed_in c.join_all.new.damage) c.requires.can c.join_all.ensures.joins;
+      draws = draws_joined _ _ start (listed_in c.join_all.new.damage) _ c.join_all.ensures.joins;
     }
 
 pub pump-requires : goal.pump-requires
-pump-requires g c = c.loop.invariant.comes.quiet.can
+pump-requires g c = record { can = c.loop.invariant.comes.quiet.can; pixels = subst HasPixels (sym c.loop.invariant.round) c.requires.pixels }
 
 pub loop-preserved : goal.loop-preserved
 loop-preserved g c =
@@ -33,6 +36,7 @@ loop-preserved g c =
     let inv = c.loop.invariant in
     let pumps = c.pump.ensures in
     record {
+      round = pumps.round ∙ inv.round;
       comes = pumps_on (g.Q.Picture.color c.args.picture.now) start (before g d) (after g d) c.pump.result inv.comes pumps.pumps c.in-Moved.is;
       draws = draws_on _ _ start (before g d) (after g d) c.pump.result _ _ _ c.in-Moved.is inv.comes.quiet.sizes inv.draws pumps.draws;
     }
@@ -51,7 +55,7 @@ pub returns-in-Idle-clause-draws : goal.returns-in-Idle-clause-draws
 returns-in-Idle-clause-draws g c =
     let d = (goal.at.returns-in-Idle-clause-draws g c).After-pump in
     let inv = c.loop.invariant in
-    draws_all _ _ (first g (goal.at.returns-in-Idle-clause-draws g c).After-join_all) (before g d) (after g d) 0 _ _ _ c.is_started-started.ensures.sound.sizes c.areas-areas.ensures.sound.few (omega arith) inv.comes.quiet.sizes inv.draws c.in-Idle.ensures.draws
+    draws_all _ _ (first g (goal.at.returns-in-Idle-clause-draws g c).After-join_all) (before g d) (after g d) 0 _ _ _ c.is_started-started.ensures.sound.sizes c.areas-areas.ensures.sound.pending.few (omega arith) inv.comes.quiet.sizes inv.draws c.in-Idle.ensures.draws
 
 pub returns-in-Fault-clause-refreshes : goal.returns-in-Fault-clause-refreshes
 returns-in-Fault-clause-refreshes g c =
@@ -63,4 +67,4 @@ returns-in-Fault-clause-draws g c =
     let d = (goal.at.returns-in-Fault-clause-draws g c).After-pump in
     let inv = c.loop.invariant in
     let pending = c.in-Fault.ensures.pumps.leaves.pending in
-    draws_all _ _ (first g (goal.at.returns-in-Fault-clause-draws g c).After-join_all) (before g d) (after g d) 1 _ _ _ c.is_started-started.ensures.sound.sizes c.areas-areas.ensures.sound.few (omega arith) inv.comes.quiet.sizes inv.draws c.in-Fault.ensures.draws
+    draws_all _ _ (first g (goal.at.returns-in-Fault-clause-draws g c).After-join_all) (before g d) (after g d) 1 _ _ _ c.is_started-started.ensures.sound.sizes c.areas-areas.ensures.sound.pending.few (omega arith) inv.comes.quiet.sizes inv.draws c.in-Fault.ensures.draws

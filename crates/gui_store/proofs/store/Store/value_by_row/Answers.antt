@@ -3,7 +3,7 @@ use Rattle.std.proofs.Common.{to_z, of_z}
 use Rattle.std.proofs.lemmas.Int.{to_z-of_z}
 use Rattle.scene_defs.specs.Scene.{value}
 use Rattle.gui_store.proofs.Kept.{read-row}
-use Rattle.gui_store.proofs.Paths.{value-is}
+use Rattle.gui_store.proofs.Values.{value-is}
 use Rattle.gui_base.specs.Props.{is_value}
 use Rattle.scene_defs.proofs.Values.{values_in_range}
 use Rattle.gui_store.proofs.store.Store.value_by_row.Goals as goal

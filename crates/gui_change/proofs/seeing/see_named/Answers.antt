@@ -1,0 +1,14 @@
+use Rattle.std.proofs.Common.{◌≡◌, subst, true, Option, Some, option_map}
+use Rattle.std.proofs.lemmas.Bool.{eqb-true}
+use Rattle.gui_base.specs.declared.Handle.{Handle}
+use Rattle.gui_store.specs.Views.{scene_of}
+use Rattle.debt_defs.specs.Debt.{is_named}
+use Rattle.gui_change.specs.Handles.{number_of}
+use Rattle.gui_change.specs.Sees.{IsSeenIn}
+use Rattle.gui_change.proofs.seeing.see_named.Goals as goal
+
+pub returns-clause-own : goal.returns-clause-own
+returns-clause-own c k is =
+    let h = c.in-Some.h in
+    let named : is_named (option_map number_of (Some h)) k ≡ true = subst (λ (o : Option Handle). is_named (option_map number_of o) k ≡ true) c.in-Some.is is in
+    subst (IsSeenIn c.see_one.new.table (scene_of c.args.store.now)) (eqb-true h.0 k named) c.see_one.ensures.own

@@ -1,7 +1,7 @@
 //! A panel that looks whether its calls may be made.
 ghost use Rattle.std.specs.Prelude.{◌≡◌};
 
-use gui_base::Area;
+use gui_base::{Area, Block};
 use gui_color::DrawBuf;
 use gui_edge::{Failed, OpenFault, Panel, Polled};
 use std::alloc::Global;
@@ -61,8 +61,9 @@ impl<P: Panel> Panel for Checking<P> {
         width: u16,
         height: u16,
         limit: u32,
+        block: Block,
     ) -> Result<(), OpenFault> {
-        self.panel.open(alloc, width, height, limit)
+        self.panel.open(alloc, width, height, limit, block)
     }
 
     fn start(&mut self, buf: DrawBuf) -> Result<(), (Failed, DrawBuf)> {

@@ -2,7 +2,8 @@
 ghost use Rattle.std.specs.Prelude.{◌≡◌, ◌∷◌, [], false, pos};
 ghost use Rattle.gui_base.specs.Area.{is_empty};
 ghost use Rattle.gui_base.specs.Corners.{rect_of};
-ghost use Rattle.gui_base.specs.Gridded.{HasPixels};
+ghost use Rattle.gui_base.specs.Gridded.{block_of};
+ghost use Rattle.gui_base.specs.Grids.{one_pixel};
 
 use gui_base::{Area, Grid, Round};
 use gui_damage::Damage;
@@ -13,7 +14,7 @@ pub(crate) fn whole_panel(panel: Area) -> Damage<Grid>
     requires left { (rect_of panel).x1 ≡ pos 0 }
     requires top { (rect_of panel).y1 ≡ pos 0 }
     requires some { is_empty (rect_of panel) ≡ false }
-    ensures pixels { HasPixels result.round }
+    ensures blocks { block_of result.round ≡ one_pixel }
     ensures panel { rect_of result.round.panel ≡ rect_of panel }
     ensures areas { result.areas ≡ rect_of panel ∷ [] }
 {

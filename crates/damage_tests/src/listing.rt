@@ -2,7 +2,7 @@
 ghost use Rattle.std.specs.Prelude.{◌≡◌};
 
 use arrayvec::ArrayVec;
-use gui_base::Area;
+use gui_base::{Area, Block};
 use gui_color::DrawBuf;
 use gui_edge::{Failed, OpenFault, Panel, Polled};
 use std::alloc::Global;
@@ -35,8 +35,9 @@ impl<P: Panel> Panel for Listing<P> {
         width: u16,
         height: u16,
         limit: u32,
+        block: Block,
     ) -> Result<(), OpenFault> {
-        self.panel.open(alloc, width, height, limit)
+        self.panel.open(alloc, width, height, limit, block)
     }
 
     fn start(&mut self, buf: DrawBuf) -> Result<(), (Failed, DrawBuf)> {

@@ -1,13 +1,14 @@
 //! Pumps, changes and refreshes in turn, over a panel whose transfers take long and sometimes fail.
 ghost use Rattle.std.specs.Prelude.{◌≡◌, ◌<◌, None, IfOk};
-ghost use Rattle.gui_base.specs.Gridded.{HasPixels};
+ghost use Rattle.gui_base.specs.Gridded.{block_of};
+ghost use Rattle.gui_base.specs.Grids.{one_pixel};
 ghost use Rattle.gui_damage.specs.Gridded.{listed_in};
 ghost use Rattle.gui_refresh.specs.Stages.{CanRefresh, stage};
 
 use crate::checking::Checking;
 use crate::list::whole_panel;
 use crate::lit::Lit;
-use gui_base::{Area, Grid, Limits, Steps};
+use gui_base::{Area, Block, Grid, Limits, Steps};
 use gui_damage::Damage;
 use gui_edge::{MemSink, Panel, SimPanel, SimPlan};
 use gui_refresh::{Pumped, Refreshed, Refresher};
@@ -21,7 +22,7 @@ use std::test::Fail;
 fn slow_panel(alloc: Global) -> Result<Checking<SimPanel<MemSink>>, Fail>
     ensures { IfOk result (λ panel.
         (panel.panel.width ≡ 6) × (panel.panel.height ≡ 4) × (panel.panel.limit ≡ 6)
-        × (panel.panel.coming ≡ None)) }
+        × (panel.panel.block ≡ one_pixel) × (panel.panel.coming ≡ None)) }
 {
     let plan = SimPlan {
         fail_open: false,
@@ -31,7 +32,7 @@ fn slow_panel(alloc: Global) -> Result<Checking<SimPanel<MemSink>>, Fail>
     };
     let frames = MemSink::with_capacity(alloc, 0, Vec::new(alloc))?;
     let mut panel = Checking::new(SimPanel::new(frames, plan), Area::at(0, 0, 6, 4), 6);
-    match panel.open(alloc, 6, 4, 6) {
+    match panel.open(alloc, 6, 4, 6, Block { w: 1, h: 1 }) {
         Ok(()) => Ok(panel),
         Err(fault) => Err(Fail::from(fault)),
     }
@@ -47,7 +48,7 @@ fn turn<P: Panel, L: Ledger>(
     steps: &mut Steps<L>,
 ) -> Pumped
     requires can { CanRefresh (stage refresher.old (P.state panel.old) (listed_in damage.old)) }
-    requires pixels { HasPixels damage.old.round }
+    requires blocks { block_of damage.old.round ≡ refresher.old.sizes.block }
     ensures can { CanRefresh (stage refresher.new (P.state panel.new) (listed_in damage.new)) }
     ensures sizes { refresher.new.sizes ≡ refresher.old.sizes }
     ensures round { damage.new.round ≡ damage.old.round }
@@ -103,8 +104,9 @@ fn take_turns<L: Ledger>(
 )
     requires can { CanRefresh (stage refresher.old
         (⟦<Checking<SimPanel<MemSink>> as Panel>⟧.state panel.old) (listed_in damage.old)) }
-    requires pixels { HasPixels damage.old.round }
-    requires sizes { refresher.old.sizes ≡ record { width = 6; height = 4; limit = 6 } }
+    requires blocks { block_of damage.old.round ≡ one_pixel }
+    requires sizes { refresher.old.sizes
+        ≡ record { width = 6; height = 4; limit = 6; block = one_pixel } }
 {
     let mut picture = Lit { part: spot(0) };
     let mut answers = [0_u32; 4];

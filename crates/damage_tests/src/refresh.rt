@@ -1,11 +1,12 @@
 //! Refreshes over a panel that lists what it is asked to start.
 ghost use Rattle.std.specs.Prelude.{◌≡◌, ◌<◌, IfOk, None};
+ghost use Rattle.gui_base.specs.Grids.{one_pixel};
 ghost use Rattle.gui_edge.specs.Panel.{CanOpen};
 
 use crate::list::{corners, whole_panel};
 use crate::listing::Listing;
 use crate::lit::Lit;
-use gui_base::{Area, Grid, Limits, Rgb565, Steps};
+use gui_base::{Area, Block, Grid, Limits, Rgb565, Steps};
 use gui_damage::Damage;
 use gui_edge::{MemSink, Panel, SimPanel, SimPlan};
 use gui_refresh::{Refreshed, Refresher};
@@ -26,7 +27,7 @@ fn open_panel(
     requires { CanOpen width height limit }
     ensures { IfOk result (λ panel.
         (panel.panel.width ≡ width) × (panel.panel.height ≡ height) × (panel.panel.limit ≡ limit)
-        × (panel.panel.coming ≡ None)) }
+        × (panel.panel.block ≡ one_pixel) × (panel.panel.coming ≡ None)) }
 {
     let plan = SimPlan {
         fail_open: false,
@@ -36,7 +37,7 @@ fn open_panel(
     };
     let frames = MemSink::with_capacity(alloc, 0, Vec::new(alloc))?;
     let mut panel = Listing::new(SimPanel::new(frames, plan));
-    match panel.open(alloc, width, height, limit) {
+    match panel.open(alloc, width, height, limit, Block { w: 1, h: 1 }) {
         Ok(()) => Ok(panel),
         Err(fault) => Err(Fail::from(fault)),
     }

@@ -2,7 +2,7 @@
 ghost use Rattle.std.specs.Prelude.{◌≡◌, ◌<◌, ◌≤◌, IsSome, IfOk, pos};
 ghost use Rattle.gui_edge.specs.Panel.{CanStart};
 
-use gui_base::{Area, NoMemory, Rgb565, Steps};
+use gui_base::{Area, Block, NoMemory, Rgb565, Steps};
 use gui_color::DrawBuf;
 use gui_edge::{MemSink, Panel, Polled};
 use panel_dcs::{DcsPanel, LogBus};
@@ -113,7 +113,7 @@ fn check_transfer<L: Ledger>(
     let bus = LogBus::with_capacity(alloc, 1000, Vec::new(alloc))?;
     let frames = MemSink::with_capacity(alloc, 64, Vec::new(alloc))?;
     let mut panel = DcsPanel::new(frames, bus, turn);
-    if let Err(fault) = panel.open(alloc, 4, 2, 8) {
+    if let Err(fault) = panel.open(alloc, 4, 2, 8, Block { w: 1, h: 1 }) {
         return Err(Fail::from(fault));
     }
     assert!(rt; send(&mut panel, buf));

@@ -10,7 +10,7 @@ use Rattle.scene_defs.specs.Shown.{Entry}
 use Rattle.scene_defs.specs.Visible.{holds}
 use Rattle.debt_defs.specs.Look.{Look, is_among, IsLook, laid_by}
 use Rattle.debt_defs.specs.Same.{same_visible}
-use Rattle.debt_defs.specs.Debt.{listed, owed_by, shown_in_either, is_named, is_touched, touched, debt}
+use Rattle.debt_defs.specs.Debt.{listed, owed_by, shown_in_either, is_named, is_touched, touched, touched_areas}
 use Rattle.debt_defs.specs.Frame.{covered, named_area, LaySame}
 use Rattle.debt_defs.proofs.Samenesses.{visible-is}
 
@@ -59,7 +59,7 @@ module _ {I : Type 0} (before after : Look I) where
       ]
 
 module _ {I : Type 0} (same : I → I → Bool) (named : Option ℕ) (before after : Look I) (is : IsLook before) (becomes : IsLook after) (x y : ℤ)
-    (free : covered (debt same named before after) x y ≡ false) where
+    (free : covered (touched_areas same named before after) x y ≡ false) where
   -- a touched object is not seen there
   touched-out : (k : ℕ) → is_touched same named before after k ≡ true → (holds (before.visible k) x y ≡ false) × (holds (after.visible k) x y ≡ false)
   touched-out k touches = elim (cases_Bool (is_among before.order k || is_among after.order k)) [

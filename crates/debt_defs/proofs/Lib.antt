@@ -8,6 +8,7 @@ pub mod Orders
 pub mod Paths
 pub mod Ready
 pub mod Roots
+pub mod Rounded
 pub mod SameRows
 pub mod SameTrees
 pub mod Samenesses

@@ -5,8 +5,6 @@ use Rattle.std.proofs.lemmas.Bool.{cases_Bool, false≢true}
 use Rattle.gui_base.specs.Area.{Rect, nat_of}
 use Rattle.gui_base.specs.Props.{is_value}
 use Rattle.gui_base.specs.declared.props.Prop.TheVariants.{TextFont}
-use Rattle.gui_base.specs.declared.words.Kind.{Kind}
-use Rattle.gui_base.specs.declared.words.Kind.TheVariants as kind
 use Rattle.gui_base.specs.declared.words.Part.TheVariants.{Main}
 use Rattle.text_defs.specs.Building.{is_finished}
 use Rattle.text_defs.specs.Fonts.{Font, font_of, face}
@@ -14,7 +12,10 @@ use Rattle.text_defs.specs.Images.{Image, image_of, size_in, is_done}
 use Rattle.widget_defs.specs.declared.ImageLook.{ImageLook}
 use Rattle.widget_defs.specs.declared.ItemPaint.{ItemPaint}
 use Rattle.widget_defs.specs.declared.ItemPaint.TheVariants.{Fill, Ring, Ink, Picture}
-use Rattle.widget_defs.specs.Items.{Item, content_items, content_of, items as items_in, bars as bars_in, fill_of, right_bar, bottom_bar, picture_of}
+use Rattle.widget_defs.specs.declared.kinds.Shown.{Shown}
+use Rattle.widget_defs.specs.declared.kinds.Shown.TheVariants as shown
+use Rattle.widget_defs.specs.Items.{Item, shown_items, content_of, items as items_in, bars as bars_in, fill_of, right_bar, bottom_bar, picture_of}
+use Rattle.widget_defs.specs.Kinds.{shows}
 use Rattle.widget_defs.specs.Looks.{Look, PartValues, number_of}
 use Rattle.scene_defs.specs.declared.Change.{Change}
 use Rattle.scene_defs.specs.Change.{answer_of, scene_after}
@@ -69,21 +70,18 @@ module _ (fonts : List Font) (images : List Image) where
   picture-ready None values content whole = tt
   picture-ready (Some i) values content whole = (whole i refl, tt)
 
-  content-ready : (k : Kind) (look : Look) (content : Rect) → is_finished fonts (number_of (look.main TextFont)) ≡ true →
-      ((i : ImageLook) → look.image ≡ Some i → is_whole_image images i.id ≡ true) → AreReady fonts images (content_items k look content)
-  content-ready kind.Screen look content font whole = tt
-  content-ready kind.Layer look content font whole = tt
-  content-ready kind.Obj look content font whole = tt
-  content-ready kind.Label look content font whole = (font, tt)
-  content-ready kind.Image look content font whole = picture-ready look.image look.main content whole
-  content-ready kind.Bar look content font whole = (tt, (tt, tt))
-  content-ready kind.Slider look content font whole = (tt, (tt, (tt, (tt, tt))))
-  content-ready kind.Checkbox look content font whole = (tt, (tt, (font, tt)))
-  content-ready k look content font whole = tt
+  shown-ready : (what : Shown) (look : Look) (content : Rect) → is_finished fonts (number_of (look.main TextFont)) ≡ true →
+      ((i : ImageLook) → look.image ≡ Some i → is_whole_image images i.id ≡ true) → AreReady fonts images (shown_items what look content)
+  shown-ready shown.Nothing look content font whole = tt
+  shown-ready shown.Text look content font whole = (font, tt)
+  shown-ready shown.Picture look content font whole = picture-ready look.image look.main content whole
+  shown-ready shown.Share look content font whole = (tt, (tt, tt))
+  shown-ready shown.ShareAndKnob look content font whole = (tt, (tt, (tt, (tt, tt))))
+  shown-ready shown.BoxAndText look content font whole = (tt, (tt, (font, tt)))
 
   items-ready : (look : Look) (area : Rect) → is_finished fonts (number_of (look.main TextFont)) ≡ true →
       ((i : ImageLook) → look.image ≡ Some i → is_whole_image images i.id ≡ true) → AreReady fonts images (items_in look area)
-  items-ready look area font whole = (tt, (tt, content-ready look.kind look (content_of area look.main) font whole))
+  items-ready look area font whole = (tt, (tt, shown-ready (shows look.kind) look (content_of area look.main) font whole))
 
 -- an image with a size is finished
 sized-whole : (images : List Image) (i : ℕ) (size : ℕ × ℕ) → size_in images i ≡ Some size → is_whole_image images i ≡ true

@@ -10,7 +10,9 @@ use Rattle.gui_base.specs.declared.color.Rgb565.{Rgb565}
 use Rattle.gui_base.specs.declared.refusal.Refusal.{Refusal}
 use Rattle.gui_base.specs.Area.{Rect, area_at, has, is_within}
 use Rattle.gui_base.specs.Color.{black}
-use Rattle.gui_base.specs.Limits.{Bounds}
+use Rattle.gui_base.specs.Limits.{Bounds, grid_in}
+use Rattle.gui_base.specs.Rounding.{IsRounding}
+use Rattle.gui_base.proofs.Blocks.{gridded_sound}
 use Rattle.scene_defs.specs.Scene.{Object, Scene, object_at}
 use Rattle.widget_defs.specs.Items.{Item}
 use Rattle.scene_defs.specs.declared.Change.{Change}
@@ -21,7 +23,7 @@ use Rattle.gui_base.specs.Coats.{Coat}
 use Rattle.scene_defs.specs.Items.{items, bars, coats, chars_at}
 use Rattle.scene_defs.specs.Shown.{Seen, Entry, entries, entry_coats, seen_as, seen_entry}
 use Rattle.scene_defs.specs.Picture.{paint_seen, paint}
-use Rattle.scene_defs.specs.Valid.{IsValid}
+use Rattle.scene_defs.specs.Valid.{HasWholeBlocks, gridded, IsValid}
 use Rattle.scene_defs.specs.Walk.{IsShowable}
 use Rattle.scene_defs.proofs.Changes.{after_keeps}
 use Rattle.scene_defs.proofs.Validity.{change_keeps_valid, valid_is_showable}
@@ -29,14 +31,15 @@ use Rattle.debt_defs.specs.Look.{laid_by, over}
 use Rattle.debt_defs.specs.Same.{same_visible, same_item, same_by}
 use Rattle.debt_defs.specs.Debt.{listed, owed_by, touched}
 use Rattle.debt_defs.specs.Named.{named}
-use Rattle.debt_defs.specs.Scenes.{dab_at, look_of, debt_by}
+use Rattle.debt_defs.specs.Scenes.{dab_at, look_of, touched_areas_by, touched_areas_of}
 use Rattle.debt_defs.specs.Frame.{covered, IsInside, KeepsOrder, LaySame}
 use Rattle.debt_defs.specs.Orders.{is_shown, is_part_of, remains, KeepOrder}
-use Rattle.debt_defs.specs.Laws.{FrameOfScenes, PaintedByLook, RefusedOwesNothing, DebtWithinPanel}
+use Rattle.debt_defs.specs.Laws.{FrameOfScenes, PaintedByLook, RefusedOwesNothing, DebtWithinPanel, DebtIsRound}
 use Rattle.debt_defs.proofs.Samenesses.{items-lay}
 use Rattle.debt_defs.proofs.Looks.{frame_of_looks}
 use Rattle.debt_defs.proofs.Inside.{fits, visible_fits, visible-none, seen_inside_above, scene_is_look}
 use Rattle.debt_defs.proofs.Kept.{others_keep_order}
+use Rattle.debt_defs.proofs.Rounded.{rounded_within, rounded_round, free_of_rounded}
 use Rattle.debt_defs.proofs.Ready.{assets-stay, scene-ready, bars-ready}
 use Rattle.debt_defs.proofs.Texts.{text-stays}
 
@@ -122,29 +125,7 @@ scenes-lay scene change v done e x y other same bars_same = elim (cases_Bool e.i
       let text : chars_at after k ≡ chars_at scene k = rw (is, was) (ap chars (text-stays scene change k old new v other was is)) in
       rw text (items-lay scene.fonts after.fonts scene.images after.images (chars_at scene k) (assets-stay scene change v done) x y (items scene k) (items after k) (scene-ready scene k v) same)
 
-pub frame_of_scenes : FrameOfScenes
-frame_of_scenes scene change x y v c free =
-    by (answer_of scene change) refl (change_keeps_valid scene change v c) (others_keep_order scene change v c) free
-  where
-    by : (answer : Option Refusal) → answer_of scene change ≡ answer → IsValid (scene_by answer scene change) → KeepOrder (named change) scene (scene_by answer scene change) →
-        covered (debt_by answer scene change) x y ≡ false → paint (scene_by answer scene change) x y ≡ paint scene x y
-    by (Some refusal) done w keeps out = refl
-    by None done w keeps out =
-        let after = scene_after scene change in
-        let n = named change in
-        let kept : KeepsOrder n (look_of scene) (look_of after) (remains n scene after) =
-        record { order = keeps; others = λ k off. others-inside n scene after k (valid_is_showable scene v) (valid_is_showable after w) off } in
-        let laid = frame_of_looks same_item n (look_of scene) (look_of after) (remains n scene after) x y (scene_is_look scene) (scene_is_look after)
-        (scenes-lay scene change v done) kept out in
-        painted_by_look after x y ∙ ap (fold over black) laid ∙ sym (painted_by_look scene x y)
-
--- What debts are.
-pub refused_owes_nothing : RefusedOwesNothing
-refused_owes_nothing scene change refused = by (answer_of scene change) refused where
-  by : (answer : Option Refusal) → is_some answer ≡ true → debt_by answer scene change ≡ []
-  by None e = absurd (false≢true e)
-  by (Some refusal) e = refl
-
+-- All that is touched is seen in the panel.
 all-flat : {A B : Type 0} (p : B → Bool) (f : A → List B) → ((a : A) → list_all p (f a) ≡ true) → (as' : List A) → list_all p (flat_map f as') ≡ true
 all-flat p f each [] = refl
 all-flat p f each (a ∷ as') = list_all-append p (f a) (flat_map f as') ∙ and_from _ _ (each a) (all-flat p f each as')
@@ -165,9 +146,9 @@ owed-within panel old new o n =
 abbrev panel_by : Bounds → Rect
 panel_by limits = area_at (pos 0) (pos 0) limits.width limits.height
 
-pub debt_within_panel : DebtWithinPanel
-debt_within_panel scene change = by (answer_of scene change) where
-  by : (answer : Option Refusal) → list_all (is_within (panel_of scene)) (debt_by answer scene change) ≡ true
+pub touched_within_panel : (scene : Scene) (change : Change) → list_all (is_within (panel_of scene)) (touched_areas_of scene change) ≡ true
+touched_within_panel scene change = by (answer_of scene change) where
+  by : (answer : Option Refusal) → list_all (is_within (panel_of scene)) (touched_areas_by answer scene change) ≡ true
   by (Some refusal) = refl
   by None =
       let after = scene_after scene change in
@@ -177,3 +158,37 @@ debt_within_panel scene change = by (answer_of scene change) where
       all-flat (is_within (panel_of scene)) (owed_by old new)
       (λ k. owed-within (panel_of scene) (visible scene k) (visible after k) (visible_fits scene k) (ap (λ p. fits p (visible after k)) (sym panel) ∙ visible_fits after k))
       (touched same_item (named change) old new)
+
+-- The grid of a panel that consists of whole blocks rounds.
+grid_rounds : (scene : Scene) → HasWholeBlocks scene.limits → IsRounding (grid_in scene.limits)
+grid_rounds scene (gridded whole) = gridded_sound scene.limits.block (panel_of scene) whole
+
+pub frame_of_scenes : FrameOfScenes
+frame_of_scenes scene change x y v c free =
+    let out = free_of_rounded (grid_in scene.limits) (grid_rounds scene v.blocks) (touched_areas_of scene change) x y (touched_within_panel scene change) free in
+    by (answer_of scene change) refl (change_keeps_valid scene change v c) (others_keep_order scene change v c) out
+  where
+    by : (answer : Option Refusal) → answer_of scene change ≡ answer → IsValid (scene_by answer scene change) → KeepOrder (named change) scene (scene_by answer scene change) →
+        covered (touched_areas_by answer scene change) x y ≡ false → paint (scene_by answer scene change) x y ≡ paint scene x y
+    by (Some refusal) done w keeps out = refl
+    by None done w keeps out =
+        let after = scene_after scene change in
+        let n = named change in
+        let kept : KeepsOrder n (look_of scene) (look_of after) (remains n scene after) =
+        record { order = keeps; others = λ k off. others-inside n scene after k (valid_is_showable scene v) (valid_is_showable after w) off } in
+        let laid = frame_of_looks same_item n (look_of scene) (look_of after) (remains n scene after) x y (scene_is_look scene) (scene_is_look after)
+        (scenes-lay scene change v done) kept out in
+        painted_by_look after x y ∙ ap (fold over black) laid ∙ sym (painted_by_look scene x y)
+
+-- What debts are.
+pub refused_owes_nothing : RefusedOwesNothing
+refused_owes_nothing scene change refused = ap (map (grid_in scene.limits).round) (by (answer_of scene change) refused) where
+  by : (answer : Option Refusal) → is_some answer ≡ true → touched_areas_by answer scene change ≡ []
+  by None e = absurd (false≢true e)
+  by (Some refusal) e = refl
+
+pub debt_within_panel : DebtWithinPanel
+debt_within_panel scene change blocks = rounded_within (grid_in scene.limits) (grid_rounds scene blocks) (touched_areas_of scene change) (touched_within_panel scene change)
+
+pub debt_is_round : DebtIsRound
+debt_is_round scene change blocks = rounded_round (grid_in scene.limits) (grid_rounds scene blocks) (touched_areas_of scene change) (touched_within_panel scene change)

@@ -1,4 +1,4 @@
--- What a change owes: which objects it touches, and the areas that are to be painted anew.
+-- What a change touches: which objects, and the areas where they are seen, which are to be painted anew.
 use Rattle.std.specs.Prelude.{ℕ, Bool, false, not, ◌||◌, ◌==◌, if◌then◌else◌, List, [], ◌∷◌, ◌++◌}
 use Rattle.std.specs.Prelude.{Some, None, length, sum_by}
 use Rattle.std.specs.declared.option.Option.{Option}
@@ -43,9 +43,9 @@ module _ {I : Type 0} (same : I → I → Bool) where
   abbrev pub touched : Option ℕ → Look I → Look I → List ℕ
   touched named before after = filter (is_touched named before after) (shown_in_either before after)
 
-  -- the debt: what each touched object owes
-  abbrev pub debt : Option ℕ → Look I → Look I → List Rect
-  debt named before after = flat_map (owed_by before after) (touched named before after)
+  -- the areas of each touched object
+  abbrev pub touched_areas : Option ℕ → Look I → Look I → List Rect
+  touched_areas named before after = flat_map (owed_by before after) (touched named before after)
 
 -- how many pixels the areas have, each area by itself
 abbrev pub debt_size : List Rect → ℕ

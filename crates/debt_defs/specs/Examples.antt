@@ -13,7 +13,7 @@ use Rattle.gui_base.specs.declared.words.Part.TheVariants.{Main}
 use Rattle.gui_base.specs.declared.words.Selector.{Selector}
 use Rattle.gui_base.specs.Area.{Rect}
 use Rattle.gui_base.specs.Forest.{Forest, Empty, Tree, and_then}
-use Rattle.gui_base.specs.Limits.{with_sizes}
+use Rattle.gui_base.specs.Limits.{with_sizes, with_block}
 use Rattle.style_defs.specs.declared.Entry.{Entry}
 use Rattle.style_defs.specs.declared.Setting.{Setting}
 use Rattle.style_defs.specs.Book.{Book, an_entry, a_setting, a_use}
@@ -71,6 +71,13 @@ area x1 y1 x2 y2 = record { x1 = pos x1; y1 = pos y1; x2 = pos x2; y2 = pos y2 }
 -- one black object
 abbrev pub one : Scene
 one = scene 8 6 (Tree (object 10 1 1 3 2) Empty Empty) (opaque 0 ∷ [] ∷ [])
+
+-- a black pixel, on a panel that takes blocks of four by two pixels
+abbrev pub blocked : Scene
+blocked =
+    record (scene 8 4 (Tree (object 10 5 1 1 1) Empty Empty) (opaque 0 ∷ [] ∷ [])) {
+      limits = with_block (with_sizes 8 4 4) (record { w = 4; h = 2 });
+    }
 
 abbrev pub moves : Change
 moves = change.Pos (handle 10) (pos 2) (pos 1)
@@ -178,6 +185,11 @@ pub record DebtsAreWorked : Type 0 where
   pub unseen : debt_of two_screens (change.Front (handle 11)) ≡ []
   -- nor does what is refused
   pub refused : debt_of one (change.Front (handle 99)) ≡ []
+  -- where the panel takes whole blocks, one that turns red owes those that it lies in, and one that moves
+  -- those of both its places, also where they are the same
+  pub whole_blocks : debt_of blocked (change.Local (handle 10) main BgColor (pos 16711680)) ≡ area 4 0 7 1 ∷ []
+  pub both_blocks : debt_of blocked (change.Pos (handle 10) (pos 3) (pos 2)) ≡ area 4 0 7 1 ∷ area 0 2 3 3 ∷ []
+  pub same_blocks : debt_of blocked (change.Pos (handle 10) (pos 4) (pos 0)) ≡ area 4 0 7 1 ∷ area 4 0 7 1 ∷ []
 
 -- a white object that is scrollable, with a blue one in it that is three times as high
 abbrev scrollable : Object → Object

@@ -7,7 +7,7 @@ use Rattle.scene_defs.specs.Shown.{Entry}
 use Rattle.scene_defs.specs.Visible.{holds}
 use Rattle.debt_defs.specs.Look.{Look, IsLook, layers}
 use Rattle.debt_defs.specs.Same.{same_by}
-use Rattle.debt_defs.specs.Debt.{is_named, debt}
+use Rattle.debt_defs.specs.Debt.{is_named, touched_areas}
 
 -- whether one of the areas has the pixel
 abbrev pub covered : List Rect → ℤ → ℤ → Bool
@@ -41,4 +41,4 @@ abbrev pub FrameOfLooks : Type 0 → Type 0
 FrameOfLooks I =
     (same : I → I → Bool) (named : Option ℕ) (before after : Look I) (test : ℕ → Bool) (x y : ℤ) →
     IsLook before → IsLook after → LaySame same named before after → KeepsOrder named before after test →
-    covered (debt same named before after) x y ≡ false → layers after x y ≡ layers before x y
+    covered (touched_areas same named before after) x y ≡ false → layers after x y ≡ layers before x y

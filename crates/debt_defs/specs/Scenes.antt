@@ -4,6 +4,7 @@ use Rattle.std.specs.declared.option.Option.{Option}
 use Rattle.gui_base.specs.declared.refusal.Refusal.{Refusal}
 use Rattle.gui_base.specs.Area.{Rect}
 use Rattle.gui_base.specs.Coats.{Dab, Coat}
+use Rattle.gui_base.specs.Limits.{grid_in}
 use Rattle.widget_defs.specs.Items.{Item}
 use Rattle.scene_defs.specs.declared.Change.{Change}
 use Rattle.scene_defs.specs.Scene.{Scene}
@@ -13,7 +14,7 @@ use Rattle.scene_defs.specs.Items.{items, bars}
 use Rattle.scene_defs.specs.Shown.{order, entries, entry_coats}
 use Rattle.debt_defs.specs.Look.{Look}
 use Rattle.debt_defs.specs.Same.{same_item}
-use Rattle.debt_defs.specs.Debt.{touched, debt}
+use Rattle.debt_defs.specs.Debt.{touched, touched_areas}
 use Rattle.debt_defs.specs.Named.{named}
 
 -- what a coat is at a pixel
@@ -39,12 +40,15 @@ touched_by None scene change =
 abbrev pub touched_of : Scene → Change → List ℕ
 touched_of scene change = touched_by (answer_of scene change) scene change
 
--- the debt of a change with this answer: a refused one owes nothing
-abbrev pub debt_by : Option Refusal → Scene → Change → List Rect
-debt_by (Some refusal) scene change = []
-debt_by None scene change =
-    debt same_item (named change) (look_of scene) (look_of (scene_after scene change))
+-- where the objects that a change with this answer touches are seen: a refused one touches none
+abbrev pub touched_areas_by : Option Refusal → Scene → Change → List Rect
+touched_areas_by (Some refusal) scene change = []
+touched_areas_by None scene change =
+    touched_areas same_item (named change) (look_of scene) (look_of (scene_after scene change))
 
--- the areas that a change of a scene owes
+abbrev pub touched_areas_of : Scene → Change → List Rect
+touched_areas_of scene change = touched_areas_by (answer_of scene change) scene change
+
+-- the debt, the areas that a change of a scene owes: those areas, rounded to whole blocks of the panel
 abbrev pub debt_of : Scene → Change → List Rect
-debt_of scene change = debt_by (answer_of scene change) scene change
+debt_of scene change = map (grid_in scene.limits).round (touched_areas_of scene change)

@@ -8,7 +8,7 @@ use Rattle.scene_defs.specs.Change.{changed}
 use Rattle.scene_defs.specs.Picture.{paint}
 use Rattle.scene_defs.specs.Walk.{IsShowable}
 use Rattle.debt_defs.specs.Same.{same_item, same_color}
-use Rattle.debt_defs.specs.Debt.{listed, owed_by, debt}
+use Rattle.debt_defs.specs.Debt.{listed, owed_by, touched_areas}
 use Rattle.debt_defs.specs.Named.{named}
 use Rattle.debt_defs.specs.Scenes.{look_of, touched_of}
 use Rattle.debt_defs.specs.Frame.{covered}
@@ -48,7 +48,7 @@ one_user_only scene change = owed_by_some (first_of (touched_of scene change)) s
 
 -- nothing for what a change names, where it looks the same
 abbrev pub differing_only : Scene → Change → List Rect
-differing_only scene change = debt same_item None (look_of scene) (look_of (changed scene change))
+differing_only scene change = touched_areas same_item None (look_of scene) (look_of (changed scene change))
 
 pub record TooLittleIsOwed : Type 0 where
   -- a moved object leaves its old place

@@ -6,6 +6,7 @@ ghost use Rattle.debt_defs.specs.Concerns.{OthersAreSame, OthersLookSame};
 ghost use Rattle.debt_defs.specs.Examples.{DebtsAreWorked, ConcernsAreWorked, ScrollingIsWorked};
 ghost use Rattle.debt_defs.specs.Frame.{FrameOfLooks};
 ghost use Rattle.debt_defs.specs.Laws.{FrameOfScenes, PaintedByLook, RefusedOwesNothing, DebtWithinPanel};
+ghost use Rattle.debt_defs.specs.Laws.{DebtIsRound};
 ghost use Rattle.debt_defs.specs.Orders.{OthersKeepOrder, SettersKeepOrder, SeenInsideAbove};
 ghost use Rattle.debt_defs.specs.TooLittle.{TooLittleIsOwed};
 ghost use Rattle.widget_defs.specs.Items.{Item};
@@ -26,10 +27,12 @@ pub fn others_keep_their_order()
     ensures inside { SeenInsideAbove }
 {}
 
-/// A refused change owes nothing. Each area of a debt has a pixel, and lies in the panel.
+/// A refused change owes nothing. Each area of a debt has a pixel, lies in the panel, and consists of whole
+/// blocks.
 pub fn debts_lie_in_the_panel()
     ensures refused { RefusedOwesNothing }
     ensures within { DebtWithinPanel }
+    ensures blocks { DebtIsRound }
 {}
 
 /// Debts, and what changes concern, worked out by hand.

@@ -6,7 +6,7 @@ use Rattle.std.proofs.lemmas.Int.{ints}
 use Rattle.gui_base.specs.Area.{Rect, IsCoordinate, nat_of, count_between, is_within}
 use Rattle.gui_base.specs.Corners.{rect_of}
 use Rattle.gui_base.specs.Gridded.{PixelsWidenNothing}
-use Rattle.gui_base.specs.Grids.{HasBlocks, IsBlock, IsPixel, block_start, block_end, in_blocks, blocks_of}
+use Rattle.gui_base.specs.Grids.{HasBlocks, IsBlock, BlockSize, IsGridded, one_pixel, block_start, block_end, in_blocks, blocks_of, grid_over}
 use Rattle.gui_base.specs.Lines.{top_lines, lines_below}
 use Rattle.gui_base.specs.Rounding.{IsRounding, IsRound}
 use Rattle.gui_base.proofs.Areas.{corners_around}
@@ -125,6 +125,10 @@ module _ (w h : ℕ) (panel : Rect) (block : IsBlock w h) (whole : HasBlocks w h
     cut = λ area steps given round some few. (top_round area steps round some, below_round area steps round);
   }
 
+-- so is the grid of a panel that consists of whole blocks
+pub gridded_sound : (block : BlockSize) (panel : Rect) → IsGridded block panel → IsRounding (grid_over block panel)
+gridded_sound block panel h = blocks_sound block.w block.h panel h.sizes h.whole
+
 -- an area of a panel that begins at 0 0 has no pixel left of it or above
 pub not_negative : (panel area : Rect) → panel.x1 ≡ pos 0 → panel.y1 ≡ pos 0 → is_within panel area ≡ true →
     ((pos 0 ≤ℤ area.x1) × (pos 0 ≤ℤ area.y1)) × ((pos 0 ≤ℤ area.x2) × (pos 0 ≤ℤ area.y2))
@@ -157,10 +161,15 @@ single_end (pos n) h = ap pos (omega (arith, single n))
 single_end (negsuc n) h = absurd (omega (arith, ints))
 
 -- so each area of a panel is its own rounding
-pixels_round : (w h : ℕ) (panel area : Rect) → IsPixel w h → HasBlocks w h panel → is_within panel area ≡ true → in_blocks w h area ≡ area
-pixels_round w h panel area pixel whole given =
-    let n = not_negative panel area whole.left whole.top given in
-    rw (pixel.0, pixel.1, single_start area.x1 n.0.0, single_start area.y1 n.0.1, single_end area.x2 n.1.0, single_end area.y2 n.1.1) refl
+pixels_round : (w h : ℕ) (panel area : Rect) → w ≡ 1 → h ≡ 1 → panel.x1 ≡ pos 0 → panel.y1 ≡ pos 0 → is_within panel area ≡ true → in_blocks w h area ≡ area
+pixels_round w h panel area one_wide one_high left top given =
+    let n = not_negative panel area left top given in
+    rw (one_wide, one_high, single_start area.x1 n.0.0, single_start area.y1 n.0.1, single_end area.x2 n.1.0, single_end area.y2 n.1.1) refl
 
 pub pixels_widen : PixelsWidenNothing
-pixels_widen grid pixels area inside = pixels_round grid.block.w grid.block.h (rect_of grid.panel) area pixels grid.whole inside
+pixels_widen grid pixels area inside =
+    pixels_round grid.block.w grid.block.h (rect_of grid.panel) area (ap (λ (b : BlockSize). b.w) pixels) (ap (λ (b : BlockSize). b.h) pixels) grid.whole.left grid.whole.top inside
+
+-- the same of the grid of a panel at 0 0
+pub one_pixel_round : (block : BlockSize) (panel area : Rect) → block ≡ one_pixel → panel.x1 ≡ pos 0 → panel.y1 ≡ pos 0 → is_within panel area ≡ true → IsRound (grid_over block panel) area
+one_pixel_round block panel area one left top given = pixels_round block.w block.h panel area (ap (λ (b : BlockSize). b.w) one) (ap (λ (b : BlockSize). b.h) one) left top given

@@ -1,4 +1,5 @@
 -- The limits of the code as numbers.
+use Rattle.gui_base.specs.Gridded.{size_in}
 use Rattle.gui_base.specs.Limits.{Bounds}
 use Rattle.gui_base.specs.declared.limits.Limits.{Limits}
 
@@ -7,6 +8,7 @@ bounds_of l = record {
   width = l.width;
   height = l.height;
   lines = l.lines;
+  block = size_in l.block;
   objects = l.objects;
   styles = l.styles;
   entries = l.entries;

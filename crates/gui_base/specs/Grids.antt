@@ -3,16 +3,21 @@ use Rattle.std.specs.Prelude.{◌≡◌, ℕ, ◌+◌, ◌-◌, ◌*◌, ◌/◌
 use Rattle.gui_base.specs.Area.{Rect, is_empty, nat_of, width_of, height_of}
 use Rattle.gui_base.specs.Rounding.{Rounding}
 
+-- the width and the height of a block, in pixels
+pub record BlockSize : Type 0 where
+  pub w : ℕ
+  pub h : ℕ
+
+-- a block of a single pixel
+abbrev pub one_pixel : BlockSize
+one_pixel = record { w = 1; h = 1 }
+
 -- the sizes of a block
 pub record IsBlock (w h : ℕ) : Type 0 where
   pub some_width : 1 ≤ w
   pub most_width : w ≤ 16
   pub some_height : 1 ≤ h
   pub most_height : h ≤ 16
-
--- a block is a single pixel
-abbrev pub IsPixel : ℕ → ℕ → Type 0
-IsPixel w h = (w ≡ 1) × (h ≡ 1)
 
 -- the first number of the block of so many numbers that a number lies in, counted from 0, and the last one
 abbrev pub block_start : ℕ → ℕ → ℕ
@@ -40,3 +45,12 @@ pub record HasBlocks (w h : ℕ) (panel : Rect) : Type 0 where
 
 abbrev pub blocks_of : ℕ → ℕ → Rect → Rounding
 blocks_of w h panel = record { panel = panel; round = in_blocks w h; step = h }
+
+-- the grid of a panel in blocks of this size
+abbrev pub grid_over : BlockSize → Rect → Rounding
+grid_over block panel = blocks_of block.w block.h panel
+
+-- there is such a grid: the panel consists of whole blocks
+pub record IsGridded (block : BlockSize) (panel : Rect) : Type 0 where
+  pub sizes : IsBlock block.w block.h
+  pub whole : HasBlocks block.w block.h panel

@@ -1,12 +1,15 @@
 -- The limits, their ranges, and what they are where no word asks for others.
-use Rattle.std.specs.Prelude.{ℕ, ◌≤◌, None}
+use Rattle.std.specs.Prelude.{◌≡◌, ℕ, ◌≤◌, ◌%◌, None, pos}
 use Rattle.std.specs.declared.option.Option.{Option}
 use Rattle.std.specs.Option.{ForSome}
 use Rattle.gui_base.specs.declared.limits.Pool.{Pool}
 use Rattle.gui_base.specs.declared.limits.Pool.TheVariants.{Objects, Styles, Entries, Uses, Texts, Fonts}
 use Rattle.gui_base.specs.declared.limits.Pool.TheVariants.{Glyphs, Ink, Images, Pixels, Handlers, Groups}
 use Rattle.gui_base.specs.declared.limits.Pool.TheVariants.{Anims}
+use Rattle.gui_base.specs.Area.{Rect, area_at}
+use Rattle.gui_base.specs.Grids.{BlockSize, one_pixel, grid_over}
 use Rattle.gui_base.specs.Pools.{least, most, default}
+use Rattle.gui_base.specs.Rounding.{Rounding}
 
 -- the sizes of a panel in pixels, and the lines of its draw buffer
 pub record IsPanel (width height lines : ℕ) : Type 0 where
@@ -16,6 +19,12 @@ pub record IsPanel (width height lines : ℕ) : Type 0 where
   pub most_height : height ≤ 1024
   pub some_lines : 1 ≤ lines
   pub most_lines : lines ≤ height
+
+-- the panel and its draw buffer consist of whole blocks of so many pixels and lines
+pub record HaveBlocks (width height lines w h : ℕ) : Type 0 where
+  pub wide : width % w ≡ 0
+  pub high : height % h ≡ 0
+  pub lined : lines % h ≡ 0
 
 -- how many slots the pools of objects and their styles may have
 pub record AreScenePools (objects styles entries uses : ℕ) : Type 0 where
@@ -49,6 +58,7 @@ pub record Bounds : Type 0 where
   pub width : ℕ
   pub height : ℕ
   pub lines : ℕ
+  pub block : BlockSize
   pub objects : ℕ
   pub styles : ℕ
   pub entries : ℕ
@@ -64,12 +74,20 @@ pub record Bounds : Type 0 where
   pub anims : ℕ
   pub make : Option ℕ
 
--- these sizes, each pool with its default, and no made script
+-- all pixels of the panel, and its grid of blocks
+abbrev pub panel_in : Bounds → Rect
+panel_in limits = area_at (pos 0) (pos 0) limits.width limits.height
+
+abbrev pub grid_in : Bounds → Rounding
+grid_in limits = grid_over limits.block (panel_in limits)
+
+-- these sizes, blocks of a single pixel, each pool with its default, and no made script
 abbrev pub with_sizes : ℕ → ℕ → ℕ → Bounds
 with_sizes width height lines = record {
   width = width;
   height = height;
   lines = lines;
+  block = one_pixel;
   objects = default Objects;
   styles = default Styles;
   entries = default Entries;
@@ -117,3 +135,7 @@ with_slots Pixels limits n = record limits { pixels = n }
 with_slots Handlers limits n = record limits { handlers = n }
 with_slots Groups limits n = record limits { groups = n }
 with_slots Anims limits n = record limits { anims = n }
+
+-- the limits with blocks of this size
+abbrev pub with_block : Bounds → BlockSize → Bounds
+with_block limits block = record limits { block = block }

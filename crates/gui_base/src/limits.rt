@@ -1,6 +1,9 @@
 //! The sizes of a panel and of the pools, as the words of the command line ask for them.
 ghost use Rattle.std.specs.Prelude.{◌≡◌, ◌≤◌};
-ghost use Rattle.gui_base.specs.Limits.{IsPanel, AreScenePools, AreMediaPools, AreEventPools, IsMade};
+ghost use Rattle.gui_base.specs.Limits.{IsPanel, HaveBlocks, AreScenePools, AreMediaPools, AreEventPools};
+ghost use Rattle.gui_base.specs.Limits.{IsMade};
+
+use crate::rounding::Block;
 
 /// The pools of counted slots.
 #[derive(Clone, Copy, Debug, PartialEq, Eq)]
@@ -33,14 +36,17 @@ pub enum Pool {
     Anims,
 }
 
-/// The panel's sizes in pixels, the lines of the draw buffer, the slots of each pool, and which made script
-/// is run, if any. Each number lies within its range: the sizes from 1 to 1024, the lines from 1 to the
-/// height, the slots of each pool in the range that [`Pool::range`] gives.
+/// The panel's sizes in pixels, the lines of the draw buffer, the blocks that the panel takes, the slots of
+/// each pool, and which made script is run, if any. Each number lies within its range: the sizes from 1 to
+/// 1024, the lines from 1 to the height, the slots of each pool in the range that [`Pool::range`] gives. The
+/// panel and its draw buffer consist of whole blocks: the width is a multiple of the block's width, and the
+/// height and the lines are multiples of its height.
 #[derive(Clone, Copy, Debug)]
 pub struct Limits {
     pub width: u32,
     pub height: u32,
     pub lines: u32,
+    pub block: Block,
     pub objects: u32,
     pub styles: u32,
     pub entries: u32,
@@ -56,6 +62,7 @@ pub struct Limits {
     pub anims: u32,
     pub make: Option<u16>,
     ghost panel: { IsPanel width height lines },
+    ghost blocks: { HaveBlocks width height lines block.w block.h },
     ghost scene: { AreScenePools objects styles entries uses },
     ghost media: { AreMediaPools texts fonts glyphs ink images pixels },
     ghost events: { AreEventPools handlers groups anims },
@@ -63,19 +70,22 @@ pub struct Limits {
 }
 
 impl Limits {
-    ghost use Rattle.gui_base.specs.Limits.{with_sizes, slots, with_slots};
+    ghost use Rattle.gui_base.specs.Gridded.{size_in};
+    ghost use Rattle.gui_base.specs.Limits.{with_sizes, with_block, slots, with_slots};
     ghost use Rattle.gui_base.specs.Pools.{least, most};
     ghost use Rattle.gui_base.specs.Bounded.{bounds_of};
 
-    /// These sizes, each pool with its default, and no made script.
+    /// These sizes, blocks of a single pixel, each pool with its default, and no made script.
     pub fn with_sizes(width: u32, height: u32, lines: u32) -> Limits
         requires { IsPanel width height lines }
         ensures { bounds_of result ≡ with_sizes width height lines }
     {
+        let block = Block { w: 1, h: 1 };
         Limits {
             width,
             height,
             lines,
+            block,
             objects: Pool::Objects.default_slots(),
             styles: Pool::Styles.default_slots(),
             entries: Pool::Entries.default_slots(),
@@ -91,6 +101,14 @@ impl Limits {
             anims: Pool::Anims.default_slots(),
             make: None,
         }
+    }
+
+    /// Sets the blocks that the panel takes, of which it and the draw buffer have whole ones.
+    pub fn set_block(&mut self, block: Block)
+        requires { HaveBlocks self.old.width self.old.height self.old.lines block.w block.h }
+        ensures { bounds_of self.new ≡ with_block (bounds_of self.old) (size_in block) }
+    {
+        self.block = block;
     }
 
     /// The slots of a pool.

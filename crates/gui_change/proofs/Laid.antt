@@ -8,14 +8,15 @@ use Rattle.gui_base.specs.Area.{nat_of}
 use Rattle.gui_base.specs.declared.props.Prop.{Prop}
 use Rattle.gui_base.specs.declared.props.Prop.TheVariants.{BorderWidth, PadLeft, PadRight, PadTop, PadBottom, PadRow, PadColumn, TextFont}
 use Rattle.gui_base.specs.declared.words.Flag.TheVariants.{Hidden, Scrollable}
-use Rattle.gui_base.specs.declared.words.Kind.{Kind}
-use Rattle.gui_base.specs.declared.words.Kind.TheVariants.{Label, Image as Picture, Checkbox}
 use Rattle.gui_base.specs.declared.words.Part.TheVariants.{Main}
 use Rattle.layout_defs.specs.Boxes.{Box, side_across, side_down}
 use Rattle.text_defs.specs.Fonts.{Font, face}
 use Rattle.text_defs.specs.Images.{Image}
+use Rattle.widget_defs.specs.declared.kinds.Shown.{Shown}
+use Rattle.widget_defs.specs.declared.kinds.Shown.TheVariants as shown
+use Rattle.widget_defs.specs.Kinds.{shows}
 use Rattle.widget_defs.specs.Looks.{Look, PartValues, number_of}
-use Rattle.widget_defs.specs.Sizes.{width_by, height_by}
+use Rattle.widget_defs.specs.Sizes.{width_by, height_by, shown_width, shown_height}
 use Rattle.scene_defs.specs.declared.Row.{Row}
 use Rattle.scene_defs.specs.Looks.{image_look, look_of}
 use Rattle.scene_defs.specs.Place.{box_of}
@@ -104,22 +105,18 @@ module _ (scene : Scene) (object : Object) where
   abbrev bare : Look
   bare = look_by scene.fonts scene.images (laid object) values
 
-  width-laid : (kind : Kind) → width_by kind (look_of scene object) ≡ width_by kind bare
-  width-laid Label = refl
-  width-laid Picture = refl
-  width-laid Checkbox = refl
-  width-laid kind = refl
+  width-laid : (what : Shown) → shown_width what (look_of scene object) ≡ shown_width what bare
+  width-laid shown.Text = refl
+  width-laid what = refl
 
-  height-laid : (kind : Kind) (room : ℕ) → height_by kind (look_of scene object) room ≡ height_by kind bare room
-  height-laid Label room = refl
-  height-laid Picture room = refl
-  height-laid Checkbox room = refl
-  height-laid kind room = refl
+  height-laid : (what : Shown) (room : ℕ) → shown_height what (look_of scene object) room ≡ shown_height what bare room
+  height-laid shown.Text room = refl
+  height-laid what room = refl
 
   box-laid : box_of scene object ≡ box_by scene.fonts scene.images object.handle (laid object) values
   box-laid =
-      let width = width-laid object.row.kind in
-      let height : height_by object.row.kind (look_of scene object) ≡ height_by object.row.kind bare = fun_ext (height-laid object.row.kind) in
+      let width = width-laid (shows object.row.kind) in
+      let height : height_by object.row.kind (look_of scene object) ≡ height_by object.row.kind bare = fun_ext (height-laid (shows object.row.kind)) in
       λ i. record (box_of scene object) { own_width = width i; own_height = height i }
 
 -- What layout goes by of h is the same in both scenes.

@@ -19,7 +19,6 @@ pub mod SeenBelow
 pub mod Sighted
 pub mod Sparing
 pub mod Staying
-pub mod Trees
 pub mod Subtrees
 pub mod Tops
 pub mod Unchanged

@@ -6,8 +6,9 @@ use Rattle.gui_base.specs.Forest.{Forest, has, parent_of, path_of, tree_at}
 use Rattle.gui_base.specs.declared.Handle.{Handle}
 use Rattle.gui_base.proofs.Forests.{map-path_by}
 use Rattle.gui_layout.proofs.Climbing.{is_above}
-use Rattle.gui_tree.proofs.Paths.{goes_up, parent_gone, path_from}
+use Rattle.gui_tree.proofs.Paths.{goes_up, line_step, parent_gone, path_from}
 use Rattle.gui_tree.specs.Handles.{as_handle}
+use Rattle.gui_tree.specs.Walks.{line_from, line_of}
 use Rattle.debt_defs.proofs.Inside.{among-handles}
 use Rattle.scene_defs.specs.Scene.{Object, Scene, handle_of, handles_of, path_at}
 use Rattle.scene_defs.specs.Valid.{IsValid, is_root_at}
@@ -31,6 +32,16 @@ ends-one a k [] e = cc
 ends-one a k (object ∷ []) e = let same : object.handle ≡ k = cc in ap (λ (n : ℕ). eqb n a) same
 ends-one a k (object ∷ (parent ∷ above)) e = cc
 
+-- the last of these handles, or h where there is none
+abbrev pub last_from : ℕ → List ℕ → ℕ
+last_from h [] = h
+last_from h (k ∷ ks) = last_from k ks
+
+-- k has no parent, and is shown where h is
+pub record IsTop (scene : Scene) (h k : ℕ) : Type 0 where
+  pub root : parent_of (handles_of scene.trees) k ≡ None
+  pub shown : is_shown scene k ≡ is_shown scene h
+
 module _ (scene : Scene) (valid : IsValid scene) where
   abbrev f : Forest ℕ
   f = handles_of scene.trees
@@ -47,6 +58,22 @@ module _ (scene : Scene) (valid : IsValid scene) where
     | inr gone ↦
         let none : Some p ≡ None = up ∙ ap (option_map as_handle) (parent_gone f k None gone) in cc
   ]
+
+  top-from : (hs : List ℕ) (h : ℕ) (o : Option ℕ) → parent_of f h ≡ o → line_from (option_map as_handle o) f ≡ hs → IsTop scene h (last_from h hs)
+  top-from [] h None up line = record { root = up; shown = refl }
+  top-from [] h (Some p) up line = cc
+  top-from (k ∷ hs) h None up line = cc
+  top-from (k ∷ hs) h (Some p) up line =
+      let on : k ∷ hs ≡ p ∷ line_from (option_map as_handle (parent_of f p)) f = sym line ∙ line_step f p valid.trees.once in
+      let same : k ≡ p = cc in
+      let above = top-from hs p (parent_of f p) refl cc in
+      rw same (record { root = above.root; shown = above.shown ∙ shown-up h (as_handle p) (sym (ap (option_map as_handle) up)) })
+
+  -- the last of a line is such a one
+  pub top-is : (h : ℕ) → IsTop scene h (last_from h (line_of f h))
+  top-is h =
+      subst (λ (hs : List ℕ). IsTop scene h (last_from h hs)) (sym (line_step f h valid.trees.once))
+      (top-from (line_from (option_map as_handle (parent_of f h)) f) h (parent_of f h) refl refl)
 
   abbrev roots : ℕ → Bool
   roots k = eqb k scene.active || (eqb k 1 || eqb k 2)

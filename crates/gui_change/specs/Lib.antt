@@ -7,6 +7,7 @@ pub mod Edits
 pub mod Entries
 pub mod Gone
 pub mod Handles
+pub mod Kept
 pub mod Looks
 pub mod Marking
 pub mod Moving

@@ -1,4 +1,4 @@
-//! The bars that an object shows over its children, kept in few bytes.
+//! The bars that an object shows over its children.
 ghost use Rattle.std.specs.Prelude.{◌≡◌, ◌≤◌, ◌<◌, ◌+◌, ◌++◌, option_map};
 ghost use Rattle.arrayvec.specs.ArrayVec.{array_vec_len};
 ghost use Rattle.gui_base.specs.Corners.{rect_of};
@@ -19,10 +19,10 @@ use gui_widgets::{Item, ItemPaint};
 /// At most two areas, which are filled alike.
 #[derive(Clone, Copy)]
 pub struct Bars {
-    first: Option<Area>,
-    second: Option<Area>,
-    color: Rgb565,
-    opa: u8,
+    pub(crate) first: Option<Area>,
+    pub(crate) second: Option<Area>,
+    pub(crate) color: Rgb565,
+    pub(crate) opa: u8,
 }
 
 impl Bars {
@@ -113,7 +113,8 @@ fn packed(items: &[Item]) -> Bars
 pub(crate) fn bars_at(store: &Store, places: &Places, h: Handle) -> Bars
     requires solved { AreSolved places.now (scene_of store.now) }
     requires reached { AreReached places.now (scene_of store.now) }
-    ensures { bars_in result ≡ bars (scene_of store.now) h.0 }
+    ensures items { bars_in result ≡ bars (scene_of store.now) h.0 }
+    ensures kept { kept_in result ≡ kept_of (bars (scene_of store.now) h.0) }
 {
     let bars = places.bars(store, h);
     packed(bars.as_slice())

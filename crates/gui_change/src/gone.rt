@@ -16,11 +16,11 @@ ghost use Rattle.gui_change.specs.Sights.{KeepOthers};
 
 use crate::concerned::Concerned;
 use crate::debts::{is_named, owe};
-use crate::look::put;
 use crate::seen::Seen;
 use crate::shown::{SYSTEM_LAYER, TOP_LAYER};
 use gui_base::{Grid, Handle};
 use gui_damage::Damage;
+use gui_layout::put;
 use gui_pool::Table;
 use gui_store::Store;
 
@@ -30,11 +30,11 @@ fn top_of(store: &Store, h: Handle) -> Handle
     ensures shown { is_shown (scene_of store.now) result.0 ≡ is_shown (scene_of store.now) h.0 }
 {
     let tree = store.tree();
-    let mut at = h;
-    while let Some(above) = tree.parent(at) {
-        at = above;
+    let mut top = h;
+    for above in tree.ancestors(h) {
+        top = above;
     }
-    at
+    top
 }
 
 /// Whether a root is the active screen or a layer.

@@ -20,6 +20,7 @@ mod debts;
 mod edits;
 mod entries;
 mod gone;
+mod kept;
 mod look;
 mod marking;
 mod moving;

@@ -2,7 +2,7 @@
 use Rattle.std.proofs.Common.{◌≡◌, ◌∙◌, refl, sym, ap, subst, true, false, List, [], ◌∷◌, map}
 use Rattle.std.specs.List.{list_all}
 use Rattle.gui_base.specs.Area.{Rect, is_empty, common, is_within}
-use Rattle.gui_base.specs.Rounding.{Rounding, IsRounding}
+use Rattle.gui_base.specs.Rounding.{Rounding, IsRounding, IsRound}
 use Rattle.gui_damage.specs.Adding.{added, added_all, AddsAll}
 use Rattle.gui_damage.specs.Pending.{Pending, IsPending}
 use Rattle.gui_damage.specs.Rounded.{Rounded, pending_by, pending_in, added_round, added_to, added_all_to}
@@ -18,10 +18,21 @@ added_inside rules areas area inside =
     rw some (ap (λ (r : Rect). (added (pending_by rules areas) (rules.round r)).areas) is)
 
 -- the panel stays
-pub still_by : (rules : Rounding) (areas : List Rect) (area : Rect) → pending_by rules (added (pending_by rules areas) area).areas ≡ added (pending_by rules areas) area
+still_by : (rules : Rounding) (areas : List Rect) (area : Rect) → pending_by rules (added (pending_by rules areas) area).areas ≡ added (pending_by rules areas) area
 still_by rules areas area =
     let p = pending_by rules areas in
     sym (ap (λ (r : Rect). record { panel = r; areas = (added p area).areas }) (added_panel p area))
+
+-- one that is its own rounding is added as it is
+pub added_own : (rules : Rounding) (areas : List Rect) (area : Rect) → is_within rules.panel area ≡ true → IsRound rules area → pending_by rules (added_round rules areas area) ≡ added (pending_by rules areas) area
+added_own rules areas area inside own =
+    ap (pending_by rules) (added_inside rules areas area inside)
+    ∙ (still_by rules areas (rules.round area) ∙ ap (λ (r : Rect). added (pending_by rules areas) r) own)
+
+-- what rounds a list stays
+pub round_stays : {R : Type 0} (rules : R → Rounding) (areas : List Rect) (list : Rounded R) → (added_all_to rules list areas).round ≡ list.round
+round_stays rules [] list = refl
+round_stays rules (area ∷ rest) list = round_stays rules rest (added_to rules list area)
 
 module _ {R : Type 0} (rules : R → Rounding) where
   all_rounded : (areas : List Rect) (list : Rounded R) → list_all (is_within (rules list.round).panel) areas ≡ true →

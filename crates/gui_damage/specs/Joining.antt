@@ -5,10 +5,6 @@ use Rattle.std.specs.List.Sorted.{IsPermutation}
 use Rattle.gui_base.specs.Area.{Rect, is_empty, size_of, common, joined, has_corners}
 use Rattle.gui_damage.specs.Pending.{Pending, covered, total}
 
--- a join that is not widened
-abbrev pub exact : Rect → Rect
-exact area = area
-
 -- two areas have a pixel in common, and the rounding of their join has fewer pixels than both together
 abbrev pub can_join : (Rect → Rect) → Rect → Rect → Bool
 can_join round a b =

@@ -32,7 +32,7 @@ const KEYS: u32 = 256 * FONT_STEP;
 /// fonts, glyphs and bytes of bits fit. Font 0 is the built-in one: it is always there, and finished. A font
 /// that is not there counts as the built-in one where a text is set in it.
 ///
-/// A font takes 4 bytes, a glyph 48 to 52, and its bits a byte for each byte.
+/// A font takes 4 bytes, a glyph 44 to 48, and its bits a byte for each byte.
 #[derive(Drop)]
 pub struct Fonts {
     fonts: Vec<FontSlot>,

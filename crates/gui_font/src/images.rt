@@ -25,7 +25,7 @@ const NAMES: u32 = 65_536;
 /// A contract sees the images in order of beginning, each with the bytes of the rows that it was given, and
 /// how many more images and bytes fit. The bytes of all rows are taken when an image begins.
 ///
-/// An image takes 56 to 60 bytes, and each byte of it a byte.
+/// An image takes 52 to 56 bytes, and each byte of it a byte.
 #[derive(Drop)]
 pub struct Images {
     // The place of each image among the slots, by its number.

@@ -9,10 +9,11 @@ use Rattle.scene_defs.specs.declared.Row.{Row}
 use Rattle.scene_defs.specs.Edits.{text_at, text_of}
 use Rattle.scene_defs.specs.Place.{box_of as object_box}
 use Rattle.scene_defs.specs.Scene.{Object, Scene, handle_of, row_of, is_at, handles_of, is_there, object_by, object_at, row_at}
-use Rattle.gui_base.specs.declared.words.Kind.{Kind}
-use Rattle.gui_base.specs.declared.words.Kind.TheVariants.{Label, Image, Checkbox}
+use Rattle.widget_defs.specs.declared.kinds.Shown.{Shown}
+use Rattle.widget_defs.specs.declared.kinds.Shown.TheVariants as shown
+use Rattle.widget_defs.specs.Kinds.{shows, has_size}
 use Rattle.widget_defs.specs.Looks.{Look}
-use Rattle.widget_defs.specs.Sizes.{width_by, height_by, own_width, own_height}
+use Rattle.widget_defs.specs.Sizes.{shown_width, shown_height, own_width, own_height}
 use Rattle.scene_defs.specs.Looks.{look_of}
 use Rattle.layout_defs.specs.Boxes.{Box}
 use Rattle.gui_layout.specs.Own.{has_own_size}
@@ -97,21 +98,21 @@ row_gone scene h e = by (object_at scene h) refl e where
   by (Some object) is f = cc
 
 -- What has no own size is 0 wide and high, whatever it shows.
-pub no_width-by : (kind : Kind) (look : Look) → has_own_size kind ≡ false → 0 ≡ width_by kind look
-no_width-by Label look none = cc
-no_width-by Image look none = cc
-no_width-by Checkbox look none = cc
-no_width-by kind look none = refl
+pub no_width-by : (what : Shown) (look : Look) → has_size what ≡ false → 0 ≡ shown_width what look
+no_width-by shown.Text look none = cc
+no_width-by shown.Picture look none = cc
+no_width-by shown.BoxAndText look none = cc
+no_width-by what look none = refl
 
-pub no_height-by : (kind : Kind) (look : Look) (room : ℕ) → has_own_size kind ≡ false → 0 ≡ height_by kind look room
-no_height-by Label look room none = cc
-no_height-by Image look room none = cc
-no_height-by Checkbox look room none = cc
-no_height-by kind look room none = refl
+pub no_height-by : (what : Shown) (look : Look) (room : ℕ) → has_size what ≡ false → 0 ≡ shown_height what look room
+no_height-by shown.Text look room none = cc
+no_height-by shown.Picture look room none = cc
+no_height-by shown.BoxAndText look room none = cc
+no_height-by what look room none = refl
 
 pub no_height : (scene : Scene) (h : ℕ) (row : Row) (room : ℕ) → Some row ≡ row_at scene h → has_own_size row.kind ≡ false → 0 ≡ (scene_box scene h).own_height room
 no_height scene h row room e none =
-    no_height-by row.kind (look_of scene (object_with scene h row)) room none ∙ ap (λ (b : Box). b.own_height room) (row_found scene h row e).1
+    no_height-by (shows row.kind) (look_of scene (object_with scene h row)) room none ∙ ap (λ (b : Box). b.own_height room) (row_found scene h row e).1
 
 -- and what has one is as large as its look says
 pub look-width : (scene : Scene) (h : ℕ) (look : Look) → Some look ≡ option_map (look_of scene) (object_at scene h) → own_width look ≡ (scene_box scene h).own_width

@@ -1,10 +1,10 @@
 -- What the painting of an object goes by.
-use Rattle.std.specs.Prelude.{◌≡◌, ℕ, Bool, true, false, Some, option_map}
+use Rattle.std.specs.Prelude.{◌≡◌, ℕ, Bool, true, Some, option_map}
 use Rattle.gui_base.specs.Area.{Rect}
 use Rattle.gui_base.specs.declared.props.Prop.TheVariants as prop
 use Rattle.gui_base.specs.declared.words.Kind.{Kind}
-use Rattle.gui_base.specs.declared.words.Kind.TheVariants as kind
 use Rattle.widget_defs.specs.Items.{items}
+use Rattle.widget_defs.specs.Kinds.{shows, is_something, has_indicator, has_knob}
 use Rattle.widget_defs.specs.Looks.{Look, PartValues}
 use Rattle.layout_defs.specs.Reach.{IsNear}
 use Rattle.scene_defs.specs.Looks.{look_of}
@@ -13,22 +13,13 @@ use Rattle.scene_defs.specs.Scene.{Scene, is_there, object_at}
 
 -- whether objects of a kind paint something in their content area
 abbrev pub paints_content : Kind → Bool
-paints_content kind.Label = true
-paints_content kind.Image = true
-paints_content kind.Bar = true
-paints_content kind.Slider = true
-paints_content kind.Checkbox = true
-paints_content k = false
+paints_content kind = is_something (shows kind)
 
 abbrev pub paints_indicator : Kind → Bool
-paints_indicator kind.Bar = true
-paints_indicator kind.Slider = true
-paints_indicator kind.Checkbox = true
-paints_indicator k = false
+paints_indicator kind = has_indicator (shows kind)
 
 abbrev pub paints_knob : Kind → Bool
-paints_knob kind.Slider = true
-paints_knob k = false
+paints_knob kind = has_knob (shows kind)
 
 -- two parts have the same fill and the same border
 pub record FillsAs (some others : PartValues) : Type 0 where

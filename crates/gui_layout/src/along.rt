@@ -84,7 +84,7 @@ fn aligned_at(axis: &Axis, room: u16, size: u16) -> i32
     ensures least { negsuc 49999999 ≤ℤ result }
     ensures most { result ≤ℤ pos 50000000 }
 {
-    side_at(axis.side, room, size) + axis.wanted
+    side_at(axis.side, room, size) + i32::from(axis.wanted)
 }
 
 /// Where an object that is so large stands in a content area that begins there, without flex.

@@ -9,7 +9,7 @@ use layout_defs::Side;
 pub(crate) struct Axis {
     pub size: Length,
     /// How far from where its side puts it.
-    pub wanted: i32,
+    pub wanted: i16,
     /// Border and pad before its content area.
     pub before: u16,
     /// Border and pad after its content area.

@@ -50,5 +50,6 @@ mod tables;
 mod tree;
 mod widths;
 
+pub use listing::{list_trees, put};
 pub use marks::Marks;
-pub use places::Places;
+pub use places::{Places, met};

@@ -12,7 +12,7 @@ use gui_pool::Table;
 use gui_tree::{Children, Tree};
 
 /// Lists these trees after what is listed, each object before those below it.
-pub(crate) fn list_trees(tree: &Tree, listed: &mut Vec<Handle>, trees: Children<'_>)
+pub fn list_trees(tree: &Tree, listed: &mut Vec<Handle>, trees: Children<'_>)
     requires same { trees.forest ≡ tree.now.forest }
     requires room { vec_len listed.old + size trees.left ≤ vec_capacity listed.old }
     ensures listed { numbers listed.new.items ≡ numbers listed.old.items ++ preorder trees.entry.left }
@@ -62,7 +62,7 @@ pub(crate) fn clear<T: Drop>(table: &mut Table<T>, listed: &[Handle])
 }
 
 /// Gives a value to an object that has none.
-pub(crate) fn put<T: Drop>(table: &mut Table<T>, h: Handle, value: T)
+pub fn put<T: Drop>(table: &mut Table<T>, h: Handle, value: T)
     requires within { h.0 < length table.old.values }
     requires vacant { value_at table.old h.0 ≡ None }
     requires room { 0 < table.old.spare }

@@ -19,6 +19,7 @@ use gui_base::{Flag, Handle, Kind, Part, Prop};
 use gui_font::Images;
 use gui_store::{Row, Store};
 use gui_widgets::{ImageLook, Look, Values};
+use widget_defs::kinds::shows;
 
 /// The value of each property of a part of an object that has this row.
 fn values(store: &Store, h: Handle, row: &Row, part: Part) -> Values
@@ -56,24 +57,21 @@ const UNASKED: Values = Values([0; 19]);
 fn paints_content(kind: Kind) -> bool
     ensures { result ≡ paints_content kind }
 {
-    matches!(
-        kind,
-        Kind::Label | Kind::Image | Kind::Bar | Kind::Slider | Kind::Checkbox
-    )
+    shows(kind).is_something()
 }
 
 /// Whether they paint their indicator.
 fn paints_indicator(kind: Kind) -> bool
     ensures { result ≡ paints_indicator kind }
 {
-    matches!(kind, Kind::Bar | Kind::Slider | Kind::Checkbox)
+    shows(kind).has_indicator()
 }
 
 /// Whether they paint their knob.
 fn paints_knob(kind: Kind) -> bool
     ensures { result ≡ paints_knob kind }
 {
-    matches!(kind, Kind::Slider)
+    shows(kind).has_knob()
 }
 
 /// The values that the fill and the border of a part go by. No other is looked up.

@@ -17,7 +17,7 @@ const HANDLES: u32 = 65536;
 /// that is gone may be marked too. Of an object either anything may differ, or its list of children alone.
 ///
 /// Marking takes constant time, and letting go of all marks takes time by their number. Each of so many
-/// objects takes 28 to 32 bytes.
+/// objects takes 24 to 28 bytes.
 #[derive(Drop)]
 pub struct Marks {
     // Each once, in the order of marking.

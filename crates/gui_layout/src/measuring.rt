@@ -57,7 +57,7 @@ fn reach(axis: &Axis, natural: u16) -> u32
     ensures small { result ≤ 70000 }
 {
     match axis.side {
-        Side::Near => (i32::from(natural) + axis.wanted).max(0) as u32,
+        Side::Near => (i32::from(natural) + i32::from(axis.wanted)).max(0) as u32,
         _ => u32::from(natural),
     }
 }

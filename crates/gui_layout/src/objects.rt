@@ -1,9 +1,9 @@
 //! The boxes of the objects of a store.
-ghost use Rattle.std.specs.Prelude.{◌≡◌, ◌≤◌, true, Some, pos};
+ghost use Rattle.std.specs.Prelude.{◌≡◌, ◌≤◌, ◌≤ℤ◌, true, Some, pos, negsuc};
 ghost use Rattle.gui_base.specs.Props.{is_value, values_of};
 ghost use Rattle.gui_base.specs.Area.{nat_of};
 ghost use Rattle.gui_base.specs.Intervals.{is_within};
-ghost use Rattle.gui_base.specs.declared.intervals.TheConstants.{PAD, SCROLL};
+ghost use Rattle.gui_base.specs.declared.intervals.TheConstants.{COORDINATE, PAD, SCROLL};
 ghost use Rattle.gui_base.specs.declared.props.Prop.TheVariants.{BorderWidth, PadTop, PadBottom, PadLeft};
 ghost use Rattle.gui_base.specs.declared.props.Prop.TheVariants.{PadRight};
 ghost use Rattle.gui_base.specs.declared.words.Part.TheVariants.{Main};
@@ -30,6 +30,7 @@ use gui_base::{Flag, Handle, Kind, Part, Prop};
 use gui_flex::FlexPlaces;
 use gui_store::{Row, Store};
 use gui_widgets::{own_height, own_width};
+use widget_defs::kinds::shows;
 
 /// A value of an object that has this row. None lies below 0.
 fn number(store: &Store, h: Handle, row: &Row, prop: Prop) -> u32
@@ -85,7 +86,7 @@ fn placings(row: &Row) -> FlexPlaces
 fn has_own_size(kind: Kind) -> bool
     ensures { result ≡ has_own_size kind }
 {
-    matches!(kind, Kind::Label | Kind::Image | Kind::Checkbox)
+    shows(kind).has_size()
 }
 
 /// The width of what an object with this row shows, in pixels. It is not inlined: a look takes much room,
@@ -154,6 +155,16 @@ fn stored_scroll(stored: i32) -> u16
     stored as u16
 }
 
+/// How far an object is to stand from where its side puts it, in pixels.
+fn stored_place(stored: i32) -> i16
+    requires { is_within COORDINATE stored ≡ true }
+    ensures value { result ≡ stored }
+    ensures least { negsuc 3999 ≤ℤ result }
+    ensures most { result ≤ℤ pos 4000 }
+{
+    stored as i16
+}
+
 /// The box of an object that has this row, before its own height is known.
 fn row_box(store: &Store, h: Handle, row: &Row) -> LayoutBox
     requires row { Some (shown_row row.now) ≡ row_at (scene_of store.now) h.0 }
@@ -165,7 +176,7 @@ fn row_box(store: &Store, h: Handle, row: &Row) -> LayoutBox
     LayoutBox {
         across: Axis {
             size: row.width,
-            wanted: row.x,
+            wanted: stored_place(row.x),
             before: inset(store, h, row, border, Prop::PadLeft),
             after: inset(store, h, row, border, Prop::PadRight),
             gap: pad(store, h, row, Prop::PadColumn),
@@ -174,7 +185,7 @@ fn row_box(store: &Store, h: Handle, row: &Row) -> LayoutBox
         },
         down: Axis {
             size: row.height,
-            wanted: row.y,
+            wanted: stored_place(row.y),
             before: inset(store, h, row, border, Prop::PadTop),
             after: inset(store, h, row, border, Prop::PadBottom),
             gap: pad(store, h, row, Prop::PadRow),

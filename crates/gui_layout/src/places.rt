@@ -154,7 +154,7 @@ fn last(first: i32, count: u16) -> i32
 }
 
 /// The pixels that both have, or None where there are none.
-fn met(clip: Option<Area>, place: Option<Area>) -> Option<Area>
+pub fn met(clip: Option<Area>, place: Option<Area>) -> Option<Area>
     ensures value { option_map rect_of result ≡ met (option_map rect_of clip) (option_map rect_of place) }
     ensures pixels { IfSome result (λ area. is_empty (rect_of area) ≡ false) }
 {

@@ -1,8 +1,6 @@
 -- How many steps painting takes at most.
 use Rattle.std.proofs.Common.{◌≡◌, ◌∙◌, sym, ap, ℕ, zero, suc, ◌+◌, ◌*◌, ◌≤◌, Option, Some, None, length, option_map, ℤ, pos, ◌+ℤ◌, arith}
 use Rattle.std.proofs.Math.Nat.{mul-le-mul_right}
-use Rattle.gui_base.specs.declared.words.Kind.{Kind}
-use Rattle.gui_base.specs.declared.words.Kind.TheVariants as kind
 use Rattle.gui_base.specs.Area.{Rect, width_of, height_of, size_of}
 use Rattle.gui_base.specs.Coats.{Coat, Dab}
 use Rattle.gui_color.specs.Buffer.{Buffer}
@@ -10,7 +8,10 @@ use Rattle.gui_draw.specs.Counts.{sum_below, one_if_laid, row_count, pixel_count
 use Rattle.gui_draw.specs.Drawing.{Draws}
 use Rattle.gui_draw.specs.Runs.{DrawsIn}
 use Rattle.widget_defs.specs.declared.ImageLook.{ImageLook}
+use Rattle.widget_defs.specs.declared.kinds.Shown.{Shown}
+use Rattle.widget_defs.specs.declared.kinds.Shown.TheVariants as shown
 use Rattle.widget_defs.specs.Items as widget
+use Rattle.widget_defs.specs.Kinds.{shows}
 use Rattle.widget_defs.specs.Looks.{Look}
 use Rattle.scene_defs.specs.Items.{bars, items, items_of, chars_of}
 use Rattle.scene_defs.specs.Looks.{look_of}
@@ -61,20 +62,16 @@ picture_few : (image : Option ImageLook) (values : _) (content : Rect) → lengt
 picture_few None values content = omega arith
 picture_few (Some image) values content = omega arith
 
-content_few : (k : Kind) (look : Look) (content : Rect) → length (widget.content_items k look content) ≤ 4
-content_few kind.Label look content = omega arith
-content_few kind.Image look content = picture_few look.image look.main content
-content_few kind.Bar look content = omega arith
-content_few kind.Slider look content = omega arith
-content_few kind.Checkbox look content = omega arith
-content_few k look content = omega arith
+shown_few : (what : Shown) (look : Look) (content : Rect) → length (widget.shown_items what look content) ≤ 4
+shown_few shown.Picture look content = picture_few look.image look.main content
+shown_few what look content = omega arith
 
 few_of : (scene : Scene) (object : Option Object) (area : Option Rect) → length (items_of scene object area) ≤ 6
 few_of scene None area = omega arith
 few_of scene (Some object) None = omega arith
 few_of scene (Some object) (Some area) =
     let look = look_of scene object in
-    let few = content_few look.kind look (widget.content_of area look.main) in
+    let few = shown_few (shows look.kind) look (widget.content_of area look.main) in
     omega (arith, few)
 
 pub items_few : (scene : Scene) (h : ℕ) → length (items scene h) ≤ 6

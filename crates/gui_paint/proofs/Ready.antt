@@ -6,13 +6,14 @@ use Rattle.std.proofs.lemmas.Int.{ints}
 use Rattle.std.proofs.lemmas.List.Elements.{All-nil, All-cons}
 use Rattle.gui_base.specs.Area.{Rect, nat_of, width_of}
 use Rattle.gui_base.specs.Props.{is_value}
-use Rattle.gui_base.specs.declared.words.Kind.{Kind}
-use Rattle.gui_base.specs.declared.words.Kind.TheVariants as kind
 use Rattle.gui_base.specs.declared.props.Prop.TheVariants.{TextFont}
 use Rattle.text_defs.specs.Building.{is_finished}
 use Rattle.text_defs.specs.Fonts.{Font, finished}
 use Rattle.widget_defs.specs.declared.ImageLook.{ImageLook}
-use Rattle.widget_defs.specs.Items.{Item, items, fill_of, ring_of, ink_of, picture_of, content_of, content_items, share_area, knob_area, box_area, caption_area}
+use Rattle.widget_defs.specs.declared.kinds.Shown.{Shown}
+use Rattle.widget_defs.specs.declared.kinds.Shown.TheVariants as shown
+use Rattle.widget_defs.specs.Kinds.{shows}
+use Rattle.widget_defs.specs.Items.{Item, items, fill_of, ring_of, ink_of, picture_of, content_of, content_items, shown_items, share_area, knob_area, box_area, caption_area}
 use Rattle.widget_defs.specs.Looks.{Look, PartValues, number_of, text_look, left_look}
 use Rattle.gui_widgets.specs.Texts.{IsTextIn, widest_text}
 use Rattle.gui_paint.specs.Paintable.{IsPaintable, widest_area}
@@ -36,20 +37,20 @@ module _ (fonts : List Font) (look : Look) (ended : finished fonts (number_of (l
   picture_ready None content = All-nil IsReady
   picture_ready (Some image) content = All-cons IsReady _ [] (λ s. tt) (All-nil IsReady)
 
-  content_ready : (k : Kind) (content : Rect) → All IsReady (content_items k look content)
-  content_ready kind.Label content = All-cons IsReady (ink_of content look.main (text_look look.main)) [] (text_ready content) (All-nil IsReady)
-  content_ready kind.Image content = picture_ready look.image content
-  content_ready kind.Bar content = part_ready (share_area look content) look.indicator [] (All-nil IsReady)
-  content_ready kind.Slider content =
+  shown_ready : (what : Shown) (content : Rect) → All IsReady (shown_items what look content)
+  shown_ready shown.Text content = All-cons IsReady (ink_of content look.main (text_look look.main)) [] (text_ready content) (All-nil IsReady)
+  shown_ready shown.Picture content = picture_ready look.image content
+  shown_ready shown.Share content = part_ready (share_area look content) look.indicator [] (All-nil IsReady)
+  shown_ready shown.ShareAndKnob content =
       part_ready (share_area look content) look.indicator (fill_of (knob_area look content) look.knob ∷ ring_of (knob_area look content) look.knob ∷ [])
       (part_ready (knob_area look content) look.knob [] (All-nil IsReady))
-  content_ready kind.Checkbox content =
+  shown_ready shown.BoxAndText content =
       part_ready (box_area look content) look.indicator (ink_of (caption_area look content) look.main (left_look look.main) ∷ [])
       (All-cons IsReady (ink_of (caption_area look content) look.main (left_look look.main)) [] (caption_ready (caption_area look content)) (All-nil IsReady))
-  content_ready k content = All-nil IsReady
+  shown_ready what content = All-nil IsReady
 
   all_ready : (place : Rect) → All IsReady (items look place)
-  all_ready place = part_ready place look.main (content_items look.kind look (content_of place look.main)) (content_ready look.kind (content_of place look.main))
+  all_ready place = part_ready place look.main (content_items look.kind look (content_of place look.main)) (shown_ready (shows look.kind) (content_of place look.main))
 
 -- the items of an object whose font is finished, where it stands in a place that is not too wide
 pub items_ready : (fonts : List Font) (look : Look) (place : Rect) → finished fonts (number_of (look.main TextFont)) ≡ Some true → width_of place ≤ widest_area → All (IsTextIn (width_of place)) (items look place) → All (IsPaintable fonts) (items look place)

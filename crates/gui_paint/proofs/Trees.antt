@@ -1,24 +1,20 @@
 -- Trees, and how one painting follows another.
-use Rattle.std.proofs.Common.{◌≡◌, ◌∙◌, refl, sym, ap, subst, ℕ, ℤ, Bool, true, Option, Some, None, option_map, eqb, List, map, arith}
+use Rattle.std.proofs.Common.{◌≡◌, ◌∙◌, refl, sym, ap, subst, ℕ, ℤ, Bool, true, Option, Some, None, option_map, List, map, arith}
 use Rattle.std.proofs.lemmas.Bool.Decides.{nat_tests}
 use Rattle.gui_base.specs.declared.props.Prop.TheVariants.{TextFont}
 use Rattle.gui_base.specs.declared.words.Part.TheVariants.{Main}
 use Rattle.gui_base.specs.Area.{Rect, has}
 use Rattle.gui_base.specs.Coats.{Coat}
-use Rattle.gui_base.specs.declared.Handle.{Handle}
-use Rattle.gui_base.specs.Forest.{Forest, Empty, Tree, tree_by, first_root, children_by, children_of, next_by, next_to}
-use Rattle.gui_base.proofs.Forests.{map-children_by, map-first_root, map-next_by}
-use Rattle.gui_base.proofs.Visits.{HasCome, walk_begins, trees_from, tree-opens, name_of}
+use Rattle.gui_base.specs.Forest.{Forest, Empty, Tree, tree_by, first_root, children_by}
+use Rattle.gui_base.proofs.Visits.{tree-opens}
 use Rattle.gui_color.specs.Buffer.{Buffer, pixel_at}
 use Rattle.scene_defs.specs.declared.Row.{Row}
-use Rattle.gui_tree.specs.Handles.{as_handle}
 use Rattle.scene_defs.specs.Row.{shown_row}
-use Rattle.scene_defs.specs.Scene.{Object, Scene, handle_of, handles_of, is_at, is_there, object_at, object_by, row_at, row_of, value}
+use Rattle.scene_defs.specs.Scene.{Object, Scene, handle_of, is_at, is_there, object_at, object_by, row_at, row_of, value}
 use Rattle.scene_defs.specs.Place.{place}
 use Rattle.scene_defs.specs.Items.{chars_of, coat_in, coats, items_of}
 use Rattle.scene_defs.specs.Looks.{look_of}
-use Rattle.scene_defs.specs.Valid.{IsValid}
-use Rattle.scene_defs.proofs.Distinct.{distinct_once, there}
+use Rattle.scene_defs.proofs.Distinct.{there}
 use Rattle.scene_defs.proofs.Handles.{has-handles}
 use Rattle.text_defs.specs.Fonts.{Font}
 use Rattle.text_defs.specs.Images.{Image}
@@ -108,22 +104,3 @@ module _ (scene : Scene) (h : ℕ) where
   -- a tree by its root
   pub tree_is : (object : Object) → object_at scene h ≡ Some object → tree_by (is_at h) scene.trees ≡ Tree object (children_by (is_at h) scene.trees) Empty
   tree_is object is = tree-opens handle_of scene.trees h object (sym (object_root (is_at h) scene.trees) ∙ is)
-
--- the walkers of a tree of handles, over objects
-named : (o : Option Object) → option_map as_handle (option_map handle_of o) ≡ name_of handle_of o
-named None = refl
-named (Some object) = refl
-
-first_named : (f : Forest Object) (h : ℕ) → option_map as_handle (first_root (children_of (handles_of f) h)) ≡ name_of handle_of (first_root (children_by (is_at h) f))
-first_named f h =
-    ap (λ (t : Forest ℕ). option_map as_handle (first_root t)) (sym (map-children_by handle_of (λ k. eqb k h) f))
-    ∙ (ap (option_map as_handle) (map-first_root handle_of (children_by (is_at h) f)) ∙ named (first_root (children_by (is_at h) f)))
-
-pub next_named : (f : Forest Object) (h : ℕ) → option_map as_handle (next_to (handles_of f) h) ≡ name_of handle_of (next_by (is_at h) f)
-next_named f h = ap (option_map as_handle) (sym (map-next_by handle_of (λ k. eqb k h) f)) ∙ named (next_by (is_at h) f)
-
-pub walk_starts : (scene : Scene) (h : ℕ) (forest : Forest ℕ) (first : Option Handle) → IsValid scene → forest ≡ handles_of scene.trees → first ≡ option_map as_handle (first_root (children_of forest h)) →
-    (trees_from handle_of first scene.trees ≡ children_by (is_at h) scene.trees) × HasCome handle_of scene.trees h first
-walk_starts scene h forest first valid same is =
-    walk_begins handle_of scene.trees h first (distinct_once scene.trees valid.trees.once)
-    (is ∙ (ap (λ (f : Forest ℕ). option_map as_handle (first_root (children_of f h))) same ∙ first_named scene.trees h))

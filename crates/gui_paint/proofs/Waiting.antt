@@ -1,20 +1,18 @@
 -- Painting from an object on that a walk waits for.
-use Rattle.std.proofs.Common.{◌≡◌, ◌∙◌, ◌≤◌, ◌<◌, ◌+◌, ◌*◌, refl, sym, ap, subst, ℕ, ℤ, Bool, true, false, ◌&&◌, if◌then◌else◌, Option, Some, None, is_some, option_map, List, [], ◌∷◌, ◌++◌, fold, sum_by, arith}
+use Rattle.std.proofs.Common.{◌≡◌, ◌∙◌, ◌≤◌, ◌<◌, ◌+◌, ◌*◌, refl, sym, ap, subst, ℕ, ℤ, Bool, true, false, ◌&&◌, if◌then◌else◌, Option, Some, None, is_some, List, [], ◌∷◌, ◌++◌, fold, sum_by, arith}
 use Rattle.std.proofs.lemmas.Int.{ints}
 use Rattle.std.proofs.lemmas.List.Sums.{fold-append, sum_by-append}
 use Rattle.gui_base.specs.Area.{Rect, has, is_empty, size_of}
 use Rattle.gui_base.specs.Color.{black}
 use Rattle.gui_base.specs.declared.color.Rgb565.{Rgb565}
 use Rattle.gui_base.specs.declared.Handle.{Handle}
-use Rattle.gui_base.specs.Forest.{Forest, size, tree_by, children_by, next_to}
-use Rattle.gui_base.proofs.Visits.{HasCome, trees_from}
-use Rattle.gui_tree.specs.Handles.{as_handle}
+use Rattle.gui_base.specs.Forest.{Forest, Tree, size, tree_by, children_by}
 use Rattle.scene_defs.specs.Valid.{IsValid}
 use Rattle.scene_defs.specs.Walk.{IsShowable}
 use Rattle.gui_color.specs.Buffer.{Buffer, IsBlack}
 use Rattle.gui_draw.specs.Drawing.{ShowsColors}
 use Rattle.scene_defs.specs.Picture.{paint, paint_seen}
-use Rattle.scene_defs.specs.Scene.{Scene, handle_of, handles_of, is_at}
+use Rattle.scene_defs.specs.Scene.{Scene, is_at}
 use Rattle.scene_defs.specs.Place.{panel_of}
 use Rattle.scene_defs.specs.Shown.{Seen, painted}
 use Rattle.cover_defs.specs.Cover.{uncovered}
@@ -24,7 +22,7 @@ use Rattle.cover_defs.proofs.Counts.{uncovered_steps}
 use Rattle.cover_defs.proofs.Covers.{cover_hides_all}
 use Rattle.gui_paint.specs.Painting.{Paints, painted_bars, painted_object}
 use Rattle.gui_paint.specs.Walking.{PaintsMet, is_awaited, number_of, painted_each, seen_so, bars_so, tree_walk, below_walk}
-use Rattle.gui_paint.proofs.Walking.{HasWalked, come_further, walked_more, walked_all, three_walks, three_sizes}
+use Rattle.gui_paint.proofs.Walking.{trees_walk, three_walks, three_sizes}
 
 -- the list from the awaited object on, of two lists
 waits-append : (w : Option ℕ) (xs ys : List Seen) → waits_on w (xs ++ ys) ≡ waits_on (waits_on w xs) ys
@@ -167,45 +165,33 @@ shows_uncovered old new scene list black_before is paints = record {
       ∙ (ap (fold (paint_seen x y) black) is ∙ cover_hides_all scene old.area x y i));
 }
 
--- a walk over the trees below h has come to `next`, and has painted those from the awaited object on
-pub record PaintsTo (scene : Scene) (clip : Rect) (h : ℕ) (first next : Option Handle) (waits_before waits_now : Option ℕ) (old new : Buffer) (from to : ℕ) : Type 0 where
-  pub come : HasCome handle_of scene.trees h next
-  pub met : List Seen
-  pub visits : ℕ
-  pub walked : HasWalked scene clip first next met visits
-  pub paints : PaintsMet scene met waits_before waits_now old new (2 * visits) from to
-
--- one tree more
-pub paints_on : (scene : Scene) (clip : Rect) (h : ℕ) (first : Option Handle) (child : Handle) (valid : IsValid scene) (forest : Forest ℕ) (next : Option Handle) → forest ≡ handles_of scene.trees → next ≡ option_map as_handle (next_to forest child.0) →
-    (waits_before mid_w waits_now : Option ℕ) (old mid new : Buffer) (from half to : ℕ) → PaintsTo scene clip h first (Some child) waits_before mid_w old mid from half →
-    PaintsMet scene (tree_walk scene clip child.0) mid_w waits_now mid new (2 * size (tree_by (is_at child.0) scene.trees)) half to → PaintsTo scene clip h first next waits_before waits_now old new from to
-paints_on scene clip h first child valid forest next same is waits_before mid_w waits_now old mid new from half to p own = record {
-  come = come_further scene h child valid p.come forest next same is;
-  met = p.met ++ tree_walk scene clip child.0;
-  visits = p.visits + size (tree_by (is_at child.0) scene.trees);
-  walked = walked_more scene h child valid p.come forest next same is clip first p.met p.visits p.walked;
-  paints =
-      paints_visited scene (p.met ++ tree_walk scene clip child.0) waits_before waits_now old new (2 * p.visits + 2 * size (tree_by (is_at child.0) scene.trees)) (2 * (p.visits + size (tree_by (is_at child.0) scene.trees))) from from to (omega arith)
-      (paints_then scene p.met (tree_walk scene clip child.0) waits_before mid_w waits_now old mid new (2 * p.visits) (2 * size (tree_by (is_at child.0) scene.trees)) from half to p.paints own);
-}
+-- the first of trees that stand side by side, and then the others
+pub paints_first : (scene : Scene) (clip : Rect) (child : ℕ) (below later left : Forest ℕ) (w mid_w after_w : Option ℕ) (old mid new : Buffer) (from half to : ℕ) → left ≡ Tree child below later → size (tree_by (is_at child) scene.trees) ≡ size below + 1 →
+    PaintsMet scene (tree_walk scene clip child) w mid_w old mid (2 * size (tree_by (is_at child) scene.trees)) from half → PaintsMet scene (trees_walk scene clip later) mid_w after_w mid new (2 * size later) half to →
+    PaintsMet scene (trees_walk scene clip left) w after_w old new (2 * size left) from to
+paints_first scene clip child below later left w mid_w after_w old mid new from half to is count first others =
+    let list = tree_walk scene clip child ++ trees_walk scene clip later in
+    let visits = 2 * size (tree_by (is_at child) scene.trees) in
+    rw is (paints_visited scene list w after_w old new (visits + 2 * size later) (2 * size (Tree child below later)) from from to (omega (arith, count))
+    (paints_then scene (tree_walk scene clip child) (trees_walk scene clip later) w mid_w after_w old mid new visits (2 * size later) from half to first others))
 
 -- an object, all below it, and its bars
-pub paints_tree : (scene : Scene) (clip visible : Rect) (h : ℕ) (first : Option Handle) (w mid_w after_w : Option ℕ) (old mid under new : Buffer) (from visited half third to : ℕ) →
-    tree_walk scene clip h ≡ seen_so scene visible h ∷ (below_walk scene visible h ++ bars_so scene visible h ∷ []) → trees_from handle_of first scene.trees ≡ children_by (is_at h) scene.trees →
+pub paints_tree : (scene : Scene) (clip visible : Rect) (h : ℕ) (w mid_w after_w : Option ℕ) (old mid under new : Buffer) (from visited half third to : ℕ) →
+    tree_walk scene clip h ≡ seen_so scene visible h ∷ (below_walk scene visible h ++ bars_so scene visible h ∷ []) →
     visited + size (children_by (is_at h) scene.trees) ≤ from + size (tree_by (is_at h) scene.trees) → size (children_by (is_at h) scene.trees) < size (tree_by (is_at h) scene.trees) →
-    PaintsMet scene (seen_so scene visible h ∷ []) w mid_w old mid 0 visited half → PaintsTo scene visible h first None mid_w after_w mid under half third →
+    PaintsMet scene (seen_so scene visible h ∷ []) w mid_w old mid 0 visited half → PaintsMet scene (below_walk scene visible h) mid_w after_w mid under (2 * size (children_by (is_at h) scene.trees)) half third →
     PaintsMet scene (bars_so scene visible h ∷ []) after_w after_w under new 1 third to →
     PaintsMet scene (tree_walk scene clip h) w after_w old new (2 * size (tree_by (is_at h) scene.trees)) from to
-paints_tree scene clip visible h first w mid_w after_w old mid under new from visited half third to walk begins few small own below bars =
-    let all = walked_all scene visible h first below.met below.visits begins below.walked in
+paints_tree scene clip visible h w mid_w after_w old mid under new from visited half third to walk few small own below bars =
     let object = seen_so scene visible h in
     let over = bars_so scene visible h in
+    let lower = below_walk scene visible h in
+    let visits = 2 * size (children_by (is_at h) scene.trees) in
     let count = 2 * size (tree_by (is_at h) scene.trees) in
-    let list : object ∷ (below.met ++ over ∷ []) ≡ tree_walk scene clip h = ap (λ (l : List Seen). object ∷ (l ++ over ∷ [])) all.0 ∙ sym walk in
-    let later = paints_then scene below.met (over ∷ []) mid_w after_w after_w mid under new (2 * below.visits) 1 half third to below.paints bars in
-    paints_list scene (object ∷ (below.met ++ over ∷ [])) (tree_walk scene clip h) w after_w old new count from to list
-    (paints_visited scene (object ∷ (below.met ++ over ∷ [])) w after_w old new (0 + (2 * below.visits + 1)) count from visited to (omega (arith, few, small, all.1))
-    (paints_then scene (object ∷ []) (below.met ++ over ∷ []) w mid_w after_w old mid new 0 (2 * below.visits + 1) visited half to own later))
+    let later = paints_then scene lower (over ∷ []) mid_w after_w after_w mid under new visits 1 half third to below bars in
+    paints_list scene (object ∷ (lower ++ over ∷ [])) (tree_walk scene clip h) w after_w old new count from to (sym walk)
+    (paints_visited scene (object ∷ (lower ++ over ∷ [])) w after_w old new (0 + (visits + 1)) count from visited to (omega (arith, few, small))
+    (paints_then scene (object ∷ []) (lower ++ over ∷ []) w mid_w after_w old mid new 0 (visits + 1) visited half to own later))
 
 -- all that is painted, by the trees of the active screen and of the two layers
 pub paints_three : (scene : Scene) (valid : IsValid scene) (w w1 w2 w3 : Option ℕ) (old a b new : Buffer) (from s1 s2 to : ℕ) →

@@ -1,12 +1,14 @@
 -- What walks down the trees of a scene meet.
-use Rattle.std.proofs.Common.{◌≡◌, ◌≢◌, ◌∙◌, ◌<◌, ◌≤◌, ◌+◌, refl, sym, ap, ℕ, Bool, true, false, if◌then◌else◌, Option, Some, None, option_map, List, [], ◌∷◌, ◌++◌, length, append_assoc, arith}
+use Rattle.std.proofs.Common.{◌≡◌, ◌≢◌, ◌∙◌, ◌≤◌, ◌+◌, refl, sym, ap, subst, ℕ, Bool, true, false, eqb, if◌then◌else◌, Option, Some, None, List, [], ◌∷◌, ◌++◌, length, append_assoc, arith}
+use Rattle.std.specs.List.{flat_map}
 use Rattle.std.proofs.lemmas.Bool.Decides.{nat_tests}
 use Rattle.std.proofs.lemmas.List.{append-nil, length-append}
 use Rattle.gui_base.specs.Area.{Rect}
 use Rattle.gui_base.specs.declared.Handle.{Handle}
 use Rattle.gui_base.specs.declared.words.Flag.TheVariants.{Hidden}
-use Rattle.gui_base.specs.Forest.{Forest, Empty, Tree, size, preorder, and_then, tree_by, children_by, next_by, next_to}
-use Rattle.gui_base.proofs.Visits.{HasCome, GoesOn, walk_goes_on, trees_from, name_of}
+use Rattle.gui_base.specs.Forest.{Forest, Empty, Tree, size, preorder, roots, first_root, and_then, tree_at, tree_by, children_of, children_by, next_by}
+use Rattle.gui_base.proofs.Forests.{map-children_by, map-size, map-tree_by}
+use Rattle.gui_base.proofs.Visits.{HasCome, walk_begins, walk_goes_on, trees_from, name_of}
 use Rattle.gui_tree.specs.Handles.{as_handle}
 use Rattle.scene_defs.specs.declared.Row.{Row}
 use Rattle.scene_defs.specs.Row.{is_on, shown_row}
@@ -21,7 +23,7 @@ use Rattle.scene_defs.proofs.Validity.{valid_is_showable}
 use Rattle.scene_defs.proofs.Walks.{nothing_below_nothing, shown_by_walk}
 use Rattle.cover_defs.specs.Steps.{object_count}
 use Rattle.gui_paint.specs.Walking.{seen_through, seen_so, bars_so, tree_walk, below_walk}
-use Rattle.gui_paint.proofs.Trees.{next_named, no_tree, object_named, object_with, tree_is}
+use Rattle.gui_paint.proofs.Trees.{no_tree, object_named, object_with, tree_is}
 
 -- One object, and all below it.
 module _ (scene : Scene) (clip : Rect) (h : ℕ) where
@@ -78,77 +80,7 @@ children_none (Tree object cs rest) h e = grind (arith, nat_tests, children_none
 pub no_children : (scene : Scene) (h : ℕ) → None ≡ row_at scene h → size (children_by (is_at h) scene.trees) ≡ 0
 no_children scene h none = ap size (children_none scene.trees h (no_tree scene h none))
 
--- what a walk meets in the trees from `next` on
-abbrev pub walk_from : Scene → Rect → Option Handle → List Seen
-walk_from scene clip next = walked (place scene) (entry_coats scene) (Some clip) (trees_from handle_of next scene.trees)
-
-abbrev pub size_from : Scene → Option Handle → ℕ
-size_from scene next = size (trees_from handle_of next scene.trees)
-
--- A walk over trees beside one another has met these, and visited so many objects, before it came to `next`.
-pub record HasWalked (scene : Scene) (clip : Rect) (first next : Option Handle) (met : List Seen) (visits : ℕ) : Type 0 where
-  pub list : walk_from scene clip first ≡ met ++ walk_from scene clip next
-  pub count : size_from scene first ≡ visits + size_from scene next
-
-pub walked_none : (scene : Scene) (clip : Rect) (first : Option Handle) → HasWalked scene clip first first [] 0
-walked_none scene clip first = record { list = refl; count = omega arith }
-
--- a child, and the trees after it
-module _ (scene : Scene) (h : ℕ) (child : Handle) (valid : IsValid scene) (come : HasCome handle_of scene.trees h (Some child)) where
-  goes : (next : Option Handle) → next ≡ name_of handle_of (next_by (is_at child.0) scene.trees) → GoesOn handle_of scene.trees h child next
-  goes next is = walk_goes_on handle_of scene.trees h child next (distinct_once scene.trees valid.trees.once) come is
-
-  on : GoesOn handle_of scene.trees h child (name_of handle_of (next_by (is_at child.0) scene.trees))
-  on = goes (name_of handle_of (next_by (is_at child.0) scene.trees)) refl
-
-  pub child_small : size (children_by (is_at h) scene.trees) < size (tree_by (is_at h) scene.trees) → size (tree_by (is_at child.0) scene.trees) < size (tree_by (is_at h) scene.trees)
-  child_small more = rw on.tree (omega (arith, on.small, more))
-
-  module _ (forest : Forest ℕ) (next : Option Handle) (same : forest ≡ handles_of scene.trees) (is : next ≡ option_map as_handle (next_to forest child.0)) where
-    gone : GoesOn handle_of scene.trees h child next
-    gone = goes next (is ∙ (ap (λ (f : Forest ℕ). option_map as_handle (next_to f child.0)) same ∙ next_named scene.trees child.0))
-
-    pub come_further : HasCome handle_of scene.trees h next
-    come_further = gone.come
-
-    counted : size_from scene (Some child) ≡ size (tree_by (is_at child.0) scene.trees) + size_from scene next
-    counted = rw (gone.later, gone.from, gone.tree) (omega arith)
-
-    pub fewer_left : size_from scene next < size_from scene (Some child)
-    fewer_left = rw (gone.later, gone.from) (omega arith)
-
-    beside : (clip : Rect) → walk_from scene clip (Some child) ≡ tree_walk scene clip child.0 ++ walk_from scene clip next
-    beside clip = rw (gone.later, gone.from, gone.tree) (go (seen_of (place scene) (Some clip) gone.node)) where
-      alone : Option Rect → Entry → List Seen
-      alone v e = seen_alone (entry_coats scene) v e
-
-      inner : Option Rect → List Seen
-      inner v = walked (place scene) (entry_coats scene) v gone.children
-
-      later : List Seen
-      later = walked (place scene) (entry_coats scene) (Some clip) gone.rest
-
-      go : (v : Option Rect) → alone v (own gone.node.handle) ++ (inner v ++ (alone v (bars_over gone.node.handle) ++ later))
-          ≡ (alone v (own gone.node.handle) ++ (inner v ++ (alone v (bars_over gone.node.handle) ++ []))) ++ later
-      go v =
-          ap (λ (l : List Seen). alone v (own gone.node.handle) ++ (inner v ++ (l ++ later))) (sym (append-nil (alone v (bars_over gone.node.handle))))
-          ∙ (ap (λ (l : List Seen). alone v (own gone.node.handle) ++ l) (sym (append_assoc (inner v) (alone v (bars_over gone.node.handle) ++ []) later))
-          ∙ sym (append_assoc (alone v (own gone.node.handle)) (inner v ++ (alone v (bars_over gone.node.handle) ++ [])) later))
-
-    pub walked_more : (clip : Rect) (first : Option Handle) (met : List Seen) (visits : ℕ) → HasWalked scene clip first (Some child) met visits →
-        HasWalked scene clip first next (met ++ tree_walk scene clip child.0) (visits + size (tree_by (is_at child.0) scene.trees))
-    walked_more clip first met visits w = record {
-      list = w.list ∙ (ap (λ (l : List Seen). met ++ l) (beside clip) ∙ sym (append_assoc met (tree_walk scene clip child.0) (walk_from scene clip next)));
-      count = omega (arith, w.count, counted);
-    }
-
--- at the end it has met all below their parent
-pub walked_all : (scene : Scene) (clip : Rect) (h : ℕ) (first : Option Handle) (met : List Seen) (visits : ℕ) → trees_from handle_of first scene.trees ≡ children_by (is_at h) scene.trees → HasWalked scene clip first None met visits →
-    (met ≡ below_walk scene clip h) × (visits ≡ size (children_by (is_at h) scene.trees))
-walked_all scene clip h first met visits from w =
-    (sym (append-nil met) ∙ (sym w.list ∙ ap (walked (place scene) (entry_coats scene) (Some clip)) from), omega (arith, w.count, ap size from))
-
--- The three roots that are shown.
+-- what a walk meets in trees that stand side by side
 walked-and_then : (place : ℕ → Option Rect) (lays : Entry → _) (clip : Option Rect) (f g : Forest Object) → walked place lays clip (and_then f g) ≡ walked place lays clip f ++ walked place lays clip g
 walked-and_then place lays clip Empty g = refl
 walked-and_then place lays clip (Tree object cs rest) g =
@@ -163,6 +95,49 @@ walked-and_then place lays clip (Tree object cs rest) g =
     ∙ (ap (λ (l : List Seen). first ++ l) (sym (append_assoc inner (last ++ later) more))
     ∙ sym (append_assoc first (inner ++ (last ++ later)) more)))
 
+-- the same by their handles
+abbrev pub trees_walk : Scene → Rect → Forest ℕ → List Seen
+trees_walk scene clip trees = flat_map (tree_walk scene clip) (roots trees)
+
+-- What a walk meets below an object is what it meets in the trees of its children.
+module _ (scene : Scene) (clip : Rect) (h : ℕ) (valid : IsValid scene) where
+  abbrev walk : Forest Object → List Seen
+  walk trees = walked (place scene) (entry_coats scene) (Some clip) trees
+
+  distinct : IsDistinct scene.trees
+  distinct = distinct_once scene.trees valid.trees.once
+
+  walks_each : (trees : Forest Object) (next : Option Handle) → HasCome handle_of scene.trees h next → trees_from handle_of next scene.trees ≡ trees → walk trees ≡ trees_walk scene clip (handles_of trees)
+  walks_each Empty next come at = refl
+  walks_each (Tree object cs rest) next come at =
+      let f = scene.trees in
+      let child : Handle = as_handle object.handle in
+      let first : next ≡ Some child = come.0 ∙ ap (λ (t : Forest Object). name_of handle_of (first_root t)) at in
+      let beside = name_of handle_of (next_by (is_at object.handle) f) in
+      let on = walk_goes_on handle_of f h child beside distinct (subst (HasCome handle_of f h) first come) refl in
+      let same : Tree on.node on.children on.rest ≡ Tree object cs rest = sym on.from ∙ (ap (λ (n : Option Handle). trees_from handle_of n f) (sym first) ∙ at) in
+      let tree : tree_by (is_at object.handle) f ≡ Tree on.node on.children Empty = on.tree in
+      let alone : tree_by (is_at object.handle) f ≡ Tree object cs Empty = cc in
+      let more : on.rest ≡ rest = cc in
+      walked-and_then (place scene) (entry_coats scene) (Some clip) (Tree object cs Empty) rest
+      ∙ (ap (λ (t : Forest Object). walk t ++ walk rest) (sym alone)
+      ∙ ap (λ (l : List Seen). tree_walk scene clip object.handle ++ l) (walks_each rest beside on.come (on.later ∙ more)))
+
+  pub walks_below : below_walk scene clip h ≡ trees_walk scene clip (children_of (handles_of scene.trees) h)
+  walks_below =
+      let f = scene.trees in
+      let first = name_of handle_of (first_root (children_by (is_at h) f)) in
+      let begins = walk_begins handle_of f h first distinct refl in
+      walks_each (children_by (is_at h) f) first begins.1 begins.0 ∙ ap (trees_walk scene clip) (map-children_by handle_of (λ k. eqb k h) f)
+
+-- an object and all below it, and what is below it, as the tree of handles counts them
+pub size_at : (scene : Scene) (h : ℕ) → size (tree_at (handles_of scene.trees) h) ≡ size (tree_by (is_at h) scene.trees)
+size_at scene h = ap size (sym (map-tree_by handle_of (λ k. eqb k h) scene.trees)) ∙ map-size handle_of (tree_by (is_at h) scene.trees)
+
+pub size_below : (scene : Scene) (h : ℕ) → size (children_of (handles_of scene.trees) h) ≡ size (children_by (is_at h) scene.trees)
+size_below scene h = ap size (sym (map-children_by handle_of (λ k. eqb k h) scene.trees)) ∙ map-size handle_of (children_by (is_at h) scene.trees)
+
+-- The three roots that are shown.
 -- a root's tree is the tree of its handle
 root_tree-tree_by : (f : Forest Object) (h : ℕ) → IsDistinct f → is_root_at f h ≡ true → (there f h ≡ true) × (root_tree f h ≡ tree_by (is_at h) f)
 root_tree-tree_by Empty h d i = cc
@@ -177,8 +152,8 @@ length-preorder Empty = refl
 length-preorder (Tree o cs rest) = omega (arith, length-append (preorder (handles_of cs)) (preorder (handles_of rest)), length-preorder cs, length-preorder rest)
 
 module _ (scene : Scene) (valid : IsValid scene) where
-  roots : (h : ℕ) → is_root_at scene.trees h ≡ true → root_tree scene.trees h ≡ tree_by (is_at h) scene.trees
-  roots h i = (root_tree-tree_by scene.trees h (distinct_once scene.trees valid.trees.once) i).1
+  root_alone : (h : ℕ) → is_root_at scene.trees h ≡ true → root_tree scene.trees h ≡ tree_by (is_at h) scene.trees
+  root_alone h i = (root_tree-tree_by scene.trees h (distinct_once scene.trees valid.trees.once) i).1
 
   -- the active screen and the two layers, one after another, are all that is painted
   pub three_walks : tree_walk scene (panel_of scene) scene.active ++ (tree_walk scene (panel_of scene) 1 ++ tree_walk scene (panel_of scene) 2) ≡ painted scene
@@ -188,7 +163,7 @@ module _ (scene : Scene) (valid : IsValid scene) where
       sym (shown_by_walk scene (valid_is_showable scene valid)
       ∙ (walked-and_then (place scene) (entry_coats scene) (Some (panel_of scene)) (root_tree f scene.active) (and_then (root_tree f 1) (root_tree f 2))
       ∙ (ap (λ (l : List Seen). walk (root_tree f scene.active) ++ l) (walked-and_then (place scene) (entry_coats scene) (Some (panel_of scene)) (root_tree f 1) (root_tree f 2))
-      ∙ rw (roots scene.active valid.trees.active, roots 1 valid.trees.top_layer, roots 2 valid.trees.system_layer) refl)))
+      ∙ rw (root_alone scene.active valid.trees.active, root_alone 1 valid.trees.top_layer, root_alone 2 valid.trees.system_layer) refl)))
 
   -- they have no more objects than there are
   pub three_sizes : size (tree_by (is_at scene.active) scene.trees) + (size (tree_by (is_at 1) scene.trees) + size (tree_by (is_at 2) scene.trees)) ≤ object_count scene
@@ -198,7 +173,7 @@ module _ (scene : Scene) (valid : IsValid scene) where
         arith,
         size-roots scene.trees scene.active showable.above_top showable.above_system,
         length-preorder scene.trees,
-        ap size (roots scene.active valid.trees.active),
-        ap size (roots 1 valid.trees.top_layer),
-        ap size (roots 2 valid.trees.system_layer),
+        ap size (root_alone scene.active valid.trees.active),
+        ap size (root_alone 1 valid.trees.top_layer),
+        ap size (root_alone 2 valid.trees.system_layer),
       )

@@ -68,7 +68,8 @@ abbrev pub painted_each : List Seen → Painting
 painted_each list x y under = fold (paint_seen x y) under list
 
 -- A walk that waits for an object has met these, in so many visits: it has painted those from that object on.
-pub record PaintsMet (scene : Scene) (list : List Seen) (waits_before waits_after : Option ℕ) (old new : Buffer) (visits from to : ℕ) : Type 0 where
+pub record PaintsMet (scene : Scene) (list : List Seen) (waits_before waits_after : Option ℕ) (old new : Buffer)
+    (visits from to : ℕ) : Type 0 where
   pub waits : waits_after ≡ waits_on waits_before list
   pub painted : Paints old new (painted_each (from_handle waits_before list))
   pub steps : to

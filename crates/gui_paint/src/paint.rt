@@ -92,10 +92,8 @@ fn paint_tree<L: Ledger>(
         return;
     };
     paint_next(shown, buf, seen, h, start, text, steps);
-    let mut next = tree.first_child(h);
-    while let Some(child) = next {
+    for child in tree.children(h) {
         paint_tree(shown, buf, seen.visible, child, start, text, steps);
-        next = tree.next(child);
     }
     paint_next_bars(shown, buf, seen.visible, h, *start, steps);
 }

@@ -60,10 +60,8 @@ fn find_cover<L: Ledger>(
         return;
     };
     remember(shown, seen, h, part, last, text);
-    let mut next = tree.first_child(h);
-    while let Some(child) = next {
+    for child in tree.children(h) {
         find_cover(shown, seen.visible, child, part, last, text, steps);
-        next = tree.next(child);
     }
 }
 

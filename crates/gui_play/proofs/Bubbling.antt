@@ -33,7 +33,7 @@ steps_up scene h row next valid read up = by (object_at scene h) refl read where
     object = object;
     handle = named scene.trees h object e;
     row_is = cc;
-    way = (goes_up scene valid h next up).path ∙ ap (λ (o : Option Object). option_to_list o ++ path_from scene next) e;
+    way = goes_up scene valid h next up ∙ ap (λ (o : Option Object). option_to_list o ++ path_from scene next) e;
   }
 
 -- A way up is no longer than the trees are high.

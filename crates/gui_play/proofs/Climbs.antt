@@ -1,6 +1,7 @@
 -- The path of an object begins at it, and goes on at its parent.
-use Rattle.std.proofs.Common.{◌≡◌, ◌∙◌, refl, sym, ap, subst, ℕ, ◌+◌, ◌<◌, Bool, true, false, eqb, eq-eqb, List, [], ◌∷◌, ◌++◌, length, inl, inr, ◌⊎◌, arith}
+use Rattle.std.proofs.Common.{◌≡◌, ◌∙◌, refl, sym, ap, subst, ℕ, ◌+◌, Bool, true, false, eqb, eq-eqb, List, [], ◌∷◌, ◌++◌, inl, inr, ◌⊎◌}
 use Rattle.std.specs.Prelude.{Option, Some, None, is_some, option_map}
+use Rattle.std.specs.List.{flat_map}
 use Rattle.std.specs.Option.{option_to_list}
 use Rattle.std.proofs.lemmas.Bool.{cases_Bool, or_left, or_right, both_ways, false_from_ne_true, eqb-true}
 use Rattle.gui_base.specs.Forest.{Forest, Empty, Tree, has_by, parent_by, parent_of, path_by}
@@ -8,6 +9,8 @@ use Rattle.gui_base.specs.declared.Handle.{Handle}
 use Rattle.gui_base.proofs.Visits.{IsDistinct, distinct_once}
 use Rattle.gui_base.proofs.Forests.{map-has_by, map-parent_by}
 use Rattle.gui_tree.specs.Handles.{as_handle}
+use Rattle.gui_tree.specs.Walks.{line_from, line_of}
+use Rattle.gui_tree.proofs.Paths.{line_step}
 use Rattle.scene_defs.specs.Scene.{Object, Scene, handle_of, handles_of, is_at, is_there, object_by, object_at, path_at}
 use Rattle.scene_defs.specs.Valid.{IsValid}
 
@@ -109,26 +112,22 @@ abbrev pub path_from : Scene → Option Handle → List Object
 path_from scene None = []
 path_from scene (Some h) = path_at scene h.0
 
--- how many steps it may be to the top
-abbrev pub steps_from : Scene → Option Handle → ℕ
-steps_from scene None = 0
-steps_from scene (Some h) = length (path_at scene h.0) + 1
-
 -- one step up from h
-pub record GoesUp (scene : Scene) (h : ℕ) (next : Option Handle) : Type 0 where
-  pub path : path_at scene h ≡ option_to_list (object_at scene h) ++ path_from scene next
-  pub shorter : steps_from scene next < length (path_at scene h) + 1
+abbrev pub GoesUp : Scene → ℕ → Option Handle → Type 0
+GoesUp scene h next = path_at scene h ≡ option_to_list (object_at scene h) ++ path_from scene next
+
+-- the objects of these handles
+abbrev pub objects_at : Scene → List ℕ → List Object
+objects_at scene hs = flat_map (λ (h : ℕ). option_to_list (object_at scene h)) hs
 
 module _ (scene : Scene) (valid : IsValid scene) where
   up_by : (h : ℕ) (o : Option Object) → object_at scene h ≡ o → GoesUp scene h (option_map (λ (a : Object). as_handle a.handle) (above_in scene.trees None h))
   up_by h None e =
       let nothing : path_at scene h ≡ [] = subst (λ o. StartsAt o (path_at scene h)) e (path_starts scene h) in
-      rw (gone scene.trees None h e) (record { path = rw e nothing; shorter = omega arith })
+      rw (gone scene.trees None h e, e) nothing
   up_by h (Some a) e = elim (climbs scene.trees [] None h (distinct_once handle_of scene.trees valid.trees.once) (there_some scene.trees h ∙ ap is_some e)) [
-    | inl root ↦ rw root.1 (record { path = root.0; shorter = omega arith })
-    | inr up ↦
-        let path : path_at scene h ≡ a ∷ path_at scene up.0.handle = up.1.2 ∙ ap (λ (o : Option Object). option_to_list o ++ path_at scene up.0.handle) e in
-        rw up.1.1 (record { path = up.1.2; shorter = omega (arith, ap (λ (os : List Object). length os) path) })
+    | inl root ↦ rw root.1 root.0
+    | inr up ↦ rw up.1.1 up.1.2
   ]
 
   pub goes_up : (h : ℕ) (next : Option Handle) → next ≡ option_map as_handle (parent_of (handles_of scene.trees) h) → GoesUp scene h next
@@ -139,3 +138,20 @@ module _ (scene : Scene) (valid : IsValid scene) where
         by : (o : Option Object) → option_map handle_of o ≡ parent_of (handles_of scene.trees) h → option_map (λ (a : Object). as_handle a.handle) o ≡ next
         by None up = ap (option_map as_handle) up ∙ sym e
         by (Some a) up = ap (option_map as_handle) up ∙ sym e
+
+  -- the objects of a line are those of the path
+  path_along : (hs : List ℕ) (o : Option Handle) → line_from o (handles_of scene.trees) ≡ hs → path_from scene o ≡ objects_at scene hs
+  path_along [] None e = refl
+  path_along [] (Some h) e = cc
+  path_along (k ∷ hs) None e = cc
+  path_along (k ∷ hs) (Some h) e =
+      let f = handles_of scene.trees in
+      let next = option_map as_handle (parent_of f h.0) in
+      let line : k ∷ hs ≡ h.0 ∷ line_from next f = sym e ∙ line_step f h.0 valid.trees.once in
+      let same : h.0 ≡ k = cc in
+      goes_up h.0 next refl
+      ∙ (ap (λ (os : List Object). option_to_list (object_at scene h.0) ++ os) (path_along hs next cc)
+      ∙ ap (λ (n : ℕ). option_to_list (object_at scene n) ++ objects_at scene hs) same)
+
+  pub path_is : (h : ℕ) → path_at scene h ≡ objects_at scene (line_of (handles_of scene.trees) h)
+  path_is h = path_along (line_of (handles_of scene.trees) h) (Some (as_handle h)) refl

@@ -1,5 +1,5 @@
 -- What can be scrolled of an object and those above it, and how far it then is.
-use Rattle.std.proofs.Common.{◌≡◌, ◌∙◌, refl, sym, ap, subst, ℕ, Bool, true, false, ◌&&◌, inl, inr, List, ◌++◌, ℤ, cond}
+use Rattle.std.proofs.Common.{◌≡◌, ◌∙◌, refl, sym, ap, subst, ℕ, Bool, true, false, ◌&&◌, inl, inr, List, [], ◌∷◌, ◌++◌, ℤ, cond}
 use Rattle.std.specs.Prelude.{Option, Some, None, option_map, find, nat_lt, unwrap_or}
 use Rattle.std.specs.Option.{option_to_list}
 use Rattle.std.proofs.lemmas.Bool.{cases_Bool, eqb-true}
@@ -8,16 +8,18 @@ use Rattle.gui_base.specs.declared.Handle.{Handle}
 use Rattle.gui_base.specs.declared.words.Flag.TheVariants.{Scrollable}
 use Rattle.gui_layout.specs.Scrolls.{span_from}
 use Rattle.gui_tree.specs.Handles.{as_handle}
+use Rattle.gui_tree.specs.Walks.{line_of}
 use Rattle.run_defs.specs.Dragging.{along, pair_of, put_scroll, put_scroll_in, reach_of}
 use Rattle.run_defs.specs.Dragging as dragging
 use Rattle.run_defs.specs.Making.{make}
 use Rattle.run_defs.specs.Pointing.{has_flag}
 use Rattle.scene_defs.specs.declared.Change.TheVariants as change
 use Rattle.scene_defs.specs.declared.Row.{Row}
-use Rattle.scene_defs.specs.Scene.{Object, Scene, is_at, object_at, object_by, path_at, row_at, row_of}
+use Rattle.scene_defs.specs.Scene.{Object, Scene, handles_of, is_at, object_at, object_by, path_at, row_at, row_of}
+use Rattle.scene_defs.specs.Valid.{IsValid}
 use Rattle.gui_play.specs.Dragging.{can_scroll, is_scrolled_to}
 use Rattle.gui_play.specs.Stages.{Stage, Played}
-use Rattle.gui_play.proofs.Climbs.{GoesUp, StartsAt, path_from, path_starts}
+use Rattle.gui_play.proofs.Climbs.{objects_at, path_is}
 use Rattle.gui_play.proofs.Plays.{idle}
 
 -- the object that is found at h is h
@@ -49,27 +51,21 @@ first_step scene down h (Some a) rest e =
           rw (cannot, here) refl
     ]
 
-first_up : (scene : Scene) (down : Bool) (h : Handle) (next : Option Handle) → GoesUp scene h.0 next →
-    first_on scene down (path_at scene h.0) ≡ cond (can_scroll scene down h) (Some h) (first_on scene down (path_from scene next))
-first_up scene down h next up =
-    ap (first_on scene down) up.path ∙ first_step scene down h (object_at scene h.0) (path_from scene next) refl
+-- the same by handles
+abbrev pub first_at : Scene → Bool → List ℕ → Option Handle
+first_at scene down hs = option_map as_handle (find (λ (k : ℕ). can_scroll scene down (as_handle k)) hs)
 
--- one that can be scrolled is the first from here on
-pub first_here : (scene : Scene) (down : Bool) (h : Handle) (at : Option Handle) (can : Bool) → at ≡ Some h → can ≡ can_scroll scene down h → can ≡ true → first_on scene down (path_from scene at) ≡ Some h
-first_here scene down h at can e own so =
-    ap (λ (o : Option Handle). first_on scene down (path_from scene o)) e ∙ by (object_at scene h.0) (path_at scene h.0) refl (path_starts scene h.0) (sym own ∙ so) where
-      by : (o : Option Object) (path : List Object) → object_at scene h.0 ≡ o → StartsAt o path → (has_flag Scrollable (option_map row_of o) && nat_lt 0 (along down (reach_of scene h.0))) ≡ true → first_on scene down path ≡ Some h
-      by None path found starts is = cc
-      by (Some a) path found starts is =
-          ap (first_on scene down) starts.1
-          ∙ (first_step scene down h (Some a) starts.0 found ∙ ap (λ (b : Bool). cond b (Some h) (first_on scene down starts.0)) is)
+first_along : (scene : Scene) (down : Bool) (hs : List ℕ) → first_on scene down (objects_at scene hs) ≡ first_at scene down hs
+first_along scene down [] = refl
+first_along scene down (k ∷ hs) =
+    first_step scene down (as_handle k) (object_at scene k) (objects_at scene hs) refl ∙ by (can_scroll scene down (as_handle k)) (first_along scene down hs) where
+      by : (b : Bool) → first_on scene down (objects_at scene hs) ≡ first_at scene down hs →
+          cond b (Some (as_handle k)) (first_on scene down (objects_at scene hs)) ≡ option_map as_handle (cond b (Some k) (find (λ (j : ℕ). can_scroll scene down (as_handle j)) hs))
+      by true e = refl
+      by false e = e
 
--- where it cannot, the first is above it
-pub first_above : (scene : Scene) (down : Bool) (h : Handle) (at next : Option Handle) (can : Bool) → GoesUp scene h.0 next → at ≡ Some h → can ≡ can_scroll scene down h → can ≡ false →
-    first_on scene down (path_from scene at) ≡ first_on scene down (path_from scene next)
-first_above scene down h at next can up e own not_so =
-    ap (λ (o : Option Handle). first_on scene down (path_from scene o)) e ∙ first_up scene down h next up
-    ∙ ap (λ (b : Bool). cond b (Some h) (first_on scene down (path_from scene next))) (sym own ∙ not_so)
+pub first_line : (scene : Scene) (down : Bool) (h : ℕ) → IsValid scene → first_on scene down (path_at scene h) ≡ first_at scene down (line_of (handles_of scene.trees) h)
+first_line scene down h valid = ap (first_on scene down) (path_is scene valid h) ∙ first_along scene down (line_of (handles_of scene.trees) h)
 
 -- What places tell.
 

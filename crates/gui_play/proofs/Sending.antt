@@ -37,6 +37,7 @@ can_refresh scene now can same panel = record {
   width = can.sizes.width_is ∙ sym (ap (λ (s : Sizes). s.width) same);
   height = can.sizes.height_is ∙ sym (ap (λ (s : Sizes). s.height) same);
   limit = can.sizes.limit_is ∙ sym (ap (λ (s : Sizes). s.limit) same);
+  block = can.sizes.block_is ∙ sym (ap (λ (s : Sizes). s.block) same);
   area = panel ∙ sym (panel_is scene now.panel can.sizes);
   started = can.started;
   coming = λ buf is. can.coming buf is ∙ sym (ap (λ (s : Sizes). s.limit) same);
@@ -49,6 +50,7 @@ has_sizes scene p now before can same =
       width_is = can.width ∙ ap (λ (s : Sizes). s.width) same;
       height_is = can.height ∙ ap (λ (s : Sizes). s.height) same;
       limit_is = limit;
+      block_is = can.block ∙ ap (λ (s : Sizes). s.block) same;
       opened = subst (λ (n : ℕ). 0 < n) (before.limit_is ∙ sym limit) before.opened;
     }
 

@@ -3,7 +3,7 @@ ghost use Rattle.std.specs.Prelude.{◌≡◌, ◌∷◌, [], false, IfOk, OnErr
 ghost use Rattle.gui_base.specs.Area.{area_at, is_empty};
 ghost use Rattle.gui_base.specs.Bounded.{bounds_of};
 ghost use Rattle.gui_base.specs.Corners.{rect_of};
-ghost use Rattle.gui_base.specs.Gridded.{HasPixels};
+ghost use Rattle.gui_base.specs.Gridded.{block_of};
 ghost use Rattle.gui_base.specs.Refusing.{result_of};
 ghost use Rattle.gui_change.specs.Canvas.{scene_in, removed_in};
 ghost use Rattle.gui_damage.specs.Gridded.{listed_in};
@@ -51,7 +51,7 @@ pub struct Board {
     pub(crate) inputs: Inputs,
     pub(crate) scribe: Scribe,
     ghost panel: { (listed_in damage).panel ≡ panel_of (scene_in canvas) },
-    ghost pixels: { HasPixels damage.round },
+    ghost blocks: { block_of damage.round ≡ (scene_in canvas).limits.block },
     ghost sized: { AreSized handlers groups anims (scene_in canvas).limits },
 }
 
@@ -67,7 +67,8 @@ impl Board {
     {
         let canvas = Canvas::open(alloc, limits)?;
         let panel = panel_area(limits);
-        let damage = Damage::new(panel, Grid::of_pixels(panel));
+        let grid = Grid::new(limits.block, panel);
+        let damage = Damage::new(panel, grid);
         let handlers = Handlers::open(alloc, limits.handlers)?;
         let groups = Groups::open(alloc, limits.groups, limits.objects)?;
         let anims = Anims::open(alloc, limits.anims)?;

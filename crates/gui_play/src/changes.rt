@@ -47,12 +47,10 @@ impl Board {
     fn is_hidden(&self, h: Handle) -> bool
         ensures { result ≡ list_any is_hidden (path_at (machine_of self.now).scene h.0) }
     {
-        let mut at = Some(h);
-        while let Some(k) = at {
+        for k in self.canvas.store().tree().ancestors(h) {
             if self.hides(k) {
                 return true;
             }
-            at = self.canvas.store().tree().parent(k);
         }
         false
     }

@@ -112,12 +112,10 @@ impl Board {
     fn scrolled_from(&self, down: bool, h: Handle) -> Option<Handle>
         ensures { result ≡ scrolled_from (machine_of self.now).scene down h }
     {
-        let mut at = Some(h);
-        while let Some(k) = at {
+        for k in self.canvas.store().tree().ancestors(h) {
             if self.can_scroll(down, k) {
                 return Some(k);
             }
-            at = self.canvas.store().tree().parent(k);
         }
         None
     }

@@ -1,11 +1,9 @@
 //! Where a point of the panel lies: the object that it hits, and the value of a slider.
 ghost use Rattle.std.specs.Prelude.{◌≡◌, ◌≤◌, ◌∷◌, [], ◌-◌, ◌*◌, ◌/◌, ◌-ℤ◌, IfSome, option_map, pos, true};
-ghost use Rattle.std.specs.Option.{ForSome};
-ghost use Rattle.gui_base.specs.Forest.{StandsOnce, has, preorder, tree_at};
+ghost use Rattle.gui_base.specs.Forest.{has, preorder, tree_at};
 ghost use Rattle.gui_base.specs.Props.{is_value, values_of};
 ghost use Rattle.gui_base.specs.declared.intervals.TheConstants.{PAD};
 ghost use Rattle.gui_base.specs.declared.words.Part.TheVariants.{Main};
-ghost use Rattle.gui_tree.specs.Walks.{trees_from};
 ghost use Rattle.run_defs.specs.Pointing.{content, hit, is_flagged, is_hit};
 ghost use Rattle.run_defs.specs.Reactions.{is_slider};
 ghost use Rattle.scene_defs.specs.Row.{brought_in};
@@ -19,6 +17,7 @@ ghost use Rattle.gui_play.specs.Sliding.{columns_of, slid_value, value_along};
 
 use crate::board::Board;
 use gui_base::{Flag, Handle, Kind, Part, Prop};
+use gui_tree::Children;
 use scene_defs::Row;
 
 /// The layer above the active screen.
@@ -40,14 +39,11 @@ pub(crate) fn brought_in(low: i32, high: i32, n: i32) -> i32
     }
 }
 
-/// Whether it is the kind that points set.
+/// Whether it is a kind that points set.
 pub(crate) fn is_slider(kind: Kind) -> bool
     ensures { result ≡ is_slider kind }
 {
-    match kind {
-        Kind::Slider => true,
-        _ => false,
-    }
+    widget_defs::kinds::facts(kind).slides
 }
 
 /// Of so many columns from the first on the nearest to x, from 0.
@@ -119,27 +115,17 @@ impl Board {
         visible.holds(x, y)
     }
 
-    /// The last that the point hits, of an object, those beside it after it, and all that is below them, in
-    /// paint order; or else the one that is known.
-    fn hit_from(
-        &self,
-        x: i32,
-        y: i32,
-        first: Option<Handle>,
-        known: Option<Handle>,
-    ) -> Option<Handle>
-        requires once { StandsOnce (handles_of (machine_of self.now).scene.trees) }
-        requires there { ForSome first (λ h. has (handles_of (machine_of self.now).scene.trees) h.0 ≡ true) }
-        ensures { result ≡ last_hit (machine_of self.now).scene x y known
-            (preorder (trees_from first (handles_of (machine_of self.now).scene.trees))) }
+    /// The last that the point hits of the objects of these trees, in paint order, or else the one that is
+    /// known.
+    fn hit_in(&self, x: i32, y: i32, trees: Children<'_>, known: Option<Handle>) -> Option<Handle>
+        requires { trees.forest ≡ handles_of (machine_of self.now).scene.trees }
+        ensures { result ≡ last_hit (machine_of self.now).scene x y known (preorder trees.entry.left) }
     {
         let tree = self.canvas.store().tree();
         let mut last = known;
-        let mut next = first;
-        while let Some(h) = next {
+        for h in trees {
             let here = self.hit_here(x, y, h, last);
-            last = self.hit_from(x, y, tree.first_child(h), here);
-            next = tree.next(h);
+            last = self.hit_in(x, y, tree.children(h), here);
         }
         last
     }
@@ -153,14 +139,13 @@ impl Board {
 
     /// The last that the point hits of an object and all below it, or else the one that is known.
     fn hit_below(&self, x: i32, y: i32, h: Handle, known: Option<Handle>) -> Option<Handle>
-        requires once { StandsOnce (handles_of (machine_of self.now).scene.trees) }
-        requires there { has (handles_of (machine_of self.now).scene.trees) h.0 ≡ true }
+        requires { has (handles_of (machine_of self.now).scene.trees) h.0 ≡ true }
         ensures { result ≡ last_hit (machine_of self.now).scene x y known
             (preorder (tree_at (handles_of (machine_of self.now).scene.trees) h.0)) }
     {
         let here = self.hit_here(x, y, h, known);
-        let child = self.canvas.store().tree().first_child(h);
-        self.hit_from(x, y, child, here)
+        let below = self.canvas.store().tree().children(h);
+        self.hit_in(x, y, below, here)
     }
 
     /// The object that a point hits: the last in paint order that is clickable and seen there.

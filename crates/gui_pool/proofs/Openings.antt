@@ -18,7 +18,7 @@ all_none A (suc n) (suc o) = all_none A n o
 
 module _ {T : Type 0} (s : Slots (Node T)) (firsts : List ℕ) (buckets : ℕ) (small : length s.slots ≤ nowhere) (none : firsts ≡ replicate buckets nowhere) where
   nothing : run_from s.slots nowhere ≡ []
-  nothing = values_run s.slots 0 nowhere [] (length s.slots) small refl (omega arith)
+  nothing = values_run (λ _. 0) s.slots 0 nowhere [] (length s.slots) small refl (omega arith)
 
   pub lists_opened : map (run_from s.slots) firsts ≡ replicate buckets []
   lists_opened =
@@ -30,6 +30,7 @@ module _ {T : Type 0} (s : Slots (Node T)) (firsts : List ℕ) (buckets : ℕ) (
 
   pub AreRuns-opened : s.spare ≡ length s.slots → AreRuns s firsts
   AreRuns-opened all = record {
+    owner = λ _. 0;
     runs = λ o within.
         let lt : o < buckets = omega (arith, ap length none ∙ length-replicate buckets nowhere) in
         let first : get_or firsts o 0 ≡ nowhere = ap (λ xs. get_or xs o 0) none ∙ get_or-replicate buckets o nowhere 0 lt in

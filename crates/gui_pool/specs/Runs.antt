@@ -45,12 +45,13 @@ module _ {T : Type 0} where
   IsHeldBefore s first zero = Unit {0}
   IsHeldBefore s first (suc n) = IsSome (get s (slot_at s.slots first n))
 
-  -- the values xs of a bucket follow one another, from the slot `first` on, and then comes the slot `to`
-  abbrev pub IsRun : List (Option (Node T)) → ℕ → ℕ → List T → ℕ → Type 0
-  IsRun cells bucket first [] to = first ≡ to
-  IsRun cells bucket first (x ∷ xs) to =
-      (next : ℕ) × (at cells first ≡ Some (record { bucket = bucket; value = x; next = next }))
-      × IsRun cells bucket next xs to
+  -- the values xs of a bucket follow one another, each in a slot of that bucket, from the slot `first` on, and
+  -- then comes the slot `to`; `owner` gives the bucket of each slot
+  abbrev pub IsRun : (ℕ → ℕ) → List (Option (Node T)) → ℕ → ℕ → List T → ℕ → Type 0
+  IsRun owner cells bucket first [] to = first ≡ to
+  IsRun owner cells bucket first (x ∷ xs) to =
+      (next : ℕ) × (at cells first ≡ Some (record { value = x; next = next }))
+      × IsRun owner cells bucket next xs to × (owner first ≡ bucket)
 
   -- the value of a node, and then the rest, which begins at the slot after it
   abbrev value_then : Option (Node T) → (ℕ → List T) → List T
@@ -71,17 +72,20 @@ module _ {T : Type 0} where
   lists_in s firsts = record { lists = map (run_from s.slots) firsts; spare = s.spare; size = length s.slots }
 
   pub record AreRuns (s : Slots (Node T)) (firsts : List ℕ) : Type 0 where
+    -- the bucket of each slot that has a value; no slot has to name it
+    pub owner : ℕ → ℕ
     -- from its first slot on, the values of each bucket come to an end
     pub runs : (bucket : ℕ) → bucket < length firsts
-        → IsRun s.slots bucket (slice_index_or firsts bucket 0)
+        → IsRun owner s.slots bucket (slice_index_or firsts bucket 0)
         (run_from s.slots (slice_index_or firsts bucket 0)) nowhere
     -- each value takes one slot
     pub counted : sum_by length (map (run_from s.slots) firsts) + s.spare ≡ length s.slots
     pub small : length s.slots ≤ nowhere
 
   pub record IsToCome (s : Slots (Node T)) (slot : ℕ) : Type 0 where
+    pub owner : ℕ → ℕ
     pub bucket : ℕ
     -- from the slot on, the values of the bucket come to an end
-    pub run : IsRun s.slots bucket slot (run_from s.slots slot) nowhere
+    pub run : IsRun owner s.slots bucket slot (run_from s.slots slot) nowhere
     pub few : length (run_from s.slots slot) ≤ length s.slots
     pub small : length s.slots ≤ nowhere

@@ -17,10 +17,10 @@ use std::mem;
 /// Where a bucket ends. No slot has this number.
 const NOWHERE: u32 = u32::MAX;
 
-/// What a slot holds: a value, the bucket that it is in, and the slot of the value after it.
+/// What a slot holds: a value, and the slot of the value after it. Which bucket it is in is told by the bucket's
+/// first slot alone.
 #[derive(Drop)]
 pub struct Node<T> {
-    bucket: u32,
     value: T,
     next: u32,
 }
@@ -174,7 +174,6 @@ impl<T> Buckets<T> {
     {
         let count = self.len(bucket);
         match self.slots.insert(Node {
-            bucket,
             value,
             next: NOWHERE,
         }) {
@@ -183,11 +182,7 @@ impl<T> Buckets<T> {
                 Ok(())
             }
             Err(node) => {
-                let Node {
-                    bucket: _,
-                    value,
-                    next: _,
-                } = node;
+                let Node { value, next: _ } = node;
                 Err(value)
             }
         }
@@ -231,11 +226,7 @@ impl<T> Buckets<T> {
         let Some(node) = self.slots.take(slot) else {
             unreachable!()
         };
-        let Node {
-            bucket: _,
-            value,
-            next,
-        } = node;
+        let Node { value, next } = node;
         link(&mut self.slots, &mut self.firsts, bucket, n, next);
         value
     }

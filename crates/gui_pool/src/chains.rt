@@ -34,7 +34,7 @@ pub struct NoChunks;
 /// A contract sees the text of each name, and the number `spare` of chunks that are free. The chunks in use
 /// and the spare ones add up to those that were there at opening.
 ///
-/// A chunk takes 44 bytes, and a text 8 more. Each call takes time by the square of the number of chunks of
+/// A chunk takes 40 bytes, and a text 8 more. Each call takes time by the square of the number of chunks of
 /// its text, of which there are at most 36.
 #[derive(Drop)]
 pub struct Chains {

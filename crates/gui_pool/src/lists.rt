@@ -18,7 +18,7 @@ use std::marker::Model;
 /// of slots. The values that are left are dropped once each when the lists end.
 ///
 /// An owner without values takes no memory. Where `T` is aligned to 4 bytes, each slot takes
-/// `16 + size_of::<T>()` bytes, and from one to two buckets for each slot take 4 bytes each.
+/// `12 + size_of::<T>()` bytes, and from one to two buckets for each slot take 4 bytes each.
 ///
 /// The low bits of an owner name its bucket. Owners in a row have a bucket each, as long as there are no more
 /// of them than slots; owners with the same low bits share one. A call takes time by the number of values in

@@ -18,7 +18,7 @@ use std::marker::Model;
 /// values that are left are dropped once each when the table ends.
 ///
 /// A key without a value takes no memory. Where `T` is aligned to 4 bytes, each of the `size` slots takes
-/// `16 + size_of::<T>()` bytes, and from one to two buckets for each slot take 4 bytes each.
+/// `12 + size_of::<T>()` bytes, and from one to two buckets for each slot take 4 bytes each.
 ///
 /// Every call but `open` looks through the one bucket of its key. Keys in a row have a bucket each, so a call
 /// takes constant time for them. At worst, where all keys have the same low bits, it takes time by the number

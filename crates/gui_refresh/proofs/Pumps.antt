@@ -8,15 +8,17 @@ use Rattle.std.proofs.lemmas.Bool.Decides.{nat_tests}
 use Rattle.std.proofs.lemmas.List.{nil_from_length}
 use Rattle.gui_base.specs.declared.color.Rgb565.{Rgb565}
 use Rattle.gui_base.specs.Area.{Rect, has, size_of, is_within}
+use Rattle.gui_base.specs.Grids.{BlockSize, grid_over}
+use Rattle.gui_base.specs.Rounding.{IsRound}
 use Rattle.gui_color.specs.Buffer.{Buffer}
 use Rattle.gui_edge.specs.Panel.{PanelState, area_of, CanStart}
 use Rattle.gui_damage.specs.Adding.{added, AddsAll}
-use Rattle.gui_damage.specs.Joining.{exact, JoinsAll}
+use Rattle.gui_damage.specs.Joining.{JoinsAll}
 use Rattle.gui_damage.specs.Pending.{Pending, IsPending, covered, total}
 use Rattle.gui_damage.proofs.Debts.{adds_all}
 use Rattle.gui_damage.proofs.Joins.{keeps_pixels}
 use Rattle.gui_damage.proofs.Listed.{and_both}
-use Rattle.gui_refresh.specs.Stages.{Refreshing, Stage, stage, CanRefresh, drawn_size, work, progress_of}
+use Rattle.gui_refresh.specs.Stages.{Refreshing, Stage, stage, CanRefresh, grid_with, drawn_size, work, progress_of}
 use Rattle.gui_refresh.specs.Steps.{ArrivedStep, BrokenStep, GoesOnStep, StartedStep, UnstartedStep, DrawnStep, UndrawnStep, StartAnswer, FlightAnswer}
 use Rattle.gui_refresh.specs.Refreshes.{Keeps, Counts, IsAtRest, RefreshesAt, PumpsAt}
 use Rattle.gui_refresh.specs.declared.Refreshed.TheVariants.{Done, Fault as Stopped}
@@ -228,6 +230,7 @@ module _ (color : ℤ → ℤ → Rgb565) (old : Stage) (h : IsSound old) where
         flying = λ b e. let f = h.flying b (sym on ∙ e) in record {
           inside = subst (λ (a : Rect). is_within a b.area ≡ true) (sym (ap area_of step.goes_on.is)) f.inside;
           small = omega (arith, f.small, ap (λ (s : PanelState). s.limit) step.goes_on.is);
+          blocks = subst (λ (k : BlockSize). IsRound (grid_over k (area_of mid.panel)) b.area) (sym (ap (λ (s : PanelState). s.block) step.goes_on.is)) f.blocks;
         };
       }
 
@@ -280,11 +283,11 @@ module _ (color : ℤ → ℤ → Rgb565) (old : Stage) (h : IsSound old) where
       })
 
   -- the areas of a sound stage were joined
-  sound_joined : (d : Pending) → JoinsAll exact old.pending d → IsSound (stage r p d)
+  sound_joined : (d : Pending) → JoinsAll (grid_with old.refresher.sizes).round old.pending d → IsSound (stage r p d)
   sound_joined d joins = record { can = (quiet_joined color r p old.pending d h.can joins).can; refresher = h.refresher; flying = h.flying }
 
   -- nothing was in flight or drawn: the areas were joined, and a slice was drawn
-  pub pump_first : (d e : Pending) (s : Refreshing) → r.drawn ≡ None → p.coming ≡ None → JoinsAll exact old.pending d → DrawnStep color r s d e → PumpsAt color old (stage s p e) Moved
+  pub pump_first : (d e : Pending) (s : Refreshing) → r.drawn ≡ None → p.coming ≡ None → JoinsAll (grid_with old.refresher.sizes).round old.pending d → DrawnStep color r s d e → PumpsAt color old (stage s p e) Moved
   pump_first d e s none still joins k =
       let join = quiet_joined color r p old.pending d h.can joins in
       let sound = sound_joined d joins in
@@ -293,7 +296,7 @@ module _ (color : ℤ → ℤ → Rgb565) (old : Stage) (h : IsSound old) where
       let second = work_drawn color r p d sound s e none k in
       let sizes = k.takes.sizes in
       let some = k.takes.some in
-      let smaller = (keeps_pixels exact _ _ joins.joins).smaller in
+      let smaller = (keeps_pixels (grid_with r.sizes).round _ _ joins.joins).smaller in
       let there : is_some s.drawn ≡ true = ap (λ (t : Refreshing). is_some t.drawn) k.refresher in
       record {
         step = inr (inr (inr (record { still = still; none = none; panel = refl; joined = d; joins = joins; drawn = k })));
@@ -309,12 +312,12 @@ module _ (color : ℤ → ℤ → Rgb565) (old : Stage) (h : IsSound old) where
       }
 
   -- nothing was pending, drawn or in flight
-  pub pump_idle : (d e : Pending) (s : Refreshing) → r.drawn ≡ None → p.coming ≡ None → JoinsAll exact old.pending d → UndrawnStep r s d e → PumpsAt color old (stage s p e) Idle
+  pub pump_idle : (d e : Pending) (s : Refreshing) → r.drawn ≡ None → p.coming ≡ None → JoinsAll (grid_with old.refresher.sizes).round old.pending d → UndrawnStep r s d e → PumpsAt color old (stage s p e) Idle
   pump_idle d e s none still joins k =
       let two = h.refresher.two in
       let full : r.free ≡ 2 = omega (arith, ap one_if (is_gone r.drawn none), ap one_if (h.can.started ∙ is_gone p.coming still)) in
       let empty : d.areas ≡ [] = elim k.why [ inl z ↦ absurd (omega arith) | inr z ↦ z ] in
-      let lost = (keeps_pixels exact _ _ joins.joins).none_lost in
+      let lost = (keeps_pixels (grid_with r.sizes).round _ _ joins.joins).none_lost in
       let was : old.pending.areas ≡ [] = nil_from_length old.pending.areas (none_before (length old.pending.areas) (λ t. let z = lost t in omega (arith, ap length empty))) in
       let same_panel : d.panel ≡ old.pending.panel = joins.panel in
       let same : d ≡ old.pending = rw (same_panel, empty, ← was) refl in
@@ -342,7 +345,11 @@ module _ (color : ℤ → ℤ → Rgb565) (old : Stage) (h : IsSound old) where
 
   -- the drawn buffer may be started
   pub can_start : ForSome r.drawn (CanStart p)
-  can_start = λ buf e. let d = h.refresher.drawn buf e in record { inside = drawn_inside old buf h e; small = omega (arith, d.small, h.can.limit) }
+  can_start = λ buf e. let d = h.refresher.drawn buf e in record {
+    inside = drawn_inside old buf h e;
+    small = omega (arith, d.small, h.can.limit);
+    blocks = subst (λ (k : BlockSize). IsRound (grid_over k (area_of p)) buf.area) (sym h.can.block) d.blocks;
+  }
 
 pub some_of : (o : Option Buffer) → is_some o ≡ true → (buf : Buffer) × (o ≡ Some buf)
 some_of None h = cc
@@ -386,7 +393,7 @@ pub record Comes (color : ℤ → ℤ → Rgb565) (old now : Stage) : Type 0 whe
   pub quiet : Quiet color old now
   pub counts : Counts old now 0 0
 
-pub begins : (color : ℤ → ℤ → Rgb565) (old : Stage) (e : Pending) → CanRefresh old → JoinsAll exact old.pending e → Comes color old (stage old.refresher old.panel e)
+pub begins : (color : ℤ → ℤ → Rgb565) (old : Stage) (e : Pending) → CanRefresh old → JoinsAll (grid_with old.refresher.sizes).round old.pending e → Comes color old (stage old.refresher old.panel e)
 begins color old e can joins = record { quiet = quiet_joined color old.refresher old.panel old.pending e can joins; counts = counts_none old old.refresher e refl }
 
 fewer_counts : (a b : Stage) (m w : ℕ) → Counts a b m w → Counts a b 0 0

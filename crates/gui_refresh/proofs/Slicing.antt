@@ -2,7 +2,7 @@
 use Rattle.std.proofs.Common.{◌≡◌, ◌∙◌, refl, ap, subst, ℕ, ◌+◌, ◌*◌, ◌/◌, ◌<◌, ◌≤◌, ◌==◌, ◌⊎◌, inl, inr, min, true, List, [], ◌∷◌, length, Some, arith}
 use Rattle.std.specs.Prelude.{None, ℤ}
 use Rattle.std.specs.declared.option.Option.{Option}
-use Rattle.std.proofs.Math.Nat.{mul-le-mul_left}
+use Rattle.std.proofs.Math.Nat.{mul-le-mul_right, lt-div-mul-add}
 use Rattle.std.proofs.lemmas.Bool.{cases_Bool, eqb-true, eqb-false}
 use Rattle.std.proofs.lemmas.Nat.{le-div}
 use Rattle.gui_base.specs.declared.color.Rgb565.{Rgb565}
@@ -10,46 +10,61 @@ use Rattle.gui_base.specs.Area.{Rect, width_of, height_of, size_of}
 use Rattle.gui_color.specs.Buffer.{Buffer}
 use Rattle.gui_edge.specs.Causes.{last_count}
 use Rattle.gui_edge.specs.Panel.{PanelState}
-use Rattle.gui_damage.specs.Joining.{exact, JoinsAll}
+use Rattle.gui_damage.specs.Joining.{JoinsAll}
 use Rattle.gui_damage.specs.Pending.{Pending, IsPending, most_areas}
 use Rattle.gui_base.specs.Lines.{top_lines}
-use Rattle.gui_damage.specs.Slices.{slice_lines, slice_of, left_after}
+use Rattle.gui_base.specs.Rounding.{Rounding, IsRounding}
+use Rattle.gui_damage.specs.Rounded.{pending_by, whole_steps, round_slice_of, left_round}
+use Rattle.gui_damage.specs.Slices.{slice_lines}
 use Rattle.gui_damage.proofs.Joins.{keeps_pixels}
 use Rattle.gui_damage.proofs.Lines.{height_top, size_pos}
+use Rattle.gui_damage.proofs.Rounds.{lines_taken, same_some}
 use Rattle.gui_damage.proofs.Slices.{first_within, first_some, width_within, left_whole}
 use Rattle.gui_refresh.specs.Refreshes.{Sends, failures_in, PumpsAt}
 use Rattle.gui_refresh.specs.Slicing.{DrawsSlices, Draws, DrawsOne, slice_steps}
-use Rattle.gui_refresh.specs.Stages.{Sizes, IsSizes, Refreshing, IsRefreshing, IsDrawn, Stage, stage, drawn_size}
+use Rattle.gui_refresh.specs.Stages.{Sizes, IsSizes, Refreshing, IsRefreshing, IsDrawn, Stage, stage, grid_with, drawn_size}
 use Rattle.gui_refresh.specs.Steps.{DrawnStep, GoesOnStep, StartAnswer, FlightAnswer}
 use Rattle.gui_refresh.proofs.Pumps.{none_drawn}
 use Rattle.gui_refresh.proofs.Steps.{IsSound, size_gone}
 use Rattle.owed_defs.specs.declared.Pumped.{Pumped}
 use Rattle.owed_defs.specs.declared.Pumped.TheVariants.{Idle, Moved, Waiting, Fault}
 
--- as many lines as the limit allows have more than half of the limit
-half : (limit width : ℕ) → 0 < width → width ≤ limit → limit ≤ 2 * (width * (limit / width))
-half limit width some fits =
-    let least : 1 ≤ limit / width = le-div 1 limit width some (omega (arith, fits)) in
-    let line = mul-le-mul_left width least in
-    omega (arith, line)
+-- as many whole steps of lines as the limit allows have more than half of the limit
+half_steps : (limit width lines steps step : ℕ) → limit < lines * width + width → lines < steps * step + step → 1 ≤ steps → limit ≤ 2 * (width * (steps * step))
+half_steps limit width lines steps step all below one =
+    let first = mul-le-mul_right step one in
+    let twice : lines + 1 ≤ 2 * (steps * step) = omega arith in
+    let line = mul-le-mul_right width twice in
+    let more : (lines + 1) * width ≡ lines * width + width = grind arith in
+    let same : 2 * (steps * step) * width ≡ 2 * (width * (steps * step)) = grind arith in
+    omega arith
+
+half : (limit width step : ℕ) → 0 < width → 0 < step → step * width ≤ limit → limit ≤ 2 * (width * (limit / width / step * step))
+half limit width step wide some fits =
+    let least : step ≤ limit / width = le-div step limit width wide fits in
+    half_steps limit width (limit / width) (limit / width / step) step (omega (arith, lt-div-mul-add {a = limit} {b = width} wide)) (omega (arith, lt-div-mul-add {a = limit / width} {b = step} some))
+    (le-div 1 (limit / width) step some (omega (arith, least)))
 
 -- The slice is the last of its area, which is listed no more, or it has half of the limit.
-pub ends_or_wide : (p : Pending) (limit : ℕ) (slice : Rect) → IsPending p → width_of p.panel ≤ limit → Some slice ≡ slice_of limit p.areas → (length (left_after limit p.areas) < length p.areas) ⊎ (limit ≤ 2 * size_of slice)
-ends_or_wide p limit slice h wide e = go p.areas h e where
-  go : (areas : List Rect) → IsPending (record { panel = p.panel; areas = areas }) → Some slice ≡ slice_of limit areas → (length (left_after limit areas) < length areas) ⊎ (limit ≤ 2 * size_of slice)
-  go [] h e = cc
-  go (first ∷ rest) h e = elim (cases_Bool (slice_lines limit first == height_of first)) [
-    | inl all ↦ inl (rw (left_whole limit first rest (eqb-true (slice_lines limit first) (height_of first) all)) (omega arith))
-    | inr short ↦
-        let cut = eqb-false (slice_lines limit first) (height_of first) short in
-        let sizes = size_pos first (first_some p.panel first rest h) in
-        let narrow = width_within p.panel first (first_within p.panel first rest h) h.some in
-        let lines : slice_lines limit first ≡ limit / width_of first = omega arith in
-        let is : slice ≡ top_lines first (slice_lines limit first) = cc in
-        let size : size_of slice ≡ width_of first * (limit / width_of first) =
-        ap size_of is ∙ (ap (λ (n : ℕ). width_of first * n) (height_top first (slice_lines limit first)) ∙ ap (λ (n : ℕ). width_of first * n) lines) in
-        inr (omega (arith, size, half limit (width_of first) sizes.0 (omega (arith, narrow, wide))))
-  ]
+pub ends_or_wide : (rules : Rounding) (limit : ℕ) (areas : List Rect) (slice : Rect) → IsRounding rules → IsPending (pending_by rules areas) → width_of rules.panel * rules.step ≤ limit → Some slice ≡ round_slice_of rules limit areas →
+    (length (left_round rules limit areas) < length areas) ⊎ (limit ≤ 2 * size_of slice)
+ends_or_wide rules limit [] slice is h wide e = cc
+ends_or_wide rules limit (first ∷ rest) slice is h wide e =
+    let most : ℕ = whole_steps rules limit first in
+    elim (cases_Bool (slice_lines most first == height_of first)) [
+      | inl all ↦ inl (rw (left_whole most first rest (eqb-true (slice_lines most first) (height_of first) all)) (omega arith))
+      | inr short ↦
+          let cut = eqb-false (slice_lines most first) (height_of first) short in
+          let below : slice_lines most first < height_of first = omega arith in
+          let sizes = size_pos first (first_some rules.panel first rest h) in
+          let narrow = mul-le-mul_right rules.step (width_within rules.panel first (first_within rules.panel first rest h) h.some) in
+          let least = is.least in
+          let lines = lines_taken rules limit first sizes.0 below in
+          let taken : slice ≡ top_lines first (slice_lines most first) = same_some slice (top_lines first (slice_lines most first)) e in
+          let size : size_of slice ≡ width_of first * (limit / width_of first / rules.step * rules.step) =
+          ap size_of taken ∙ (ap (λ (n : ℕ). width_of first * n) (height_top first (slice_lines most first)) ∙ ap (λ (n : ℕ). width_of first * n) lines) in
+          inr (omega (arith, size, half limit (width_of first) rules.step sizes.0 (omega arith) (omega (arith, narrow, wide))))
+    ]
 
 module _ (per_pixel per_slice : ℕ) where
   -- nothing was drawn
@@ -99,8 +114,8 @@ module _ (per_pixel per_slice : ℕ) where
       ]
 
   -- the areas were joined, and nothing was drawn yet
-  pub draws_joined : (old : Stage) (joined : Pending) (t : ℕ) → JoinsAll exact old.pending joined → Draws per_pixel per_slice old (stage old.refresher old.panel joined) 0 t t
-  draws_joined old joined t joins = let keeps = keeps_pixels exact _ _ joins.joins in draws_none old (stage old.refresher old.panel joined) 0 t t (omega (arith, keeps.fewer)) (omega arith) (omega arith)
+  pub draws_joined : (old : Stage) (joined : Pending) (t : ℕ) → JoinsAll (grid_with old.refresher.sizes).round old.pending joined → Draws per_pixel per_slice old (stage old.refresher old.panel joined) 0 t t
+  draws_joined old joined t joins = let keeps = keeps_pixels (grid_with old.refresher.sizes).round _ _ joins.joins in draws_none old (stage old.refresher old.panel joined) 0 t t (omega (arith, keeps.fewer)) (omega arith) (omega arith)
 
   -- what callers see of a refresh
   pub draws_slices : (old new : Stage) (failed from to : ℕ) → 0 < old.refresher.sizes.limit → length old.pending.areas ≤ most_areas → failed ≤ length new.pending.areas → drawn_size new.refresher.drawn ≤ old.refresher.sizes.limit →
@@ -184,8 +199,8 @@ module _ (per_pixel per_slice : ℕ) where
         draws_slice color old (stage s mid.panel e) old.pending from to (none_drawn color old h buf was (omega arith)) (ap (λ (p : PanelState). p.sent) step.goes_on.is) (omega arith) k steps
 
     -- one was drawn from the joined areas
-    pub draws_first : (d e : Pending) (s : Refreshing) (from to : ℕ) → old.refresher.drawn ≡ None → JoinsAll exact old.pending d → DrawnStep color old.refresher s d e → to ≤ from + slice_steps per_pixel per_slice s.drawn true → DrawsOne per_pixel per_slice old (stage s old.panel e) 0 from to
-    draws_first d e s from to none joins k steps = draws_slice color old (stage s old.panel e) d from to none refl (keeps_pixels exact _ _ joins.joins).fewer k steps
+    pub draws_first : (d e : Pending) (s : Refreshing) (from to : ℕ) → old.refresher.drawn ≡ None → JoinsAll (grid_with old.refresher.sizes).round old.pending d → DrawnStep color old.refresher s d e → to ≤ from + slice_steps per_pixel per_slice s.drawn true → DrawsOne per_pixel per_slice old (stage s old.panel e) 0 from to
+    draws_first d e s from to none joins k steps = draws_slice color old (stage s old.panel e) d from to none refl (keeps_pixels (grid_with old.refresher.sizes).round _ _ joins.joins).fewer k steps
 
     pub draws_waiting : (new : Stage) (from to : ℕ) → PumpsAt color old new Waiting → to ≤ from → DrawsOne per_pixel per_slice old new 0 from to
     draws_waiting new from to k same =

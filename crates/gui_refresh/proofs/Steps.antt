@@ -14,13 +14,13 @@ use Rattle.gui_edge.specs.KeepsTelling.{KeepsTelling}
 use Rattle.gui_edge.specs.Panel.{PanelState, area_of, CanStart, Starts, Started, StartFailed, Arrives, GoesOn, Breaks}
 use Rattle.gui_edge.proofs.Telling.{keeps_telling-some}
 use Rattle.gui_damage.specs.Adding.{AddsAll}
-use Rattle.gui_damage.specs.Joining.{exact, JoinsAll}
+use Rattle.gui_damage.specs.Joining.{JoinsAll}
 use Rattle.gui_damage.specs.Pending.{Pending, covered, total}
-use Rattle.gui_damage.specs.Slices.{left_after}
+use Rattle.gui_damage.specs.Rounded.{left_round}
 use Rattle.gui_damage.proofs.Joins.{keeps_pixels}
 use Rattle.gui_damage.proofs.Lines.{in_order}
 use Rattle.gui_damage.proofs.Listed.{within}
-use Rattle.gui_refresh.specs.Stages.{Sizes, Refreshing, IsRefreshing, Stage, stage, CanRefresh, Agrees, AgreesAt, drawn_size, to_send, work}
+use Rattle.gui_refresh.specs.Stages.{Sizes, Refreshing, IsRefreshing, Stage, stage, CanRefresh, Agrees, AgreesAt, panel_with, grid_with, drawn_size, to_send, work}
 use Rattle.gui_refresh.specs.Steps.{DrawnStep}
 use Rattle.gui_refresh.specs.Refreshes.{KeepsPanel, Keeps, Sends}
 use Rattle.gui_refresh.proofs.Agreement.{told_on, if_told, agrees_more, agrees_drawn, agrees_started, agrees_unstarted, agrees_arrived, agrees_waiting, agrees_failed}
@@ -121,7 +121,7 @@ pub size_gone : (o : Option Buffer) → o ≡ None → drawn_size o ≡ 0
 size_gone o e = rw e refl
 
 -- all pixels of the panel of a sound stage
-pub panel_is : (now : Stage) → CanRefresh now → area_of now.panel ≡ area_at (pos 0) (pos 0) now.refresher.sizes.width now.refresher.sizes.height
+pub panel_is : (now : Stage) → CanRefresh now → area_of now.panel ≡ panel_with now.refresher.sizes
 panel_is now can = rw (can.width, can.height) refl
 
 pub drawn_inside : (now : Stage) (buf : Buffer) → IsSound now → now.refresher.drawn ≡ Some buf → is_within (area_of now.panel) buf.area ≡ true
@@ -136,12 +136,12 @@ agrees_on : (color : ℤ → ℤ → Rgb565) (p q : PanelState) (R : List Rgb565
 agrees_on color p q R a b d e f g same shows step h = subst (λ (area : Rect). IfSome q.shows (Agrees area color b f g)) (sym same) (told_on p.shows q.shows R _ _ shows step h)
 
 -- the areas were joined
-pub quiet_joined : (color : ℤ → ℤ → Rgb565) (r : Refreshing) (p : PanelState) (d e : Pending) → CanRefresh (stage r p d) → JoinsAll exact d e → Quiet color (stage r p d) (stage r p e)
+pub quiet_joined : (color : ℤ → ℤ → Rgb565) (r : Refreshing) (p : PanelState) (d e : Pending) → CanRefresh (stage r p d) → JoinsAll (grid_with r.sizes).round d e → Quiet color (stage r p d) (stage r p e)
 quiet_joined color r p d e can joins =
-    let keeps = keeps_pixels exact _ _ joins.joins in
+    let keeps = keeps_pixels (grid_with r.sizes).round _ _ joins.joins in
     let smaller = keeps.smaller in
     record {
-      can = record { width = can.width; height = can.height; limit = can.limit; area = joins.panel ∙ can.area; started = can.started; coming = can.coming };
+      can = record { width = can.width; height = can.height; limit = can.limit; block = can.block; area = joins.panel ∙ can.area; started = can.started; coming = can.coming };
       sizes = refl;
       panel = record { told = λ t. t; frames = refl; present_faults = refl; flush_faults = omega arith };
       agrees = if_told p.shows _ _ (λ colors. agrees_more (area_of p) color d.areas e.areas r.drawn p.coming colors keeps.covers);
@@ -150,8 +150,8 @@ quiet_joined color r p d e can joins =
       faults = refl;
     }
 
-pub work_joined : (r : Refreshing) (p : PanelState) (d e : Pending) → JoinsAll exact d e → work (stage r p e) ≤ work (stage r p d)
-work_joined r p d e joins = let smaller = (keeps_pixels exact _ _ joins.joins).smaller in omega arith
+pub work_joined : (r : Refreshing) (p : PanelState) (d e : Pending) → JoinsAll (grid_with r.sizes).round d e → work (stage r p e) ≤ work (stage r p d)
+work_joined r p d e joins = let smaller = (keeps_pixels (grid_with r.sizes).round _ _ joins.joins).smaller in omega arith
 
 module _ (color : ℤ → ℤ → Rgb565) (r : Refreshing) (p : PanelState) (d : Pending) (h : IsSound (stage r p d)) where
   abbrev old : Stage
@@ -170,6 +170,7 @@ module _ (color : ℤ → ℤ → Rgb565) (r : Refreshing) (p : PanelState) (d :
           width = ap (λ (s : PanelState). s.width) a.is ∙ h.can.width;
           height = ap (λ (s : PanelState). s.height) a.is ∙ h.can.height;
           limit = ap (λ (s : PanelState). s.limit) a.is ∙ h.can.limit;
+          block = ap (λ (s : PanelState). s.block) a.is ∙ h.can.block;
           area = h.can.area ∙ sym same;
           started = sym (is_gone q.coming gone);
           coming = for_none (λ b. b.limit ≡ r.sizes.limit) q.coming gone;
@@ -195,6 +196,7 @@ module _ (color : ℤ → ℤ → Rgb565) (r : Refreshing) (p : PanelState) (d :
           width = ap (λ (s : PanelState). s.width) a.is ∙ h.can.width;
           height = ap (λ (s : PanelState). s.height) a.is ∙ h.can.height;
           limit = ap (λ (s : PanelState). s.limit) a.is ∙ h.can.limit;
+          block = ap (λ (s : PanelState). s.block) a.is ∙ h.can.block;
           area = h.can.area ∙ sym same;
           started = h.can.started ∙ ap is_some (sym on);
           coming = λ b e. h.can.coming b (sym on ∙ e);
@@ -219,6 +221,7 @@ module _ (color : ℤ → ℤ → Rgb565) (r : Refreshing) (p : PanelState) (d :
           width = ap (λ (t : PanelState). t.width) s.is ∙ h.can.width;
           height = ap (λ (t : PanelState). t.height) s.is ∙ h.can.height;
           limit = ap (λ (t : PanelState). t.limit) s.is ∙ h.can.limit;
+          block = ap (λ (t : PanelState). t.block) s.is ∙ h.can.block;
           area = h.can.area ∙ sym same;
           started = sym (is_there q.coming buf a.coming);
           coming = for_one (λ b. b.limit ≡ r.sizes.limit) q.coming buf a.coming (h.refresher.drawn buf was).limit;
@@ -236,13 +239,13 @@ module _ (color : ℤ → ℤ → Rgb565) (r : Refreshing) (p : PanelState) (d :
   -- a slice was drawn
   pub quiet_drawn : (s : Refreshing) (e : Pending) → r.drawn ≡ None → DrawnStep color r s d e → Quiet color old (stage s p e)
   quiet_drawn s e none k =
-      let left = left_after r.sizes.limit d.areas in
+      let left = left_round (grid_with r.sizes) r.sizes.limit d.areas in
       let takes = k.takes in
       let sizes = takes.sizes in
       let fewer = takes.fewer in
       subst (λ (t : Refreshing). Quiet color old (stage t p e)) (sym k.refresher)
       (subst (λ (e : Pending). Quiet color old (stage (record r { drawn = Some k.buf; free = s.free }) p e)) (sym k.pending) (record {
-        can = record { width = h.can.width; height = h.can.height; limit = h.can.limit; area = h.can.area; started = h.can.started; coming = h.can.coming };
+        can = record { width = h.can.width; height = h.can.height; limit = h.can.limit; block = h.can.block; area = h.can.area; started = h.can.started; coming = h.can.coming };
         sizes = refl;
         panel = record { told = λ t. t; frames = refl; present_faults = refl; flush_faults = omega arith };
         agrees = if_told p.shows _ _ (λ colors t. agrees_drawn (area_of p) color d.areas left k.buf p.coming colors takes.each k.paints (subst (λ (c : Option Buffer). Agreed d.areas c p.coming colors) none t));
@@ -273,6 +276,7 @@ module _ (color : ℤ → ℤ → Rgb565) (r : Refreshing) (p : PanelState) (d :
           width = ap (λ (s : PanelState). s.width) a.is ∙ h.can.width;
           height = ap (λ (s : PanelState). s.height) a.is ∙ h.can.height;
           limit = ap (λ (s : PanelState). s.limit) a.is ∙ h.can.limit;
+          block = ap (λ (s : PanelState). s.block) a.is ∙ h.can.block;
           area = adds.panel ∙ (h.can.area ∙ sym same);
           started = sym (is_gone q.coming gone);
           coming = for_none (λ b. b.limit ≡ r.sizes.limit) q.coming gone;
@@ -297,6 +301,7 @@ module _ (color : ℤ → ℤ → Rgb565) (r : Refreshing) (p : PanelState) (d :
           width = ap (λ (t : PanelState). t.width) s.is ∙ h.can.width;
           height = ap (λ (t : PanelState). t.height) s.is ∙ h.can.height;
           limit = ap (λ (t : PanelState). t.limit) s.is ∙ h.can.limit;
+          block = ap (λ (t : PanelState). t.block) s.is ∙ h.can.block;
           area = adds.panel ∙ (h.can.area ∙ sym same);
           started = h.can.started ∙ (is_gone p.coming free ∙ sym (is_gone q.coming a.coming));
           coming = for_none (λ b. b.limit ≡ r.sizes.limit) q.coming a.coming;

@@ -5,17 +5,27 @@ use Rattle.std.specs.declared.option.Option.{Option}
 use Rattle.std.specs.Option.{ForSome}
 use Rattle.gui_base.specs.declared.color.Rgb565.{Rgb565}
 use Rattle.gui_base.specs.Area.{Rect, area_at, has, is_within, size_of}
+use Rattle.gui_base.specs.Grids.{BlockSize, IsGridded, grid_over}
 use Rattle.gui_base.specs.Limits.{Bounds}
+use Rattle.gui_base.specs.Rounding.{Rounding, IsRound}
 use Rattle.gui_color.specs.Buffer.{Buffer, color_at}
 use Rattle.gui_edge.specs.Panel.{PanelState, area_of}
 use Rattle.gui_damage.specs.Pending.{Pending, covered, total}
 use Rattle.owed_defs.specs.Progress.{Progress, one_if}
 
--- the sizes of a panel in pixels, and how many pixels a slice may have
+-- the sizes of a panel in pixels, how many pixels a slice may have, and the blocks that the panel takes
 pub record Sizes : Type 0 where
   pub width : ℕ
   pub height : ℕ
   pub limit : ℕ
+  pub block : BlockSize
+
+-- all pixels of the panel, and its grid of blocks
+abbrev pub panel_with : Sizes → Rect
+panel_with sizes = area_at (pos 0) (pos 0) sizes.width sizes.height
+
+abbrev pub grid_with : Sizes → Rounding
+grid_with sizes = grid_over sizes.block (panel_with sizes)
 
 pub record IsSizes (sizes : Sizes) : Type 0 where
   pub some_width : 1 ≤ sizes.width
@@ -25,9 +35,17 @@ pub record IsSizes (sizes : Sizes) : Type 0 where
   -- a slice has a line at least, and the panel's pixels at most
   pub least_limit : sizes.width ≤ sizes.limit
   pub most_limit : sizes.limit ≤ sizes.width * sizes.height
+  -- the panel consists of whole blocks, and a slice has a row of them at least
+  pub whole : IsGridded sizes.block (panel_with sizes)
+  pub row : sizes.width * sizes.block.h ≤ sizes.limit
 
 abbrev pub sizes_of : Bounds → Sizes
-sizes_of limits = record { width = limits.width; height = limits.height; limit = limits.width * limits.lines }
+sizes_of limits = record {
+  width = limits.width;
+  height = limits.height;
+  limit = limits.width * limits.lines;
+  block = limits.block;
+}
 
 -- What callers see of a refresher: the sizes that it was opened for, the drawn buffer that waits, how many
 -- buffers are free, and whether one was started and has not come back.
@@ -39,8 +57,9 @@ pub record Refreshing : Type 0 where
 
 -- a buffer was drawn for a panel of these sizes
 pub record IsDrawn (sizes : Sizes) (buf : Buffer) : Type 0 where
-  pub inside : is_within (area_at (pos 0) (pos 0) sizes.width sizes.height) buf.area ≡ true
+  pub inside : is_within (panel_with sizes) buf.area ≡ true
   pub small : size_of buf.area ≤ sizes.limit
+  pub blocks : IsRound (grid_with sizes) buf.area
   pub limit : buf.limit ≡ sizes.limit
 
 -- what holds of each refresher: there are two buffers in all
@@ -57,13 +76,14 @@ pub record Stage : Type 0 where
 abbrev pub stage : Refreshing → PanelState → Pending → Stage
 stage refresher panel pending = record { refresher = refresher; panel = panel; pending = pending }
 
--- The panel is opened with the refresher's sizes, and the pending areas are of it. It has a transfer in
+-- The panel is opened with the refresher's sizes and blocks, and the pending areas are of it. It has a transfer in
 -- flight exactly where the refresher has started a buffer that it has not got back. A buffer in flight has
 -- the refresher's limit.
 pub record CanRefresh (now : Stage) : Type 0 where
   pub width : now.panel.width ≡ now.refresher.sizes.width
   pub height : now.panel.height ≡ now.refresher.sizes.height
   pub limit : now.panel.limit ≡ now.refresher.sizes.limit
+  pub block : now.panel.block ≡ now.refresher.sizes.block
   pub area : now.pending.panel ≡ area_of now.panel
   pub started : now.refresher.started ≡ is_some now.panel.coming
   pub coming : ForSome now.panel.coming (λ buf. buf.limit ≡ now.refresher.sizes.limit)

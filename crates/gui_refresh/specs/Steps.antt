@@ -5,11 +5,13 @@ use Rattle.gui_base.specs.declared.color.Rgb565.{Rgb565}
 use Rattle.gui_base.specs.Area.{has, size_of}
 use Rattle.gui_color.specs.Buffer.{Buffer, color_at}
 use Rattle.gui_damage.specs.Adding.{added}
-use Rattle.gui_damage.specs.Joining.{exact, JoinsAll}
+use Rattle.gui_base.specs.Rounding.{IsRound}
+use Rattle.gui_damage.specs.Joining.{JoinsAll}
 use Rattle.gui_damage.specs.Pending.{Pending, IsPending}
-use Rattle.gui_damage.specs.Slices.{slice_of, left_after, Takes}
+use Rattle.gui_damage.specs.Rounded.{round_slice_of, left_round}
+use Rattle.gui_damage.specs.Slices.{Takes}
 use Rattle.gui_edge.specs.Panel.{Starts, Started, StartFailed, Arrives, GoesOn, Breaks}
-use Rattle.gui_refresh.specs.Stages.{Refreshing, Stage}
+use Rattle.gui_refresh.specs.Stages.{Refreshing, Stage, grid_with}
 use Rattle.owed_defs.specs.declared.Pumped.{Pumped}
 use Rattle.owed_defs.specs.declared.Pumped.TheVariants.{Idle, Moved, Waiting, Fault}
 
@@ -54,17 +56,20 @@ pub record UnstartedStep (old new : Stage) : Type 0 where
   pub pending : new.pending ≡ added old.pending buf.area
   pub sound : IsPending old.pending
 
--- the next slice was drawn into a free buffer, which then waits
+-- the next slice, of whole blocks, was drawn into a free buffer, which then waits
 pub record DrawnStep (color : ℤ → ℤ → Rgb565) (old new : Refreshing) (before after : Pending) : Type 0 where
   pub buf : Buffer
   pub refresher : new ≡ record old { drawn = Some buf; free = new.free }
   pub one_less : old.free ≡ new.free + 1
-  pub slice : Some buf.area ≡ slice_of old.sizes.limit before.areas
-  pub pending : after ≡ record before { areas = left_after old.sizes.limit before.areas }
-  pub takes : Takes before.panel old.sizes.limit before.areas (left_after old.sizes.limit before.areas)
-      buf.area
+  pub slice : Some buf.area ≡ round_slice_of (grid_with old.sizes) old.sizes.limit before.areas
+  pub pending : after ≡ record before {
+    areas = left_round (grid_with old.sizes) old.sizes.limit before.areas;
+  }
+  pub takes : Takes before.panel old.sizes.limit before.areas
+      (left_round (grid_with old.sizes) old.sizes.limit before.areas) buf.area
+  pub blocks : IsRound (grid_with old.sizes) buf.area
   -- the slice is the last of its area, which is listed no more, or it has half of the limit
-  pub cut : (length (left_after old.sizes.limit before.areas) < length before.areas)
+  pub cut : (length (left_round (grid_with old.sizes) old.sizes.limit before.areas) < length before.areas)
       ⊎ (old.sizes.limit ≤ 2 * size_of buf.area)
   pub limit : buf.limit ≡ old.sizes.limit
   pub paints : (x y : ℤ) → has buf.area x y ≡ true → color_at buf.area buf.pixels x y ≡ color x y
@@ -103,7 +108,7 @@ pub record DrawnFirst (color : ℤ → ℤ → Rgb565) (old new : Stage) : Type 
   pub none : old.refresher.drawn ≡ None
   pub panel : new.panel ≡ old.panel
   pub joined : Pending
-  pub joins : JoinsAll exact old.pending joined
+  pub joins : JoinsAll (grid_with old.refresher.sizes).round old.pending joined
   pub drawn : DrawnStep color old.refresher new.refresher joined new.pending
 
 -- a transfer goes on, and nothing else could be done

@@ -5,11 +5,11 @@ ghost use Rattle.std.specs.Option.{ForSome};
 ghost use Rattle.gui_base.specs.Area.{area_at, has, is_empty, size_of, width_of};
 ghost use Rattle.gui_base.specs.Bounded.{bounds_of};
 ghost use Rattle.gui_base.specs.Corners.{rect_of};
-ghost use Rattle.gui_base.specs.Gridded.{HasPixels};
+ghost use Rattle.gui_base.specs.Gridded.{block_of, size_in};
 ghost use Rattle.gui_color.specs.Buffer.{color_at};
 ghost use Rattle.gui_damage.specs.Gridded.{listed_in};
 ghost use Rattle.gui_edge.specs.Panel.{CanStart};
-ghost use Rattle.gui_refresh.specs.Stages.{CanRefresh, IsRefreshing, sizes_of, stage};
+ghost use Rattle.gui_refresh.specs.Stages.{CanRefresh, IsRefreshing, panel_with, sizes_of, stage};
 ghost use Rattle.gui_refresh.specs.Steps.{DrawAnswer, StartAnswer, FlightAnswer};
 ghost use Rattle.gui_refresh.specs.Refreshes.{RefreshesAt, PumpsAt, failures_in};
 ghost use Rattle.gui_refresh.specs.Slicing.{DrawsOne, DrawsSlices, slice_steps};
@@ -17,7 +17,7 @@ ghost use Rattle.gui_refresh.specs.Sums.{color_sum};
 
 use crate::spares::Spares;
 use crate::{Refreshed, listed};
-use gui_base::{Area, Grid, Limits, NoMemory, Rgb565, Steps};
+use gui_base::{Area, Block, Grid, Limits, NoMemory, Rgb565, Steps};
 use gui_color::DrawBuf;
 use gui_damage::Damage;
 use gui_draw::Picture;
@@ -27,13 +27,14 @@ use std::alloc::Global;
 use std::marker::Model;
 use std::sync::ledger::Ledger;
 
-/// Two buffers that slices of a picture are painted into, for a panel of some sizes. One may be drawn and
-/// wait while the other is in flight.
+/// Two buffers that slices of a picture are painted into, for a panel of some sizes and blocks. One may be
+/// drawn and wait while the other is in flight.
 #[derive(Drop)]
 pub struct Refresher {
     width: u32,
     height: u32,
     limit: u32,
+    block: Block,
     spares: Spares,
     drawn: Option<DrawBuf>,
     started: bool,
@@ -41,12 +42,18 @@ pub struct Refresher {
 
 impl Model for Refresher {
     ghost use Rattle.std.specs.Prelude.{◌≡◌};
+    ghost use Rattle.gui_base.specs.Gridded.{size_in};
     ghost use Rattle.gui_refresh.specs.Stages.{Refreshing, IsRefreshing};
 
     ghost Value = { Refreshing };
 
     ghost view = { λ r. record {
-      sizes = record { width = r.width; height = r.height; limit = r.limit };
+      sizes = record {
+        width = r.width;
+        height = r.height;
+        limit = r.limit;
+        block = size_in r.block;
+      };
       drawn = r.drawn;
       free = r.spares.count;
       started = r.started;
@@ -54,7 +61,12 @@ impl Model for Refresher {
 
     ghost invariant = { λ r.
         IsRefreshing (record {
-          sizes = record { width = r.width; height = r.height; limit = r.limit };
+          sizes = record {
+            width = r.width;
+            height = r.height;
+            limit = r.limit;
+            block = size_in r.block;
+          };
           drawn = r.drawn;
           free = r.spares.count;
           started = r.started;
@@ -79,6 +91,7 @@ impl Refresher {
             width: limits.width,
             height: limits.height,
             limit,
+            block: limits.block,
             spares: Spares::new(one, other, limit),
             drawn: None,
             started: false,
@@ -87,7 +100,7 @@ impl Refresher {
 
     /// Joins the pending areas, and pumps until nothing is pending, drawn or in flight. It stops at the first
     /// start or transfer that fails, whose slice is pending again. `steps` counts the pixels that are made
-    /// black as each slice begins, and what painting it takes. The blocks of `damage` are single pixels.
+    /// black as each slice begins, and what painting it takes. The blocks of `damage` are the refresher's.
     pub fn refresh<Q: Picture, P: Panel, L: Ledger>(
         &mut self,
         picture: &Q,
@@ -96,7 +109,7 @@ impl Refresher {
         steps: &mut Steps<L>,
     ) -> Refreshed
         requires can { CanRefresh (stage self.old (P.state panel.old) (listed_in damage.old)) }
-        requires pixels { HasPixels damage.old.round }
+        requires blocks { block_of damage.old.round ≡ self.old.sizes.block }
         ensures round { damage.new.round ≡ damage.old.round }
         ensures refreshes { RefreshesAt (Q.color picture.now)
             (stage self.old (P.state panel.old) (listed_in damage.old))
@@ -107,7 +120,7 @@ impl Refresher {
         // Looking at the refresher and at the list tells that both are sound.
         let _started = self.is_started();
         let _areas = damage.areas();
-        listed::join_all(damage);
+        damage.join_all();
         loop {
             match self.pump(picture, damage, panel, steps) {
                 Pumped::Idle => return Refreshed::Done,
@@ -120,7 +133,7 @@ impl Refresher {
     /// Goes one step on. Where a transfer is in flight it is polled; where that ends it, this is the step.
     /// Else, where nothing is in flight, a drawn buffer that waits is started. Else the next slice is drawn
     /// into a free buffer, where there is one and something is pending; the areas are joined first where
-    /// nothing is in flight. `steps` counts as in a refresh. The blocks of `damage` are single pixels.
+    /// nothing is in flight. `steps` counts as in a refresh. The blocks of `damage` are the refresher's.
     pub fn pump<Q: Picture, P: Panel, L: Ledger>(
         &mut self,
         picture: &Q,
@@ -129,7 +142,7 @@ impl Refresher {
         steps: &mut Steps<L>,
     ) -> Pumped
         requires can { CanRefresh (stage self.old (P.state panel.old) (listed_in damage.old)) }
-        requires pixels { HasPixels damage.old.round }
+        requires blocks { block_of damage.old.round ≡ self.old.sizes.block }
         ensures round { damage.new.round ≡ damage.old.round }
         ensures pumps { PumpsAt (Q.color picture.now)
             (stage self.old (P.state panel.old) (listed_in damage.old))
@@ -145,7 +158,7 @@ impl Refresher {
         if self.is_drawn() {
             return self.start(damage, panel);
         }
-        listed::join_all(damage);
+        damage.join_all();
         if self.draw(picture, damage, steps) {
             Pumped::Moved
         } else {
@@ -164,7 +177,7 @@ impl Refresher {
         requires can { CanRefresh (stage self.old (P.state panel.old) (listed_in damage.old)) }
         requires sound { IsRefreshing self.old }
         requires started { self.old.started ≡ true }
-        requires pixels { HasPixels damage.old.round }
+        requires blocks { block_of damage.old.round ≡ self.old.sizes.block }
         ensures round { damage.new.round ≡ damage.old.round }
         ensures pumps { PumpsAt (Q.color picture.now)
             (stage self.old (P.state panel.old) (listed_in damage.old))
@@ -203,10 +216,10 @@ impl Refresher {
 
     /// Asks how the transfer in flight stands. `None`: it goes on.
     fn poll<P: Panel>(&mut self, damage: &mut Damage<Grid>, panel: &mut P) -> Option<Pumped>
+        requires can { CanRefresh (stage self.old (P.state panel.old) (listed_in damage.old)) }
         requires flying { IsSome (P.state panel.old).coming }
-        requires limit { ForSome (P.state panel.old).coming (λ buf. buf.limit ≡ self.old.sizes.limit) }
         requires started { self.old.started ≡ true }
-        requires pixels { HasPixels damage.old.round }
+        requires blocks { block_of damage.old.round ≡ self.old.sizes.block }
         ensures round { damage.new.round ≡ damage.old.round }
         ensures step { FlightAnswer (stage self.old (P.state panel.old) (listed_in damage.old))
             (stage self.new (P.state panel.new) (listed_in damage.new)) result }
@@ -237,28 +250,32 @@ impl Refresher {
 
     /// Starts the drawn buffer.
     fn start<P: Panel>(&mut self, damage: &mut Damage<Grid>, panel: &mut P) -> Pumped
+        requires can { CanRefresh (stage self.old (P.state panel.old) (listed_in damage.old)) }
         requires drawn { IsSome self.old.drawn }
         requires free { (P.state panel.old).coming ≡ None }
         requires started { self.old.started ≡ false }
         requires part { ForSome self.old.drawn (CanStart (P.state panel.old)) }
-        requires pixels { HasPixels damage.old.round }
+        requires blocks { block_of damage.old.round ≡ self.old.sizes.block }
         ensures round { damage.new.round ≡ damage.old.round }
         ensures step { StartAnswer (stage self.old (P.state panel.old) (listed_in damage.old))
             (stage self.new (P.state panel.new) (listed_in damage.new)) result }
     {
         match self.drawn.take() {
             None => unreachable!(),
-            Some(buf) => match panel.start(buf) {
-                Ok(()) => {
-                    self.started = true;
-                    Pumped::Moved
+            Some(buf) => {
+                let area = buf.area();
+                match panel.start(buf) {
+                    Ok(()) => {
+                        self.started = true;
+                        Pumped::Moved
+                    }
+                    Err((Failed, back)) => {
+                        listed::add(damage, area);
+                        self.spares.put(back);
+                        Pumped::Fault
+                    }
                 }
-                Err((Failed, back)) => {
-                    listed::add(damage, back.area());
-                    self.spares.put(back);
-                    Pumped::Fault
-                }
-            },
+            }
         }
     }
 
@@ -270,9 +287,8 @@ impl Refresher {
         damage: &mut Damage<Grid>,
         steps: &mut Steps<L>,
     ) -> bool
-        requires pixels { HasPixels damage.old.round }
-        requires area { (listed_in damage.old).panel
-            ≡ area_at (pos 0) (pos 0) self.old.sizes.width self.old.sizes.height }
+        requires blocks { block_of damage.old.round ≡ self.old.sizes.block }
+        requires area { (listed_in damage.old).panel ≡ panel_with self.old.sizes }
         requires none { 0 < self.old.free → self.old.drawn ≡ None }
         ensures round { damage.new.round ≡ damage.old.round }
         ensures step { DrawAnswer (Q.color picture.now) self.old self.new
@@ -282,7 +298,7 @@ impl Refresher {
     {
         match self.spares.take() {
             None => false,
-            Some(mut buf) => match listed::take_slice(damage, self.limit) {
+            Some(mut buf) => match damage.take_slice(self.limit) {
                 None => {
                     self.spares.put(buf);
                     false

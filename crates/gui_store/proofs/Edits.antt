@@ -22,6 +22,7 @@ use Rattle.scene_defs.proofs.Distinct.{distinct_once}
 use Rattle.gui_store.proofs.Rows.{row_count, times, times-preorder, length-preorder, value-set, inserted-count, replaced-count, have-rows, without-count, without-spare, without-handles, without-set, without-texts, listed-forest}
 use Rattle.gui_store.proofs.Shown.{shown, shown-handles, shown-count, shown-aside, shown-set, shown-without}
 use Rattle.gui_store.proofs.Kept.{read-on, read-off, Left, answered, done, there-is, object-is, read-at, within, vacant, counted, tree-answer, Fine}
+use Rattle.scene_defs.specs.Valid.{HasWholeBlocks}
 
 -- where no slots are taken and none are freed
 stay : (s : Styles) (need freed : Pool → ℕ) → ((q : Pool) → (need q ≡ 0) × (freed q ≡ 0)) → AreSlots s s need freed
@@ -470,7 +471,7 @@ pub record AreNew (s : Styles) (limits : Bounds) : Type 0 where
   pub uses : length s.book.uses ≡ 65536
 
 -- The first rows.
-module _ (tree : Trees) (limits : Bounds) (room : 3 ≤ limits.objects) (new : tree ≡ opened limits.objects) (t : Table KeptRow) (texts : ℕ) (keys : length t.values ≡ 10000) (empty : (h : ℕ) → value_at t h ≡ None) (free : t.spare ≡ limits.objects) (chunks_free : texts ≡ limits.texts) (styles : Styles) (bare : AreNew styles limits) (fonts : FontSet) (images : ImageSet) (letters : fonts ≡ no_fonts limits.fonts limits.glyphs limits.ink) (pictures : images ≡ no_images limits.images limits.pixels) where
+module _ (tree : Trees) (limits : Bounds) (room : 3 ≤ limits.objects) (blocks : HasWholeBlocks limits) (new : tree ≡ opened limits.objects) (t : Table KeptRow) (texts : ℕ) (keys : length t.values ≡ 10000) (empty : (h : ℕ) → value_at t h ≡ None) (free : t.spare ≡ limits.objects) (chunks_free : texts ≡ limits.texts) (styles : Styles) (bare : AreNew styles limits) (fonts : FontSet) (images : ImageSet) (letters : fonts ≡ no_fonts limits.fonts limits.glyphs limits.ink) (pictures : images ≡ no_images limits.images limits.pixels) where
   abbrev a : KeptRow
   a = new_kept Layer
 
@@ -506,7 +507,7 @@ module _ (tree : Trees) (limits : Bounds) (room : 3 ≤ limits.objects) (new : t
   pub first-kept : AreKept first_parts × (scene_in first_parts ≡ first_scene limits)
   first-kept = (
     record {
-      valid = subst (λ (s : Scene). IsValid s) (sym first-shows) (first_is_valid limits room);
+      valid = subst (λ (s : Scene). IsValid s) (sym first-shows) (first_is_valid limits room blocks);
       handles = simp length-set keys;
       rows = λ h. rw (new, first-value h) (grind (arith, nat_tests));
       room = let e = ap (λ (x : Trees). x.spare) new in omega (arith, e, free);

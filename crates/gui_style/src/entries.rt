@@ -26,7 +26,7 @@ const SPREAD: u32 = 7_064_091;
 /// What is set, in a list for each owner, in the order of arrival. What an owner sets of one property is
 /// found without reading the rest.
 ///
-/// A contract sees the list of each owner, and how many more entries fit. An entry takes 56 to 64 bytes.
+/// A contract sees the list of each owner, and how many more entries fit. An entry takes 48 to 56 bytes.
 #[derive(Drop)]
 pub(crate) struct Entries {
     // By owner.

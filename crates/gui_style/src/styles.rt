@@ -42,7 +42,7 @@ const NO_SELECTOR: Selector = Selector {
 /// and how many more of each fit. Any handle and any number of a style may be given: what nothing was done to
 /// has no entries and uses no style.
 ///
-/// A style takes 20 to 24 bytes, an entry 56 to 64 and a use 52 to 60. Handles and numbers take no memory.
+/// A style takes 16 to 20 bytes, an entry 48 to 56 and a use 44 to 52. Handles and numbers take no memory.
 ///
 /// A call takes time by the number of entries or uses of the object or the style that it names; taking a use
 /// from an object, by the number of all uses of its style. A look-up

@@ -18,7 +18,7 @@ const NUMBERS: u32 = 65_536;
 /// The styles that each object uses, in the order of adding. The users of a style are found without a walk
 /// over the objects.
 ///
-/// A contract sees the list of each object, and how many more uses fit. A use takes 52 to 60 bytes.
+/// A contract sees the list of each object, and how many more uses fit. A use takes 44 to 52 bytes.
 #[derive(Drop)]
 pub(crate) struct Uses {
     // By handle.

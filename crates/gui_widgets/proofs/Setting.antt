@@ -6,11 +6,12 @@ use Rattle.std.proofs.lemmas.Int.{ints}
 use Rattle.std.proofs.lemmas.List.Elements.{All-nil, All-cons}
 use Rattle.gui_base.specs.Area.{Rect, width_of}
 use Rattle.gui_base.specs.Props.{is_value}
-use Rattle.gui_base.specs.declared.words.Kind.{Kind}
-use Rattle.gui_base.specs.declared.words.Kind.TheVariants as kind
 use Rattle.gui_base.specs.declared.props.Prop.TheVariants as prop
 use Rattle.widget_defs.specs.declared.ImageLook.{ImageLook}
-use Rattle.widget_defs.specs.Items.{Item, items, fill_of, ring_of, ink_of, picture_of, content_of, content_items, inset, share_area, knob_area, box_area, caption_area}
+use Rattle.widget_defs.specs.declared.kinds.Shown.{Shown}
+use Rattle.widget_defs.specs.declared.kinds.Shown.TheVariants as shown
+use Rattle.widget_defs.specs.Kinds.{shows}
+use Rattle.widget_defs.specs.Items.{Item, items, fill_of, ring_of, ink_of, picture_of, content_of, content_items, shown_items, inset, share_area, knob_area, box_area, caption_area}
 use Rattle.widget_defs.specs.Looks.{Look, PartValues, AreValues, number_of, text_look, left_look}
 use Rattle.widget_defs.specs.Sizes.{text_size}
 use Rattle.widget_defs.proofs.Captions.{count-is}
@@ -52,23 +53,23 @@ module _ (look : Look) (values : AreValues look.main) (width : ℕ) where
   picture-fits None content = All-nil Fits
   picture-fits (Some image) content = All-cons Fits _ [] tt (All-nil Fits)
 
-  content-fits : (k : Kind) (content : Rect) → width_of content ≤ width → (k ≡ kind.Checkbox → (text_size look None).0 ≤ widest_text) → All Fits (content_items k look content)
-  content-fits kind.Label content within caption =
+  shown-fits : (what : Shown) (content : Rect) → width_of content ≤ width → (what ≡ shown.BoxAndText → (text_size look None).0 ≤ widest_text) → All Fits (shown_items what look content)
+  shown-fits shown.Text content within caption =
       All-cons Fits (ink_of content look.main (text_look look.main)) [] (set_in content (omega arith)) (All-nil Fits)
-  content-fits kind.Image content within caption = picture-fits look.image content
-  content-fits kind.Bar content within caption = part-fits (share_area look content) look.indicator [] (All-nil Fits)
-  content-fits kind.Slider content within caption =
+  shown-fits shown.Picture content within caption = picture-fits look.image content
+  shown-fits shown.Share content within caption = part-fits (share_area look content) look.indicator [] (All-nil Fits)
+  shown-fits shown.ShareAndKnob content within caption =
       part-fits (share_area look content) look.indicator (fill_of (knob_area look content) look.knob ∷ ring_of (knob_area look content) look.knob ∷ [])
       (part-fits (knob_area look content) look.knob [] (All-nil Fits))
-  content-fits kind.Checkbox content within caption =
+  shown-fits shown.BoxAndText content within caption =
       let narrow = caption refl in
       let is : width_of (caption_area look content) ≡ (text_size look None).0 = count-is _ (text_size look None).0 in
       part-fits (box_area look content) look.indicator (ink_of (caption_area look content) look.main (left_look look.main) ∷ [])
       (All-cons Fits (ink_of (caption_area look content) look.main (left_look look.main)) [] (set_left (caption_area look content) (omega (arith, is, narrow))) (All-nil Fits))
-  content-fits k content within caption = All-nil Fits
+  shown-fits what content within caption = All-nil Fits
 
 pub texts-fit : (look : Look) (place : Rect) → AreValues look.main → IsCaption look → All (IsTextIn (width_of place)) (items look place)
 texts-fit look place values caption =
     let content = content_of place look.main in
     let is : width_of content ≡ width_of place - (inset look.main prop.PadLeft + inset look.main prop.PadRight) = count-is _ (width_of place - (inset look.main prop.PadLeft + inset look.main prop.PadRight)) in
-    part-fits look values (width_of place) place look.main (content_items look.kind look content) (content-fits look values (width_of place) look.kind content (omega (arith, is)) caption)
+    part-fits look values (width_of place) place look.main (content_items look.kind look content) (shown-fits look values (width_of place) (shows look.kind) content (omega (arith, is)) caption)

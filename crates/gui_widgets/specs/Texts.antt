@@ -1,11 +1,12 @@
 -- What drawing the text of an item asks for.
 use Rattle.std.specs.Prelude.{◌≡◌, ◌≤◌, ℕ, max, None}
-use Rattle.gui_base.specs.declared.words.Kind.TheVariants.{Checkbox}
 use Rattle.gui_base.specs.Area.{Rect, width_of}
 use Rattle.text_defs.specs.declared.TextLook.{TextLook}
 use Rattle.widget_defs.specs.declared.ItemPaint.{ItemPaint}
 use Rattle.widget_defs.specs.declared.ItemPaint.TheVariants.{Fill, Ring, Ink, Picture}
+use Rattle.widget_defs.specs.declared.kinds.Shown.TheVariants.{BoxAndText}
 use Rattle.widget_defs.specs.Items.{Item}
+use Rattle.widget_defs.specs.Kinds.{shows}
 use Rattle.widget_defs.specs.Looks.{Look}
 use Rattle.widget_defs.specs.Sizes.{text_size}
 
@@ -29,6 +30,6 @@ IsPaintIn most area (Picture image recolor opa) = Unit {0}
 abbrev pub IsTextIn : ℕ → Item → Type 0
 IsTextIn width item = IsPaintIn (max width widest_text) item.area item.paint
 
--- the text of a checkbox is no wider than a text can be
+-- a text beside a box is no wider than a text can be
 abbrev pub IsCaption : Look → Type 0
-IsCaption look = look.kind ≡ Checkbox → (text_size look None).0 ≤ widest_text
+IsCaption look = shows look.kind ≡ BoxAndText → (text_size look None).0 ≤ widest_text

@@ -18,8 +18,9 @@ use crate::look::{Item, Look};
 use crate::sizes::{box_side, text_offset, text_size};
 use crate::values::{byte, color, left_look, text_look};
 use arrayvec::ArrayVec;
-use gui_base::{Area, Kind, Prop};
+use gui_base::{Area, Prop};
 use gui_font::TextLook;
+use widget_defs::kinds::{Shown, shows};
 use widget_defs::{ImageLook, ItemPaint, Values};
 
 /// All that an object paints which stands in a place, from back to front. Its text can be drawn: it is set no
@@ -45,19 +46,20 @@ fn push_content(items: &mut ArrayVec<Item, 6>, look: &Look<'_>, content: Area)
         ≡ items_of items.old.items ++ content_items look.now.kind (widget_of look.now) (rect_of content) }
     ensures caption { IsCaption (widget_of look.now) }
 {
-    match look.kind {
-        Kind::Label => items.push(ink(content, &look.main, text_look(&look.main))),
-        Kind::Image => {
+    match shows(look.kind) {
+        Shown::Nothing => {}
+        Shown::Text => items.push(ink(content, &look.main, text_look(&look.main))),
+        Shown::Picture => {
             if let Some(image) = look.image {
                 items.push(picture(image, &look.main, content));
             }
         }
-        Kind::Bar => push_part(items, share_area(look, content), &look.indicator),
-        Kind::Slider => {
+        Shown::Share => push_part(items, share_area(look, content), &look.indicator),
+        Shown::ShareAndKnob => {
             push_part(items, share_area(look, content), &look.indicator);
             push_part(items, knob_area(look, content), &look.knob);
         }
-        Kind::Checkbox => {
+        Shown::BoxAndText => {
             push_part(items, box_area(look, content), &look.indicator);
             items.push(ink(
                 caption_area(look, content),
@@ -65,7 +67,6 @@ fn push_content(items: &mut ArrayVec<Item, 6>, look: &Look<'_>, content: Area)
                 left_look(&look.main),
             ));
         }
-        _ => {}
     }
 }
 

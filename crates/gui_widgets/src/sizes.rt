@@ -7,7 +7,8 @@ ghost use Rattle.widget_defs.specs.Sizes.{own_width, own_height, text_size, text
 
 use crate::look::Look;
 use crate::values::{number, text_look};
-use gui_base::{Kind, Prop};
+use gui_base::Prop;
+use widget_defs::kinds::{Shown, shows};
 
 /// The own width of an object: of a label its text's, where lines end at newlines alone, of an image its
 /// picture's, of a checkbox that of its box and its text with `pad_column` between them, and else 0.
@@ -16,13 +17,13 @@ pub fn own_width(look: &Look<'_>) -> i32
     ensures value { result ≡ pos (own_width (widget_of look.now)) }
     ensures small { result ≤ℤ pos 1000000 }
 {
-    match look.kind {
-        Kind::Label => text_size(look, None).0,
-        Kind::Image => match look.image {
+    match shows(look.kind) {
+        Shown::Text => text_size(look, None).0,
+        Shown::Picture => match look.image {
             None => 0,
             Some(image) => image.w as i32,
         },
-        Kind::Checkbox => text_offset(look) as i32 + text_size(look, None).0,
+        Shown::BoxAndText => text_offset(look) as i32 + text_size(look, None).0,
         _ => 0,
     }
 }
@@ -35,13 +36,13 @@ pub fn own_height(look: &Look<'_>, content: i32) -> i32
     ensures value { result ≡ pos (own_height (widget_of look.now) (nat_of content)) }
     ensures small { result ≤ℤ pos 1000000 }
 {
-    match look.kind {
-        Kind::Label => text_size(look, Some(content)).1,
-        Kind::Image => match look.image {
+    match shows(look.kind) {
+        Shown::Text => text_size(look, Some(content)).1,
+        Shown::Picture => match look.image {
             None => 0,
             Some(image) => image.h as i32,
         },
-        Kind::Checkbox => box_side(look).max(text_size(look, None).1),
+        Shown::BoxAndText => box_side(look).max(text_size(look, None).1),
         _ => 0,
     }
 }

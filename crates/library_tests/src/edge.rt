@@ -3,9 +3,10 @@
 ghost use Rattle.std.specs.Prelude.{◌≡◌, ◌≤◌, ◌<◌, None, true, false, pos, IfOk};
 ghost use Rattle.gui_base.specs.Area.{area_at, is_empty, is_within, size_of};
 ghost use Rattle.gui_base.specs.Corners.{rect_of};
+ghost use Rattle.gui_base.specs.Grids.{one_pixel};
 ghost use Rattle.gui_edge.specs.Panel.{CanStart};
 
-use gui_base::{Area, Rgb565, Steps};
+use gui_base::{Area, Block, Rgb565, Steps};
 use gui_color::DrawBuf;
 use gui_edge::{
     Failed, MemSink, MemSource, OpenFault, Panel, Polled, SimPanel, SimPlan, Sink, Source, StdSink,
@@ -129,6 +130,7 @@ fn black(alloc: Global, area: Area) -> Result<DrawBuf, Fail>
 /// A panel of two by two pixels, of which the first opening, the second start and the second poll fail.
 fn small_panel(alloc: Global) -> Result<SimPanel<MemSink>, Fail>
     ensures sizes { IfOk result (λ it. (it.width ≡ 2) × (it.height ≡ 2) × (it.limit ≡ 4)) }
+    ensures blocks { IfOk result (λ it. it.block ≡ one_pixel) }
     ensures still { IfOk result (λ it. it.coming ≡ None) }
 {
     let plan = SimPlan {
@@ -139,11 +141,11 @@ fn small_panel(alloc: Global) -> Result<SimPanel<MemSink>, Fail>
     };
     let frames = MemSink::with_capacity(alloc, 64, Vec::new(alloc))?;
     let mut panel = SimPanel::new(frames, plan);
-    match panel.open(alloc, 2, 2, 4) {
+    match panel.open(alloc, 2, 2, 4, Block { w: 1, h: 1 }) {
         Err(OpenFault::Failed) => {}
         _ => return Err(Fail::from("the first opening does not fail")),
     }
-    panel.open(alloc, 2, 2, 4)?;
+    panel.open(alloc, 2, 2, 4, Block { w: 1, h: 1 })?;
     Ok(panel)
 }
 
@@ -153,6 +155,7 @@ fn send(panel: &mut SimPanel<MemSink>, buf: DrawBuf) -> Result<bool, Fail>
     requires area { CanStart (⟦<SimPanel<MemSink> as Panel>⟧.state panel.old) buf }
     ensures sizes { (panel.new.width ≡ panel.old.width) × (panel.new.height ≡ panel.old.height)
         × (panel.new.limit ≡ panel.old.limit) }
+    ensures blocks { panel.new.block ≡ panel.old.block }
     ensures still { IfOk result (λ it. panel.new.coming ≡ None) }
 {
     match panel.start(buf) {
@@ -168,11 +171,13 @@ fn send(panel: &mut SimPanel<MemSink>, buf: DrawBuf) -> Result<bool, Fail>
 /// Sends black to two of the four pixels, and tells whether they show it.
 fn send_black(alloc: Global, panel: &mut SimPanel<MemSink>, area: Area) -> Result<bool, Fail>
     requires sizes { (panel.old.width ≡ 2) × (panel.old.height ≡ 2) × (panel.old.limit ≡ 4) }
+    requires blocks { panel.old.block ≡ one_pixel }
     requires free { panel.old.coming ≡ None }
     requires some { is_empty (rect_of area) ≡ false }
     requires two { size_of (rect_of area) ≡ 2 }
     requires inside { is_within (area_at (pos 0) (pos 0) 2 2) (rect_of area) ≡ true }
     ensures sizes { (panel.new.width ≡ 2) × (panel.new.height ≡ 2) × (panel.new.limit ≡ 4) }
+    ensures blocks { panel.new.block ≡ one_pixel }
     ensures still { IfOk result (λ it. panel.new.coming ≡ None) }
 {
     let buf = black(alloc, area)?;
@@ -194,6 +199,7 @@ fn shows(panel: &SimPanel<MemSink>, colors: [u16; 4]) -> bool
 /// Sends the lower line, and then the right column until it arrives.
 fn send_all(rt: &impl Abort, alloc: Global, panel: &mut SimPanel<MemSink>) -> Result<(), Fail>
     requires sizes { (panel.old.width ≡ 2) × (panel.old.height ≡ 2) × (panel.old.limit ≡ 4) }
+    requires blocks { panel.old.block ≡ one_pixel }
     requires free { panel.old.coming ≡ None }
     ensures opened { panel.new.limit ≡ 4 }
     ensures still { IfOk result (λ it. panel.new.coming ≡ None) }

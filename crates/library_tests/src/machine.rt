@@ -7,7 +7,7 @@ ghost use Rattle.gui_edge.specs.Panel.{HasSizes};
 ghost use Rattle.gui_play.specs.Panels.{CanSend};
 ghost use Rattle.scene_defs.specs.Valid.{IsChange};
 
-use gui_base::{Handle, Kind, Limits, Refusal, Rgb565, Steps};
+use gui_base::{Block, Handle, Kind, Limits, Refusal, Rgb565, Steps};
 use gui_core::{Gui, Pumped, Refreshed, Reply};
 use gui_edge::{MemSink, Panel, SimPanel, SimPlan};
 use run_defs::Command;
@@ -32,7 +32,7 @@ fn opened_panel(alloc: Global) -> Result<SimPanel<MemSink>, Fail>
         moves: Vec::new(alloc),
     };
     let mut panel = SimPanel::new(frames, plan);
-    match panel.open(alloc, 5, 3, 10) {
+    match panel.open(alloc, 5, 3, 10, Block { w: 1, h: 1 }) {
         Ok(()) => Ok(panel),
         Err(fault) => Err(Fail::from(fault)),
     }

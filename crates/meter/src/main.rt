@@ -11,7 +11,7 @@ mod fault;
 mod meter;
 
 use fault::Fault;
-use gui_base::Limits;
+use gui_base::{Block, Limits};
 use gui_core::Gui;
 use gui_edge::{MemSink, Panel, SimPanel, SimPlan, Sink, StdSink};
 use meter::{make_screen, set_number, show};
@@ -30,7 +30,7 @@ fn opened_panel<F: Sink + Drop>(alloc: Global, frames: F) -> Result<SimPanel<F>,
         moves: Vec::new(alloc),
     };
     let mut panel = SimPanel::new(frames, plan);
-    match panel.open(alloc, 64, 24, 512) {
+    match panel.open(alloc, 64, 24, 512, Block { w: 1, h: 1 }) {
         Ok(()) => Ok(panel),
         Err(fault) => Err(Fault::from(fault)),
     }

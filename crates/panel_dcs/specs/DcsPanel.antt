@@ -4,7 +4,9 @@ use Rattle.std.specs.Option.{ForSome}
 use Rattle.std.proofs.lemmas.List.FromFn.{length-map-range_with_len}
 use Rattle.std.specs.declared.option.Option.{Option}
 use Rattle.gui_base.specs.Area.{area_at, width_of, size_of, is_within}
+use Rattle.gui_base.specs.Grids.{BlockSize, one_pixel, grid_over}
 use Rattle.gui_base.specs.Ppm.{ppm}
+use Rattle.gui_base.specs.Rounding.{IsRound}
 use Rattle.gui_color.specs.Buffer.{Buffer}
 use Rattle.gui_edge.specs.Panel.{PanelState}
 use Rattle.gui_edge.specs.Sink.{SinkState}
@@ -23,6 +25,8 @@ pub record DcsState (Frames Link : Type 0) : Type 0 where
   pub turned : Turned
   -- how many pixels a buffer may have; 0 where the panel is not opened
   pub limit : ℕ
+  -- the panel takes whole blocks of this size
+  pub block : BlockSize
   -- the buffer in flight
   pub coming : Option Buffer
   -- how many rows of it were sent
@@ -30,15 +34,16 @@ pub record DcsState (Frames Link : Type 0) : Type 0 where
   pub sent : ℕ
   pub waits : ℕ
 
--- a buffer could be started on a panel of these sizes
-pub record Fits (width height limit : ℕ) (buf : Buffer) : Type 0 where
+-- a buffer could be started on a panel of these sizes and blocks
+pub record Fits (width height limit : ℕ) (block : BlockSize) (buf : Buffer) : Type 0 where
   pub inside : is_within (area_at (pos 0) (pos 0) width height) buf.area ≡ true
   pub small : size_of buf.area ≤ limit
+  pub blocks : IsRound (grid_over block (area_at (pos 0) (pos 0) width height)) buf.area
 
 -- the state, and that a buffer in flight could be started
 pub record DcsValue (Frames Link : Type 0) : Type 0 where
   pub state : DcsState Frames Link
-  pub flying : ForSome state.coming (Fits state.turned.width state.turned.height state.limit)
+  pub flying : ForSome state.coming (Fits state.turned.width state.turned.height state.limit state.block)
 
 -- where a panel tells what it shows, it tells each pixel
 pub each_of : (t : Turned) (chip : Option Chip) → IfSome (option_map (λ c. shown t c.memory) chip) (λ colors. length colors ≡ t.width * t.height)
@@ -52,6 +57,7 @@ unopened frames bus turn = record {
   bus = bus;
   turned = record { turn = turn; width = 0; height = 0 };
   limit = 0;
+  block = one_pixel;
   coming = None;
   row = 0;
   sent = 0;
@@ -69,6 +75,7 @@ dcs_state frames bus panel = record {
   width = panel.turned.width;
   height = panel.turned.height;
   limit = panel.limit;
+  block = panel.block;
   shows = option_map (λ chip. shown panel.turned chip.memory) (bus panel.bus).chip;
   frames = (frames panel.frames).held;
   coming = panel.coming;

@@ -1,6 +1,7 @@
 //! A panel over a bus.
 ghost use Rattle.std.specs.Prelude.{◌≡◌, ◌≤◌, ◌<◌, IsSome, None, OnOk, OnErr, IfErr};
 ghost use Rattle.std.specs.Option.{ForSome};
+ghost use Rattle.gui_base.specs.Gridded.{size_in};
 ghost use Rattle.gui_edge.specs.Causes.{HasCause, Rose};
 ghost use Rattle.gui_edge.specs.Panel.{CanOpen, OpenAnswer, PollAnswer, CanStart, Starts, Started, StartFailed};
 ghost use Rattle.gui_edge.specs.Panel.{Presents, WritesFrame, WritesPrefix};
@@ -15,6 +16,7 @@ use crate::picture::write_shown;
 use crate::row::{row_bytes, rows_of, window_of};
 use crate::transfer::{send_opening, send_start};
 use crate::turn::{Sizes, Turn};
+use gui_base::Block;
 use gui_color::DrawBuf;
 use gui_edge::{Failed, OpenFault, Panel, Polled, Sink};
 use std::alloc::Global;
@@ -49,14 +51,16 @@ pub struct DcsPanel<F: Sink, B: Bus> {
     bus: B,
     sizes: Sizes,
     limit: u32,
+    block: Block,
     coming: Option<DrawBuf>,
     row: u32,
     sent: u64,
     waits: u64,
-    ghost flying: { ForSome coming (Fits sizes.width sizes.height limit) },
+    ghost flying: { ForSome coming (Fits sizes.width sizes.height limit (size_in block)) },
 }
 
 impl<F: Sink, B: Bus> Model for DcsPanel<F, B> {
+    ghost use Rattle.gui_base.specs.Gridded.{size_in};
     ghost use Rattle.panel_dcs.specs.DcsPanel.{DcsValue, IsDcs};
     ghost use Rattle.panel_dcs.specs.Turning.{turned};
 
@@ -68,6 +72,7 @@ impl<F: Sink, B: Bus> Model for DcsPanel<F, B> {
         bus = p.bus;
         turned = turned p.sizes;
         limit = p.limit;
+        block = size_in p.block;
         coming = p.coming;
         row = p.row;
         sent = p.sent;
@@ -97,6 +102,7 @@ impl<F: Sink, B: Bus> DcsPanel<F, B> {
                 height: 0,
             },
             limit: 0,
+            block: Block { w: 1, h: 1 },
             coming: None,
             row: 0,
             sent: 0,
@@ -119,11 +125,12 @@ impl<F: Sink, B: Bus> DcsPanel<F, B> {
         width: u16,
         height: u16,
         limit: u32,
+        block: Block,
     ) -> Result<(), OpenFault>
         requires closed { self.old.state.limit ≡ 0 }
         requires sizes { CanOpen width height limit }
         ensures answer { OpenAnswer (dcs_state F.state B.state self.old.state)
-            (dcs_state F.state B.state self.new.state) width height limit result }
+            (dcs_state F.state B.state self.new.state) width height limit (size_in block) result }
         ensures opened { OnOk result (OpensBus (resized self.old.state.turned width height)
             (B.state self.old.state.bus) (B.state self.new.state.bus)) }
     {
@@ -140,6 +147,7 @@ impl<F: Sink, B: Bus> DcsPanel<F, B> {
                 Ok(()) => {
                     self.sizes = sizes;
                     self.limit = limit;
+                    self.block = block;
                     Ok(())
                 }
             },
@@ -208,16 +216,23 @@ impl<F: Sink, B: Bus> Panel for DcsPanel<F, B> {
 
     /// Opens the bus in the device's sizes, and sends what the controller wants to hear first: command 11, command 3A
     /// with the byte 55, and command 29. It fails exactly where one of these calls does.
-    fn open(&mut self, alloc: Global, width: u16, height: u16, limit: u32) -> Result<(), OpenFault>
+    fn open(
+        &mut self,
+        alloc: Global,
+        width: u16,
+        height: u16,
+        limit: u32,
+        block: Block,
+    ) -> Result<(), OpenFault>
         requires closed { self.old.state.limit ≡ 0 }
         requires sizes { CanOpen width height limit }
         ensures answer { OpenAnswer (dcs_state F.state B.state self.old.state)
-            (dcs_state F.state B.state self.new.state) width height limit result }
+            (dcs_state F.state B.state self.new.state) width height limit (size_in block) result }
 
         ensures opened { OnOk result (OpensBus (resized self.old.state.turned width height)
             (B.state self.old.state.bus) (B.state self.new.state.bus)) }
     {
-        self.open_bus(alloc, width, height, limit)
+        self.open_bus(alloc, width, height, limit, block)
     }
 
     /// Sends the columns and the pages of the turned area, and that colours come: commands 2A, 2B and 2C.
@@ -272,5 +287,9 @@ impl<F: Sink, B: Bus> Panel for DcsPanel<F, B> {
 
     ghost each = { λ p. each_of p.state.turned (B.state p.state.bus).chip };
 
-    ghost flying = { λ p buf is. let f = p.flying buf is in record { inside = f.inside; small = f.small } };
+    ghost flying = { λ p buf is. let f = p.flying buf is in record {
+      inside = f.inside;
+      small = f.small;
+      blocks = f.blocks;
+    } };
 }

@@ -110,7 +110,8 @@ impl Run {
         requires room { HasRoom self.old 1 }
         requires over { IsOver (V.machine viewed.old) self.old.talk }
         ensures reads { OnOk result (ReadsOn (V.machine viewed.old) self.old
-            (outs (O.state out.old) (L.state log.old)) (V.machine viewed.new) self.new (outs (O.state out.new) (L.state log.new)) (byte ∷ [])) }
+            (outs (O.state out.old) (L.state log.old)) (V.machine viewed.new) self.new
+            (outs (O.state out.new) (L.state log.new)) (byte ∷ [])) }
         ensures breaks { OnErr result (BreaksOff (V.machine viewed.old) self.old (outs (O.state out.old) (L.state log.old))
             (outs (O.state out.new) (L.state log.new)) (byte ∷ [])) }
         ensures causes { Causes (outs (O.state out.old) (L.state log.old)) (outs (O.state out.new) (L.state log.new)) result }
@@ -136,7 +137,8 @@ impl Run {
         requires room { HasRoom self.old (length piece.now) }
         requires over { IsOver (V.machine viewed.old) self.old.talk }
         ensures reads { OnOk result (ReadsOn (V.machine viewed.old) self.old
-            (outs (O.state out.old) (L.state log.old)) (V.machine viewed.new) self.new (outs (O.state out.new) (L.state log.new)) piece.now) }
+            (outs (O.state out.old) (L.state log.old)) (V.machine viewed.new) self.new
+            (outs (O.state out.new) (L.state log.new)) piece.now) }
         ensures breaks { OnErr result (BreaksOff (V.machine viewed.old) self.old (outs (O.state out.old) (L.state log.old))
             (outs (O.state out.new) (L.state log.new)) piece.now) }
         ensures causes { Causes (outs (O.state out.old) (L.state log.old)) (outs (O.state out.new) (L.state log.new)) result }

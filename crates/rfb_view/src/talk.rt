@@ -237,7 +237,8 @@ impl Talk {
         ensures stays { OnOk result (Stays self.old self.new) }
         ensures talks { OnOk result ((heard : List ℕ) → HasHeard self.old.hearing heard →
             Goes (outs (O.state out.old) (L.state log.old)) (outs (O.state out.new) (L.state log.new))
-            self.old (V.machine viewed.new) self.new (part_due self.old.ms (due_of self.old.due) heard (bare (V.machine viewed.old) self.old))) }
+            self.old (V.machine viewed.new) self.new
+            (part_due self.old.ms (due_of self.old.due) heard (bare (V.machine viewed.old) self.old))) }
         ensures broke { OnErr result ((heard : List ℕ) → HasHeard self.old.hearing heard →
             Broke (outs (O.state out.old) (L.state log.old)) (outs (O.state out.new) (L.state log.new))
             (part_due self.old.ms (due_of self.old.due) heard (bare (V.machine viewed.old) self.old))) }

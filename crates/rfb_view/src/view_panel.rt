@@ -1,12 +1,13 @@
 //! A panel in memory that never fails.
 ghost use Rattle.std.specs.Prelude.{◌≡◌, ◌*◌, ◌<◌, length, None, OnOk, IsOk, IfErr};
 ghost use Rattle.std.specs.Option.{ForSome};
+ghost use Rattle.gui_base.specs.Gridded.{size_in};
 ghost use Rattle.gui_edge.specs.Panel.{CanStart, Starts, Started, StartFailed};
 ghost use Rattle.gui_edge.specs.SimPanel.{IsFlying};
 ghost use Rattle.rfb_view.specs.ViewPanel.{view_state};
 
 use crate::canvas::Canvas;
-use gui_base::Rgb565;
+use gui_base::{Block, Rgb565};
 use gui_color::DrawBuf;
 use gui_edge::screen::panel_area;
 use gui_edge::sim_panel::UNWRITTEN;
@@ -21,14 +22,16 @@ pub struct ViewPanel {
     width: u16,
     height: u16,
     limit: u32,
+    block: Block,
     coming: Option<DrawBuf>,
     left: u64,
     sent: u64,
     ghost each: { length canvas ≡ width * height },
-    ghost flying: { ForSome coming (IsFlying width height limit) },
+    ghost flying: { ForSome coming (IsFlying width height limit (size_in block)) },
 }
 
 impl Model for ViewPanel {
+    ghost use Rattle.gui_base.specs.Gridded.{size_in};
     ghost use Rattle.rfb_view.specs.ViewPanel.{ViewState};
 
     ghost Value = { ViewState };
@@ -37,6 +40,7 @@ impl Model for ViewPanel {
       width = p.width;
       height = p.height;
       limit = p.limit;
+      block = size_in p.block;
       pixels = p.canvas;
       each = p.each;
       coming = p.coming;
@@ -62,6 +66,7 @@ impl ViewPanel {
             width: 0,
             height: 0,
             limit: 0,
+            block: Block { w: 1, h: 1 },
             coming: None,
             left: 0,
             sent: 0,
@@ -86,6 +91,7 @@ impl Panel for ViewPanel {
         width: u16,
         height: u16,
         limit: u32,
+        block: Block,
     ) -> Result<(), OpenFault> {
         let Ok(canvas) = Canvas::filled(alloc, UNWRITTEN, usize::from(width) * usize::from(height))
         else {
@@ -95,6 +101,7 @@ impl Panel for ViewPanel {
         self.width = width;
         self.height = height;
         self.limit = limit;
+        self.block = block;
         Ok(())
     }
 
@@ -134,5 +141,9 @@ impl Panel for ViewPanel {
 
     ghost each = { λ p. p.each };
 
-    ghost flying = { λ p buf is. let f = p.flying buf is in record { inside = f.inside; small = f.small } };
+    ghost flying = { λ p buf is. let f = p.flying buf is in record {
+      inside = f.inside;
+      small = f.small;
+      blocks = f.blocks;
+    } };
 }

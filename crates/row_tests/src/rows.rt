@@ -44,8 +44,10 @@ fn what_does_not_fit_is_cut(rt: HostRuntime) -> Result<(), Fail> {
 /// A percentage counts nothing in what its parent's content is as wide as.
 #[test]
 fn a_percentage_counts_nothing_in_a_content(rt: HostRuntime) -> Result<(), Fail> {
-    let script =
-        "new 10 3 obj\nsize 10 content 20\nflex 10 row\nlocal 10 main border_width 1\nlocal 10 main pad_top 2\nlocal 10 main pad_bottom 2\nlocal 10 main pad_left 2\nlocal 10 main pad_right 2\nnew 11 10 obj\nsize 11 30 10\nnew 12 10 obj\nsize 12 50% 10\n";
+    let script = "new 10 3 obj\nsize 10 content 20\nflex 10 row\nlocal 10 main border_width 1\n\
+         local 10 main pad_top 2\nlocal 10 main pad_bottom 2\nlocal 10 main pad_left 2\n\
+         local 10 main pad_right 2\nnew 11 10 obj\nsize 11 30 10\nnew 12 10 obj\n\
+         size 12 50% 10\n";
     let wanted = [
         Want::Place(10, [0, 0, 35, 19]),
         Want::Place(11, [3, 3, 32, 12]),
@@ -60,7 +62,8 @@ fn a_percentage_counts_nothing_in_a_content(rt: HostRuntime) -> Result<(), Fail>
 #[test]
 fn a_drag_scrolls_by_its_last_step(rt: HostRuntime) -> Result<(), Fail> {
     let script =
-        "new 10 3 obj\nsize 10 20 20\nflag 10 scrollable on\nnew 11 10 obj\nsize 11 10 60\ntouch 5 15\nrelease\ntouch 5 15\ntouch 5 10\ntouch 5 4\n";
+        "new 10 3 obj\nsize 10 20 20\nflag 10 scrollable on\nnew 11 10 obj\nsize 11 10 60\n\
+         touch 5 15\nrelease\ntouch 5 15\ntouch 5 10\ntouch 5 4\n";
     let wanted = [
         Want::Place(11, [0, -6, 9, 53]),
         Want::States(10, 1 << State::Scrolled.bit()),
@@ -86,8 +89,10 @@ fn a_text_is_broken_after_a_space(rt: HostRuntime) -> Result<(), Fail> {
 /// A word that does not fit is broken, and a text of no glyph is one empty cell.
 #[test]
 fn a_word_that_does_not_fit_is_broken(rt: HostRuntime) -> Result<(), Fail> {
-    let script =
-        "new 10 3 obj\nsize 10 48 content\nflex 10 column\nnew 11 10 label\nsize 11 50% content\ntext 11 \"abcdef\"\nnew 12 3 label\ntext 12 \"\u{e9}\"\nfont 1 2 2\nglyph 1 65 2 3 1 -1 0 E0\nendfont 1\nnew 13 3 label\nlocal 13 main text_font 1\ntext 13 \"A\"\n";
+    let script = "new 10 3 obj\nsize 10 48 content\nflex 10 column\nnew 11 10 label\n\
+         size 11 50% content\ntext 11 \"abcdef\"\nnew 12 3 label\ntext 12 \"\u{e9}\"\n\
+         font 1 2 2\nglyph 1 65 2 3 1 -1 0 E0\nendfont 1\nnew 13 3 label\n\
+         local 13 main text_font 1\ntext 13 \"A\"\n";
     let wanted = [
         Want::Place(10, [0, 0, 47, 15]),
         Want::Place(11, [0, 0, 23, 15]),
@@ -101,8 +106,8 @@ fn a_word_that_does_not_fit_is_broken(rt: HostRuntime) -> Result<(), Fail> {
 /// Three steps of an encoder take a slider to its end.
 #[test]
 fn a_turn_sets_a_slider(rt: HostRuntime) -> Result<(), Fail> {
-    let script =
-        "new 10 3 slider\ngroup 1\njoin 1 10\nencoder 1\nrange 10 0 5\nvalue 10 4\non 10 value_changed say\npush down\ntick 400\npush up\nturn 3\n";
+    let script = "new 10 3 slider\ngroup 1\njoin 1 10\nencoder 1\nrange 10 0 5\nvalue 10 4\n\
+         on 10 value_changed say\npush down\ntick 400\npush up\nturn 3\n";
     let wanted = [Want::Value(10, 5)];
     assert!(rt;
         is_so_after(

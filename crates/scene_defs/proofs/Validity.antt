@@ -38,7 +38,7 @@ use Rattle.style_defs.specs.Book.{Book, a_setting, a_use, an_entry}
 use Rattle.style_defs.specs.InOrder.{IsBook, IsBare}
 use Rattle.style_defs.proofs.Empty.{empty_in_order, empty_bare, no_entries, no_uses}
 use Rattle.style_defs.proofs.Changing.{Becomes, nobody, style_becomes, prop_becomes, unset_becomes, use_becomes, unuse_becomes, local_becomes, unlocal_becomes, all_forgets}
-use Rattle.scene_defs.specs.Valid.{have_kinds, in_order, is_root_object, is_plain, is_root_at, AreTrees, AreRows, AreAssets, is_among, is_font, is_image, font_names, image_names, FitPools, IsValid, IsChange, FirstIsValid, ChangeKeepsValid, ValidIsShowable}
+use Rattle.scene_defs.specs.Valid.{have_kinds, in_order, is_root_object, is_plain, is_root_at, AreTrees, AreRows, AreAssets, is_among, is_font, is_image, font_names, image_names, FitPools, HasWholeBlocks, IsValid, IsChange, FirstIsValid, ChangeKeepsValid, ValidIsShowable}
 use Rattle.scene_defs.proofs.Changes.{Fail, changed-by, passed, range_done, room_in_range, after_keeps, sets_row_alone}
 use Rattle.scene_defs.proofs.Distinct.{there, IsDistinct, distinct_once}
 use Rattle.scene_defs.proofs.Handles.{has-handles, depth-handles, parent-handles, below-handles, height-handles}
@@ -273,7 +273,16 @@ leaves scene (change.Delete h) v fits c t none =
     let once = once_at scene (change.Delete h) v in
     let roots = λ (k : ℕ) (stay : stays scene k ≡ true). roots-tree h.0 k e f (grind (arith, nat_tests, t.1.0, t.1.1.0, stay)) in
     let sums = λ (w : Object → ℕ). weight-total w e tree in
-    edited scene (change.Delete h) v _ _ (λ w. weight w e tree) (λ w. 0) (search (rules, sums, size-total tree, chunks-total tree))
+    edited scene (change.Delete h) v _ _ (λ w. weight w e tree) (λ w. 0) (record {
+      sums = λ w. omega (arith, cut w);
+      once = λ k. omega (arith, once k);
+      roots = λ k stay. omega (arith, roots k stay);
+      faults = omega arith;
+      low = omega arith;
+      handles = λ k. omega (arith, sums (one_at k));
+      objects = omega (arith, sums one, size-total tree);
+      texts = omega (arith, sums chunks, chunks-total tree);
+    })
 leaves scene (change.Parent h p) v fits c t none =
     let f = scene.trees in
     let tree = tree_below scene h.0 in
@@ -442,7 +451,8 @@ module _ (scene : Scene) (change : Change) (fits : is_in_range change ≡ true) 
       let fit = λ (pool : Pool). (pools_after pool).0 in
       let pools : FitPools (scene_after scene change) =
       search (rules, fit Objects, fit Styles, fit Entries, fit Uses, fit Texts, fit Fonts, fit Glyphs, fit Ink, fit Images, fit Pixels) in
-      search (rules, after_leaves, after_book, after_assets, named, pools)
+      let blocks = subst HasWholeBlocks (sym (after_keeps scene change)) v.blocks in
+      search (rules, after_leaves, after_book, after_assets, named, pools, blocks)
 
 pub change_keeps_valid : ChangeKeepsValid
 change_keeps_valid scene change v c = changed-by scene change IsValid v (λ e. let a = range_done _ _ e in after_valid scene change a.0 c a.1 v)
@@ -452,9 +462,9 @@ slots_add_up scene change pool v c e =
     let a = range_done (is_in_range change) (answer_in_range scene change) e in rw e (pools_after scene change a.0 c a.1 v pool).1
 
 pub first_is_valid : FirstIsValid
-first_is_valid limits room =
+first_is_valid limits room blocks =
     let once : StandsOnce (handles_of first_trees) = λ h. grind (arith, nat_tests) in
-    search (rules, nat_tests, once, no_text-in, empty_in_order, empty_bare, first_ready [], room, no_entries, no_uses)
+    search (rules, nat_tests, once, no_text-in, empty_in_order, empty_bare, first_ready [], room, blocks, no_entries, no_uses)
 
 pub valid_is_showable : ValidIsShowable
 valid_is_showable scene v = assumption v.trees

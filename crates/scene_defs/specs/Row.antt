@@ -8,7 +8,7 @@ use Rattle.gui_base.specs.declared.Handle.{Handle}
 use Rattle.gui_base.specs.declared.intervals.TheConstants.{EXTENT, PERCENT, COORDINATE, GROW, SCROLL, VALUE}
 use Rattle.gui_base.specs.declared.words.Flag.{Flag}
 use Rattle.gui_base.specs.declared.words.Kind.{Kind}
-use Rattle.gui_base.specs.declared.words.Kind.TheVariants.{Screen, Layer, Label, Image, Bar, Slider, Checkbox}
+use Rattle.gui_base.specs.declared.words.Kind.TheVariants.{Screen, Layer}
 use Rattle.gui_base.specs.declared.words.Length.{Length}
 use Rattle.gui_base.specs.declared.words.Length.TheVariants.{Pixels, Percent, Content}
 use Rattle.gui_base.specs.declared.words.Align.TheVariants.{TopLeft}
@@ -19,7 +19,7 @@ use Rattle.scene_defs.specs.declared.Feature.{Feature}
 use Rattle.scene_defs.specs.declared.Feature.TheVariants.{Text, Value, Picture}
 use Rattle.scene_defs.specs.declared.Row.{Row}
 use Rattle.gui_pool.specs.declared.chains.TextId.{TextId}
-use Rattle.widget_defs.specs.Kinds.{first_flags, first_width, first_height, first_flow}
+use Rattle.widget_defs.specs.Kinds.{facts, first_flags, first_width, first_height, first_flow}
 
 -- the kinds of roots
 abbrev pub is_root : Kind → Bool
@@ -107,18 +107,13 @@ with_range low high row =
 -- The kinds that have a value, a picture, and a text.
 
 abbrev pub has_value : Kind → Bool
-has_value Bar = true
-has_value Slider = true
-has_value kind = false
+has_value kind = (facts kind).value
 
 abbrev pub has_picture : Kind → Bool
-has_picture Image = true
-has_picture kind = false
+has_picture kind = (facts kind).picture
 
 abbrev pub has_text : Kind → Bool
-has_text Label = true
-has_text Checkbox = true
-has_text kind = false
+has_text kind = (facts kind).text
 
 abbrev pub has_feature : Feature → Kind → Bool
 has_feature Text kind = has_text kind

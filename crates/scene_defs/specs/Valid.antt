@@ -12,7 +12,8 @@ use Rattle.style_defs.specs.Book.{entries_in, uses_in}
 use Rattle.style_defs.specs.InOrder.{IsBook, IsBare}
 use Rattle.gui_base.specs.Forest.{Forest, Empty, Tree, all_by, roots, size, height, StandsOnce}
 use Rattle.gui_base.specs.Intervals.{is_counted, is_within}
-use Rattle.gui_base.specs.Limits.{Bounds}
+use Rattle.gui_base.specs.Grids.{IsGridded}
+use Rattle.gui_base.specs.Limits.{Bounds, panel_in}
 use Rattle.text_defs.specs.Building.{is_whole}
 use Rattle.text_defs.specs.Fonts.{Font, Glyph}
 use Rattle.text_defs.specs.Images.{Image}
@@ -133,6 +134,11 @@ pub record FitPools (scene : Scene) : Type 0 where
   pub images : length scene.images ≤ scene.limits.images
   pub pixels : sum_by pixel_count scene.images ≤ scene.limits.pixels
 
+-- The panel of these limits consists of whole blocks. It is no record, so that proofs that do not ask for its
+-- blocks do not look into it.
+pub data HasWholeBlocks (limits : Bounds) : Type 0 where
+  gridded : IsGridded limits.block (panel_in limits) → HasWholeBlocks limits
+
 -- a scene that is in order
 pub record IsValid (scene : Scene) : Type 0 where
   pub trees : AreTrees scene.trees scene.active
@@ -143,6 +149,7 @@ pub record IsValid (scene : Scene) : Type 0 where
   pub assets : AreAssets scene.fonts scene.images
   pub named : AreReady scene.fonts scene.book
   pub pools : FitPools scene
+  pub blocks : HasWholeBlocks scene.limits
 
 -- a kind, if there is one, is that of a plain object
 abbrev pub IsPlainKind : Option Kind → Type 0
@@ -157,9 +164,9 @@ IsChange change = IsPlainKind (kind_made change)
 abbrev pub ValidIsShowable : Type 0
 ValidIsShowable = (scene : Scene) → IsValid scene → IsShowable scene
 
--- the first scene is in order where its three roots fit
+-- the first scene is in order where its three roots fit, and its panel consists of whole blocks
 abbrev pub FirstIsValid : Type 0
-FirstIsValid = (limits : Bounds) → 3 ≤ limits.objects → IsValid (first_scene limits)
+FirstIsValid = (limits : Bounds) → 3 ≤ limits.objects → HasWholeBlocks limits → IsValid (first_scene limits)
 
 abbrev pub ChangeKeepsValid : Type 0
 ChangeKeepsValid =

@@ -15,6 +15,7 @@ use gui_pool::TextId;
 pub use rows::{MOST_BYTES, Rows};
 use text_defs::GlyphBox;
 pub use texts::{MOST_TEXT, Text};
+use widget_defs::kinds::facts;
 
 /// A change of the scene. No change holds a kind that only roots have.
 #[derive(Drop)]
@@ -91,14 +92,14 @@ pub enum Change<'a> {
     ImageRow(u16, u16, Rows<'a>),
 }
 
-/// What objects of some kinds have and others have not.
+/// What objects of some kinds have and others have not: their kind's row says which.
 #[derive(Clone, Copy, Debug, PartialEq, Eq)]
 pub enum Feature {
-    /// A text: labels and checkboxes.
+    /// A text.
     Text,
-    /// A value in a range: bars and sliders.
+    /// A value in a range.
     Value,
-    /// A picture: images.
+    /// A picture.
     Picture,
 }
 
@@ -110,9 +111,9 @@ impl Feature {
         ensures { result ≡ has_feature self kind }
     {
         match self {
-            Feature::Text => matches!(kind, Kind::Label | Kind::Checkbox),
-            Feature::Value => matches!(kind, Kind::Bar | Kind::Slider),
-            Feature::Picture => matches!(kind, Kind::Image),
+            Feature::Text => facts(kind).text,
+            Feature::Value => facts(kind).value,
+            Feature::Picture => facts(kind).picture,
         }
     }
 }

@@ -30,14 +30,20 @@ pub struct Screen {
     ghost shown: { IsShown gui panel },
 }
 
-/// A panel of the sizes that these limits have.
+/// A panel of the sizes and the blocks that these limits have.
 fn opened_panel(alloc: Global, limits: &Limits) -> Result<ViewPanel, NoMemory>
     ensures sizes { IfOk result (λ panel. HasSizes (view_state panel) (bounds_of limits.now)) }
     ensures still { IfOk result (λ panel. panel.coming ≡ None) }
 {
     let mut panel = ViewPanel::new();
     let limit = limits.width * limits.lines;
-    match panel.open(alloc, limits.width as u16, limits.height as u16, limit) {
+    match panel.open(
+        alloc,
+        limits.width as u16,
+        limits.height as u16,
+        limit,
+        limits.block,
+    ) {
         Ok(()) => Ok(panel),
         Err(_) => Err(NoMemory),
     }

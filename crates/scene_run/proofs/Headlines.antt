@@ -2,6 +2,7 @@
 use Rattle.std.proofs.Common.{◌≡◌, ◌∙◌, ◌<◌, ◌⊎◌, ap, subst, sym, false, rules, arith, refl, inl, inr, Option, Some, None, ℕ}
 use Rattle.std.specs.Option.{ForSome}
 use Rattle.std.proofs.KnownBytes.{Appends-nil}
+use Rattle.gui_base.specs.Grids.{BlockSize}
 use Rattle.gui_base.specs.Limits.{Bounds}
 use Rattle.run_defs.specs.Machine.{Machine, first_machine}
 use Rattle.gui_edge.specs.Causes.{Rose}
@@ -20,14 +21,14 @@ use Rattle.scene_run.specs.declared.status.Status.{Status}
 use Rattle.scene_run.specs.declared.status.Status.TheVariants.{Usage, ReadFault, WriteFault, PanelFault, NoMemory}
 
 -- opening a panel answers no line
-pub since_opening : (old new : PanelState) (width height limit : ℕ) → Opens old new width height limit → SinceOpening old new
-since_opening old new width height limit opens =
+pub since_opening : (old new : PanelState) (width height limit : ℕ) (block : BlockSize) → Opens old new width height limit block → SinceOpening old new
+since_opening old new width height limit block opens =
     let told = keeps_telling-some old.shows new.shows _ opens.shows in
     subst (SinceOpening old) (sym opens.is) (search (rules, Appends-nil, told))
 
 -- a frame that failed since the panel was opened failed since it was closed
-pub fault_since : (closed opened : PanelState) (width height limit : ℕ) → Opens closed opened width height limit → (A : Type 0) (after : ℕ) → A ⊎ Rose opened.present_faults after → A ⊎ Rose closed.present_faults after
-fault_since closed opened width height limit opens A after =
+pub fault_since : (closed opened : PanelState) (width height limit : ℕ) (block : BlockSize) → Opens closed opened width height limit block → (A : Type 0) (after : ℕ) → A ⊎ Rose opened.present_faults after → A ⊎ Rose closed.present_faults after
+fault_since closed opened width height limit block opens A after =
     subst (λ (n : ℕ). A ⊎ Rose n after) (ap (λ (p : PanelState). p.present_faults) opens.is)
 
 headline_by : (limits : Bounds) (old new : Outside) (status : Status) → RunsAs limits.make (first_machine limits) old new status → Headline (Some limits) old new status
@@ -40,8 +41,8 @@ none_of None h = refl
 none_of (Some buf) h = absurd (h buf refl)
 
 -- nothing is in flight on a panel that was just opened
-pub unstarted : (closed opened : PanelState) (width height limit : ℕ) → closed.limit ≡ 0 → ForSome closed.coming (CanStart closed) → Opens closed opened width height limit → opened.coming ≡ None
-unstarted closed opened width height limit none flying opens =
+pub unstarted : (closed opened : PanelState) (width height limit : ℕ) (block : BlockSize) → closed.limit ≡ 0 → ForSome closed.coming (CanStart closed) → Opens closed opened width height limit block → opened.coming ≡ None
+unstarted closed opened width height limit block none flying opens =
     ap (λ (p : PanelState). p.coming) opens.is ∙ none_of closed.coming (λ buf is. none_started closed buf none (flying buf is))
 
 -- the buffers of a machine that was just opened

@@ -48,7 +48,13 @@ pub fn run_scene<S: Source, L: Sink, P: Panel>(
         Err(NoMemory) => return Status::NoMemory,
     };
     let limit = limits.width * limits.lines;
-    match panel.open(alloc, limits.width as u16, limits.height as u16, limit) {
+    match panel.open(
+        alloc,
+        limits.width as u16,
+        limits.height as u16,
+        limit,
+        limits.block,
+    ) {
         Ok(()) => match limits.make {
             None => read_script(gui, source, log, panel),
             Some(k) => run_made(gui, k, &limits, log, panel),

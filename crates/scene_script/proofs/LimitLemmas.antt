@@ -2,16 +2,19 @@
 use Rattle.std.proofs.Common.{◌≡◌, ◌∙◌, refl, ap, sym, ℕ, Bool, true, false, true≢false, ◌≤◌, ◌<◌, ◌&&◌, ◌||◌, List, [], ◌∷◌, drop, length, arith}
 use Rattle.std.specs.Prelude.{Some, None, codes, option_map, unwrap_or, slice_get, pos, neg_ℤ, if◌then◌else◌, int_le, unsigned_abs}
 use Rattle.std.specs.declared.option.Option.{Option}
-use Rattle.std.specs.List.{list_any, list_all}
+use Rattle.std.specs.List.{list_any, list_all, before_first}
 use Rattle.std.proofs.lemmas.Int.{ints}
+use Rattle.std.proofs.lemmas.Bool.{and_parts, eqb-true}
 use Rattle.std.proofs.lemmas.Bool.Decides.{nat_tests}
 use Rattle.clap.specs.Matches.{first_value, matched_of, raw_values}
 use Rattle.clap.specs.declared.parser.matches.Found.{Found}
-use Rattle.gui_base.specs.Limits.{Bounds}
+use Rattle.gui_base.specs.Grids.{BlockSize}
+use Rattle.gui_base.specs.Limits.{Bounds, HaveBlocks}
 use Rattle.run_defs.specs.Language.{mapped}
 use Rattle.run_defs.specs.Numbers.{natural, number, within, value_of}
-use Rattle.run_defs.specs.Words.{if_said, limits_of, number_within, setting_of, sets_a_pool, sets_a_limit, with_width, with_height, with_pool, with_further}
+use Rattle.run_defs.specs.Words.{if_said, limits_of, number_within, setting_of, sets_a_pool, sets_a_limit, with_width, with_height, with_pool, with_further, is_x, sized, size_said, are_whole}
 use Rattle.scene_script.specs.CommandLine.{begins_with_dash, limits_by, Splits}
+use Rattle.scene_script.proofs.WordLemmas.{nothing_after}
 
 pub limits_split : (words : List (List ℕ)) → limits_of words ≡ limits_by (slice_get words 0) (slice_get words 1) (slice_get words 2) (drop 3 words)
 limits_split [] = refl
@@ -113,6 +116,22 @@ dash_has_none [] e = refl
 dash_has_none (a ∷ []) e = refl
 dash_has_none (a ∷ b ∷ []) e = refl
 dash_has_none (a ∷ b ∷ d ∷ words) e = first_dash a b d words (begins_with_dash a) refl e
+
+-- ---- the blocks
+
+-- a text without an x says no size
+pub no_size : (text : List ℕ) → list_any is_x text ≡ false → size_said text ≡ None
+unfolding natural number
+no_size text none = ap (λ (rest : List ℕ). sized (number_within 1 16 (before_first is_x text)) (number_within 1 16 rest)) (nothing_after is_x text none) ∙ no_second (number_within 1 16 (before_first is_x text)) where
+  no_second : (w : Option ℕ) → sized w (number_within 1 16 []) ≡ None
+  no_second None = refl
+  no_second (Some w) = refl
+
+pub blocks_of_test : (limits : Bounds) (block : BlockSize) → are_whole limits block ≡ true → HaveBlocks limits.width limits.height limits.lines block.w block.h
+blocks_of_test limits block whole =
+    let p = and_parts _ _ whole in
+    let q = and_parts _ _ p.0 in
+    record { wide = eqb-true _ _ q.0; high = eqb-true _ _ q.1; lined = eqb-true _ _ p.1 }
 
 -- ---- words that are split
 

@@ -5,9 +5,9 @@ use Rattle.std.specs.declared.option.Option.{Option}
 use Rattle.clap.specs.Matches.{first_value, matched_of, raw_values}
 use Rattle.clap.specs.declared.parser.matches.Found.{Found}
 use Rattle.gui_base.specs.Limits.{Bounds}
-use Rattle.run_defs.specs.Words.{number_within, setting_of, make_of, with_width, with_further}
+use Rattle.run_defs.specs.Words.{number_within, setting_of, make_of, block_of, with_width, with_further}
 use Rattle.scene_script.specs.declared.limits.Key.{Key}
-use Rattle.scene_script.specs.declared.limits.Key.TheVariants.{Slots, Make}
+use Rattle.scene_script.specs.declared.limits.Key.TheVariants.{Slots, Make, Blocks}
 
 -- whether a word begins as an option does
 abbrev pub begins_with_dash : List ℕ → Bool
@@ -29,7 +29,8 @@ limits_by (Some width) (Some height) None words = None
 limits_by (Some width) (Some height) (Some lines) words =
     with_further (with_width (number_within 1 1024 width) height lines) words
 
--- what a word sets of a pool, or of the made script
+-- what a word sets of a pool, of the made script, or of the blocks
 abbrev pub setting_by : Key → List ℕ → Option (List ℕ)
 setting_by (Slots pool) word = setting_of pool word
 setting_by Make word = make_of word
+setting_by Blocks word = block_of word

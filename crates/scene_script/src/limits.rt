@@ -6,14 +6,16 @@ ghost use Rattle.std.specs.List.{list_all, list_any};
 ghost use Rattle.clap.specs.Words.{found_of, kind_of};
 ghost use Rattle.clap.specs.declared.error.kind.ErrorKind.TheVariants.{OutOfMemory};
 ghost use Rattle.gui_base.specs.Bounded.{bounds_of};
+ghost use Rattle.gui_base.specs.Gridded.{size_in};
 ghost use Rattle.run_defs.specs.Words.{number_within, setting_of, sets_a_limit, with_pool, with_make};
-ghost use Rattle.run_defs.specs.Words.{with_further, with_width, limits_of};
+ghost use Rattle.run_defs.specs.Words.{size_said, are_whole, with_blocks, with_further, with_width, limits_of};
 ghost use Rattle.scene_script.specs.CommandLine.{begins_with_dash, limits_by, setting_by, Splits};
 
 use crate::numbers::natural;
+use crate::words::cut;
 use clap::error::ErrorKind;
 use clap::{Arg, ArgAction, ArgMatches, Command, Error};
-use gui_base::{Limits, NoMemory, POOLS, Pool};
+use gui_base::{Block, Limits, NoMemory, POOLS, Pool};
 use std::alloc::Global;
 
 /// The words of the command line, none of which begins with a dash, as `clap` splits them: three values, and
@@ -52,6 +54,8 @@ enum Key {
     Slots(Pool),
     /// The made script.
     Make,
+    /// The blocks that the panel takes.
+    Blocks,
 }
 
 /// What a word sets of this, if it does.
@@ -62,6 +66,7 @@ fn setting(word: &[u8], key: Key) -> Option<&[u8]>
     let rest = match key {
         Key::Slots(pool) => word.strip_prefix(pool.name().as_bytes())?,
         Key::Make => word.strip_prefix(b"make".as_slice())?,
+        Key::Blocks => word.strip_prefix(b"block".as_slice())?,
     };
     rest.strip_prefix(b"=".as_slice())
 }
@@ -75,12 +80,14 @@ fn sets_one(word: &[u8], pools: &[Pool]) -> bool
         .any(|pool| setting(word, Key::Slots(*pool)).is_some())
 }
 
-/// Whether a word sets a pool, or the made script.
+/// Whether a word sets a pool, the made script, or the blocks.
 #[tactic(auto, unfolding(run_defs::specs::Words::sets_a_pool))]
 fn sets_a_limit(word: &[u8]) -> bool
     ensures { result ≡ sets_a_limit word.now }
 {
-    sets_one(word, &POOLS) || setting(word, Key::Make).is_some()
+    sets_one(word, &POOLS)
+        || setting(word, Key::Make).is_some()
+        || setting(word, Key::Blocks).is_some()
 }
 
 /// What the first word that sets this sets of it, and the words after that one.
@@ -142,7 +149,7 @@ fn sizes(width: &[u8], height: &[u8], lines: &[u8]) -> Option<Limits>
     Some(Limits::with_sizes(width, height, lines))
 }
 
-/// Whether each word sets a pool, or the made script.
+/// Whether each word sets a pool, the made script, or the blocks.
 fn set_limits(words: &[&str]) -> bool
     ensures { result ≡ list_all sets_a_limit (map (λ w. w.now) words.now) }
 {
@@ -171,6 +178,48 @@ fn with_make(limits: Limits, words: &[&str]) -> Option<Limits>
     Some(limits)
 }
 
+/// The size of a block: two numbers from 1 to 16, with an x between them.
+#[tactic(auto, using(crate::proofs::LimitLemmas::no_size))]
+fn size_said(text: &[u8]) -> Option<Block>
+    ensures { option_map size_in result ≡ size_said text.now }
+{
+    match cut(text, b'x') {
+        (_, None) => None,
+        (width, Some(height)) => {
+            let w = number(width, 1, 16)?;
+            let h = number(height, 1, 16)?;
+            Some(Block { w, h })
+        }
+    }
+}
+
+/// Whether the panel of these limits and its draw buffer consist of whole blocks of this size.
+fn are_whole(limits: &Limits, block: Block) -> bool
+    ensures { result ≡ are_whole (bounds_of limits.now) (size_in block) }
+{
+    limits.width % block.w == 0 && limits.height % block.h == 0 && limits.lines % block.h == 0
+}
+
+/// The limits with what the words set of the blocks: nothing, or once a size of which they have whole ones.
+fn with_blocks(limits: Limits, words: &[&str]) -> Option<Limits>
+    ensures { option_map bounds_of result
+        ≡ with_blocks (map (λ w. w.now) words.now) (Some (bounds_of limits)) }
+{
+    let mut limits = limits;
+    let Some((text, later)) = first_setting(words, Key::Blocks) else {
+        return Some(limits);
+    };
+    if first_setting(later, Key::Blocks).is_some() {
+        return None;
+    }
+    let block = size_said(text)?;
+    if !are_whole(&limits, block) {
+        return None;
+    }
+    limits.set_block(block);
+    Some(limits)
+}
+
 /// The limits with what the words set of them.
 #[tactic(auto, unfolding(run_defs::specs::Words::with_further))]
 fn with_further(limits: Limits, words: &[&str]) -> Option<Limits>
@@ -180,7 +229,8 @@ fn with_further(limits: Limits, words: &[&str]) -> Option<Limits>
     if !set_limits(words) {
         return None;
     }
-    with_make(with_each(Some(limits), &POOLS, words)?, words)
+    let limits = with_make(with_each(Some(limits), &POOLS, words)?, words)?;
+    with_blocks(limits, words)
 }
 
 /// The limits of three words and of what follows them, if they have limits.
@@ -218,8 +268,8 @@ fn has_dash(words: &[&str]) -> bool
 }
 
 /// The limits that the words of the command line ask for, if they have limits: the width, the height and
-/// the lines, and then what they set of the pools, and which made script. A word that begins with a dash
-/// has none.
+/// the lines, and then what they set of the pools, which made script, and which blocks the panel takes. A word
+/// that begins with a dash has none.
 #[tactic(auto, using(crate::proofs::LimitLemmas::dash_has_none, crate::proofs::LimitLemmas::few_have_none))]
 pub fn limits_of(alloc: Global, words: &[&str]) -> Result<Option<Limits>, NoMemory>
     ensures { IfOk result (λ limits. option_map bounds_of limits ≡ limits_of (map (λ w. w.now) words.now)) }

@@ -100,7 +100,7 @@ fn run(rt: &HostRuntime, words: &[String]) -> u8 {
 /// What the program says of an input that it did not read to its end, by its exit status.
 fn message(status: u8) -> Option<&'static str> {
     match status {
-        2 => Some("usage: scene WIDTH HEIGHT LINES [POOL=COUNT]... [make=K]"),
+        2 => Some("usage: scene WIDTH HEIGHT LINES [POOL=COUNT]... [make=K] [block=BWxBH]"),
         3 => Some("read fault"),
         4 => Some("write fault"),
         5 => Some("panel fault"),

@@ -2,7 +2,7 @@
 ghost use Rattle.std.specs.Prelude.{◌≡◌, ◌≤◌};
 
 use arrayvec::ArrayVec;
-use gui_base::Rgb565;
+use gui_base::{Block, Rgb565};
 use gui_color::DrawBuf;
 use gui_edge::{Failed, MemSink, OpenFault, Panel, Polled, SimPanel};
 use scene_run::Status;
@@ -49,10 +49,11 @@ impl Panel for ListingPanel {
         width: u16,
         height: u16,
         limit: u32,
+        block: Block,
     ) -> Result<(), OpenFault> {
         self.width = 0;
         self.height = 0;
-        self.panel.open(alloc, width, height, limit)?;
+        self.panel.open(alloc, width, height, limit, block)?;
         self.width = width;
         self.height = height;
         Ok(())
@@ -74,7 +75,11 @@ impl Panel for ListingPanel {
 
     ghost each = { λ p. p.panel.each };
 
-    ghost flying = { λ p buf is. let f = p.panel.flying buf is in record { inside = f.inside; small = f.small } };
+    ghost flying = { λ p buf is. let f = p.panel.flying buf is in record {
+      inside = f.inside;
+      small = f.small;
+      blocks = f.blocks;
+    } };
 }
 
 /// Whether a script of which a frame is done starts these areas, has this log, and presents one white frame.
@@ -157,5 +162,25 @@ fn the_empty_script_leaves_the_panel_as_it_was_opened(rt: HostRuntime) -> Result
         }
     }
     assert_eq!(rt; panel.panel.into_frames().bytes(), &b""[..]);
+    Ok(())
+}
+
+#[test]
+fn a_pixel_that_changes_is_sent_with_its_block(rt: HostRuntime) -> Result<(), Fail> {
+    let alloc = rt.alloc();
+    let script = b"new 10 3 obj\nsize 10 1 1\npos 10 5 1\nlocal 10 main bg_opa 255\nframe\n\
+        local 10 main bg_color #FF0000\nframe\n";
+    let mut outside = Outside::new(alloc, Vec::from_slice(alloc, script)?, 4096, &[])?;
+    let mut panel = ListingPanel::new(outside.panel);
+    let status = run_over(
+        alloc,
+        &["8", "4", "4", "block=4x2"],
+        &mut outside.source,
+        &mut outside.log,
+        &mut panel,
+    );
+    assert_eq!(rt; status, Status::Done);
+    assert_eq!(rt; panel.corners.as_slice(), &[[0, 0, 7, 3], [4, 0, 7, 1]][..]);
+    assert_eq!(rt; panel.panel.sent(), 40);
     Ok(())
 }

@@ -2,6 +2,7 @@
 ghost use Rattle.std.specs.Prelude.{◌≡◌, IfOk};
 
 use arrayvec::ArrayVec;
+use gui_base::Block;
 use gui_color::DrawBuf;
 use gui_edge::{Failed, MemSink, MemSource, OpenFault, Panel, Polled, SimPanel, SimPlan};
 use scene_run::{Status, run_scene};
@@ -42,8 +43,9 @@ impl Panel for CountingPanel {
         width: u16,
         height: u16,
         limit: u32,
+        block: Block,
     ) -> Result<(), OpenFault> {
-        self.panel.open(alloc, width, height, limit)
+        self.panel.open(alloc, width, height, limit, block)
     }
 
     fn start(&mut self, buf: DrawBuf) -> Result<(), (Failed, DrawBuf)> {
@@ -63,7 +65,11 @@ impl Panel for CountingPanel {
 
     ghost each = { λ p. p.panel.each };
 
-    ghost flying = { λ p buf is. let f = p.panel.flying buf is in record { inside = f.inside; small = f.small } };
+    ghost flying = { λ p buf is. let f = p.panel.flying buf is in record {
+      inside = f.inside;
+      small = f.small;
+      blocks = f.blocks;
+    } };
 }
 
 /// What a run came to.

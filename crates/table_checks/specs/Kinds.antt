@@ -2,15 +2,13 @@
 use Rattle.std.specs.Prelude.{◌≡◌, ℕ, List, [], ◌∷◌, ◌++◌, map, codes, pos, Some, None, Ok}
 use Rattle.std.specs.declared.option.Option.{Option}
 use Rattle.gui_base.specs.declared.words.Align.TheVariants.{TopLeft}
-use Rattle.gui_base.specs.declared.words.Flow.{Flow}
-use Rattle.gui_base.specs.declared.words.Flow.TheVariants.{Free, Column}
 use Rattle.gui_base.specs.declared.words.Kind.{Kind}
 use Rattle.gui_base.specs.declared.words.Kind.TheVariants as kind
-use Rattle.gui_base.specs.declared.words.Length.{Length}
-use Rattle.gui_base.specs.declared.words.Length.TheVariants.{Pixels, Content}
 use Rattle.gui_base.specs.declared.words.Placing.TheVariants.{Start}
 use Rattle.gui_base.specs.declared.words.Part.TheVariants.{Scrollbar}
 use Rattle.style_defs.specs.Kinds.{KindRow, kind_rows, part_rows}
+use Rattle.widget_defs.specs.declared.kinds.KindFacts.{KindFacts}
+use Rattle.widget_defs.specs.Kinds.{facts}
 use Rattle.scene_defs.specs.Row.{new_row, no_name}
 use Rattle.scene_defs.specs.declared.Change.TheVariants as change
 use Rattle.scene_defs.specs.declared.Row.{Row}
@@ -19,17 +17,17 @@ use Rattle.run_defs.specs.declared.Line.TheVariants.{Make}
 use Rattle.run_defs.specs.Script.{Said, parse}
 
 -- a new object: its flags, wanted sizes and flow are its kind's, and all else is the same for each
-abbrev pub fresh : Kind → ℕ → Length → Length → Flow → Row
-fresh kind flags width height flow = record {
+abbrev pub fresh : Kind → KindFacts → Row
+fresh kind row = record {
   kind = kind;
-  flags = flags;
+  flags = row.flags;
   states = 0;
   x = pos 0;
   y = pos 0;
   align = TopLeft;
-  width = width;
-  height = height;
-  flow = flow;
+  width = row.width;
+  height = row.height;
+  flow = row.flow;
   places = (Start, Start, Start);
   grow = 0;
   scroll_x = pos 0;
@@ -41,18 +39,8 @@ fresh kind flags width height flow = record {
   text = no_name;
 }
 
--- Clickable is 2, checkable 4 and scrollable 16. Roots have the size of the panel, whatever theirs is.
-pub record NewRowsAreThese : Type 0 where
-  pub screen : new_row kind.Screen ≡ fresh kind.Screen 2 (Pixels 100) (Pixels 50) Free
-  pub layer : new_row kind.Layer ≡ fresh kind.Layer 0 (Pixels 100) (Pixels 50) Free
-  pub object : new_row kind.Obj ≡ fresh kind.Obj 2 (Pixels 100) (Pixels 50) Free
-  pub label : new_row kind.Label ≡ fresh kind.Label 0 Content Content Free
-  pub button : new_row kind.Button ≡ fresh kind.Button 2 Content Content Free
-  pub image : new_row kind.Image ≡ fresh kind.Image 0 Content Content Free
-  pub bar : new_row kind.Bar ≡ fresh kind.Bar 0 (Pixels 100) (Pixels 10) Free
-  pub slider : new_row kind.Slider ≡ fresh kind.Slider 2 (Pixels 100) (Pixels 10) Free
-  pub checkbox : new_row kind.Checkbox ≡ fresh kind.Checkbox 6 Content Content Free
-  pub list : new_row kind.List ≡ fresh kind.List 18 (Pixels 100) (Pixels 100) Column
+abbrev pub NewRowsAreThese : Type 0
+NewRowsAreThese = (kind : Kind) → new_row kind ≡ fresh kind (facts kind)
 
 -- what a line sets locally
 abbrev pub set_by : Said → Option KindRow

@@ -1,7 +1,8 @@
 -- The pools, and the limits that the words of the command line give them.
 use Rattle.std.specs.Prelude.{◌≡◌, ℕ, List, [], ◌∷◌, map, ◌++◌, Some, None, codes}
 use Rattle.std.specs.declared.option.Option.{Option}
-use Rattle.gui_base.specs.Limits.{Bounds}
+use Rattle.gui_base.specs.Grids.{one_pixel}
+use Rattle.gui_base.specs.Limits.{Bounds, with_sizes, with_block}
 use Rattle.gui_base.specs.Pools.{pool_name, least, most, default}
 use Rattle.gui_base.specs.declared.limits.Pool.{Pool}
 use Rattle.gui_base.specs.declared.limits.Pool.TheVariants.{Objects, Styles, Entries, Uses, Texts, Fonts}
@@ -46,6 +47,7 @@ plain = record {
   width = 4;
   height = 2;
   lines = 1;
+  block = one_pixel;
   objects = 256;
   styles = 64;
   entries = 1024;
@@ -109,6 +111,7 @@ LeastIsTaken =
       width = 4;
       height = 2;
       lines = 1;
+      block = one_pixel;
       objects = 3;
       styles = 0;
       entries = 0;
@@ -136,3 +139,34 @@ pub record SizesAreThese : Type 0 where
   pub no_height : asked (codes "4 0 1") ≡ None
   pub no_lines : asked (codes "4 2 0") ≡ None
   pub too_many_lines : asked (codes "4 2 3") ≡ None
+
+-- a panel of 8 by 4 pixels with a draw buffer of all its lines, and blocks of this size
+abbrev in_blocks : ℕ → ℕ → Bounds
+in_blocks w h = with_block (with_sizes 8 4 4) (record { w = w; h = h })
+
+-- the blocks that the panel takes
+pub record BlocksAreThese : Type 0 where
+  pub bytes : asked (codes "8 4 4 block=4x2") ≡ Some (in_blocks 4 2)
+  pub pixels : asked (codes "8 4 4 block=1x1") ≡ Some (in_blocks 1 1)
+  pub beside : asked (codes "8 4 4 fonts=0 block=8x4 make=7")
+      ≡ Some (record (in_blocks 8 4) { fonts = 0; make = Some 7 })
+  pub largest : asked (codes "16 16 16 block=16x16")
+      ≡ Some (with_block (with_sizes 16 16 16) (record { w = 16; h = 16 }))
+  -- the lines, the width and the height have whole blocks
+  pub lines : asked (codes "8 4 3 block=4x2") ≡ None
+  pub width : asked (codes "8 4 4 block=3x2") ≡ None
+  pub height : asked (codes "8 5 4 block=4x2") ≡ None
+  pub no_width : asked (codes "8 4 4 block=0x1") ≡ None
+  pub no_height : asked (codes "8 4 4 block=1x0") ≡ None
+  pub too_wide : asked (codes "17 4 4 block=17x1") ≡ None
+  pub too_high : asked (codes "8 17 17 block=1x17") ≡ None
+  pub twice : asked (codes "8 4 4 block=4x2 block=4x2") ≡ None
+  -- what is no size
+  pub none : asked (codes "8 4 4 block") ≡ None
+  pub nothing : asked (codes "8 4 4 block=") ≡ None
+  pub one_number : asked (codes "8 4 4 block=4") ≡ None
+  pub no_second : asked (codes "8 4 4 block=4x") ≡ None
+  pub no_first : asked (codes "8 4 4 block=x2") ≡ None
+  pub three : asked (codes "8 4 4 block=4x2x1") ≡ None
+  pub leading_zero : asked (codes "8 4 4 block=04x2") ≡ None
+  pub other_letter : asked (codes "8 4 4 block=4X2") ≡ None

@@ -3,7 +3,7 @@
 #![tactic(auto)]
 
 ghost use Rattle.table_checks.specs.Pools.{PoolsAreThese, DefaultsAreThese, MostIsTaken, MoreIsNot};
-ghost use Rattle.table_checks.specs.Pools.{LeastIsTaken, SizesAreThese};
+ghost use Rattle.table_checks.specs.Pools.{LeastIsTaken, SizesAreThese, BlocksAreThese};
 ghost use Rattle.table_checks.specs.Font.{SheetIsTheFont, LettersAreDrawn};
 ghost use Rattle.table_checks.specs.Numbers.{CountsAreThese, IntervalsAreThese, BoundsAreThese};
 ghost use Rattle.table_checks.specs.Properties.{PropertiesAreThese, StatesAreThese, FlagsAreThese};
@@ -19,6 +19,7 @@ pub fn pools()
     ensures more { MoreIsNot }
     ensures least { LeastIsTaken }
     ensures sizes { SizesAreThese }
+    ensures blocks { BlocksAreThese }
 {}
 
 /// The built-in font: its columns as they stand on a sheet of hexadecimal digits, and letters as they look.

@@ -126,7 +126,7 @@ impl Outside {
         })
     }
 
-    /// Runs with these words.
+    /// Runs with these words. It promises nothing, as `run_over` does.
     pub fn run(&mut self, alloc: Global, words: &[&str]) -> Status
         requires { self.old.panel.limit ≡ 0 }
     {

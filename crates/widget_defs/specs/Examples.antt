@@ -1,9 +1,13 @@
--- Items, own sizes and first values that were worked out by hand.
-use Rattle.std.specs.Prelude.{◌≡◌, ℕ, true, false, List, [], ◌∷◌, codes, Some, None, ℤ, pos, negsuc}
+-- Items and own sizes that were worked out by hand, and what each kind is.
+use Rattle.std.specs.Prelude.{◌≡◌, ℕ, ◌+◌, ◌^◌, true, false, List, [], ◌∷◌, codes, Some, None, ℤ, pos, negsuc}
 use Rattle.gui_base.specs.declared.color.Rgb565.{Rgb565}
+use Rattle.gui_base.specs.Bits.{flag_bit}
+use Rattle.gui_base.specs.declared.words.Flag.{Flag}
+use Rattle.gui_base.specs.declared.words.Flag.TheVariants.{Clickable, Checkable, Scrollable}
 use Rattle.gui_base.specs.declared.words.Kind.{Kind}
 use Rattle.gui_base.specs.declared.words.Kind.TheVariants as kind
 use Rattle.gui_base.specs.declared.words.Flow.TheVariants.{Free, Column}
+use Rattle.gui_base.specs.declared.words.Length.{Length}
 use Rattle.gui_base.specs.declared.words.Length.TheVariants.{Pixels, Content}
 use Rattle.gui_base.specs.declared.words.Part.TheVariants.{Main, Scrollbar, Indicator, Knob}
 use Rattle.gui_base.specs.declared.words.TextAlign.{TextAlign}
@@ -16,7 +20,9 @@ use Rattle.text_defs.specs.declared.TextLook.{TextLook}
 use Rattle.text_defs.specs.BuiltIn.{built_in}
 use Rattle.widget_defs.specs.declared.ItemPaint.TheVariants.{Fill, Ring, Ink, Picture}
 use Rattle.widget_defs.specs.Items.{Item, items, bars}
-use Rattle.widget_defs.specs.Kinds.{first_flags, first_width, first_height, first_flow}
+use Rattle.widget_defs.specs.declared.kinds.KindFacts.{KindFacts}
+use Rattle.widget_defs.specs.declared.kinds.Shown.TheVariants as shown
+use Rattle.widget_defs.specs.Kinds.{facts}
 use Rattle.widget_defs.specs.Looks.{Look, PartValues}
 use Rattle.widget_defs.specs.Sizes.{own_width, own_height}
 
@@ -287,15 +293,49 @@ pub record SizesAreWorked : Type 0 where
   pub no_image : own_width (new kind.Image 0 []) ≡ 0
   pub others : own_width (new kind.Button 0 (codes "ab")) ≡ 0
 
-pub record FirstValuesAreWorked : Type 0 where
-  pub checkbox : first_flags kind.Checkbox ≡ 6
-  pub label : first_flags kind.Label ≡ 0
-  pub slider : first_flags kind.Slider ≡ 2
-  pub bar_width : first_width kind.Bar ≡ Pixels 100
-  pub bar_height : first_height kind.Bar ≡ Pixels 10
-  pub button_width : first_width kind.Button ≡ Content
-  pub button_height : first_height kind.Button ≡ Content
-  pub object_height : first_height kind.Obj ≡ Pixels 50
-  pub list_height : first_height kind.List ≡ Pixels 100
-  pub list_flow : first_flow kind.List ≡ Column
-  pub button_flow : first_flow kind.Button ≡ Free
+-- The row of each kind, a second time: definitions and code cite one table, so a wrong entry would be true of
+-- both.
+
+-- one flag alone
+abbrev only : Flag → ℕ
+only flag = 2 ^ flag_bit flag
+
+-- a kind that paints nothing in its content area, with no feature and no flow
+abbrev bare : ℕ → Length → Length → KindFacts
+bare flags width height = record {
+  flags = flags;
+  width = width;
+  height = height;
+  flow = Free;
+  shows = shown.Nothing;
+  text = false;
+  value = false;
+  picture = false;
+  slides = false;
+}
+
+pub record KindsAreThese : Type 0 where
+  pub screen : facts kind.Screen ≡ bare (only Clickable) (Pixels 100) (Pixels 50)
+  pub layer : facts kind.Layer ≡ bare 0 (Pixels 100) (Pixels 50)
+  pub object : facts kind.Obj ≡ bare (only Clickable) (Pixels 100) (Pixels 50)
+  pub label : facts kind.Label ≡ record (bare 0 Content Content) { shows = shown.Text; text = true }
+  pub button : facts kind.Button ≡ bare (only Clickable) Content Content
+  pub image : facts kind.Image ≡ record (bare 0 Content Content) { shows = shown.Picture; picture = true }
+  pub bar :
+      facts kind.Bar ≡ record (bare 0 (Pixels 100) (Pixels 10)) { shows = shown.Share; value = true }
+  pub slider :
+      facts kind.Slider
+      ≡ record (bare (only Clickable) (Pixels 100) (Pixels 10)) {
+        shows = shown.ShareAndKnob;
+        value = true;
+        slides = true;
+      }
+  pub checkbox :
+      facts kind.Checkbox
+      ≡ record (bare (only Clickable + only Checkable) Content Content) {
+        shows = shown.BoxAndText;
+        text = true;
+      }
+  pub list :
+      facts kind.List
+      ≡ record (bare (only Clickable + only Scrollable) (Pixels 100) (Pixels 100)) { flow = Column }

@@ -4,7 +4,6 @@ use Rattle.std.specs.Prelude.{ℤ, pos, ◌+ℤ◌, ◌-ℤ◌}
 use Rattle.std.specs.declared.option.Option.{Option}
 use Rattle.gui_base.specs.declared.color.Rgb565.{Rgb565}
 use Rattle.gui_base.specs.declared.words.Kind.{Kind}
-use Rattle.gui_base.specs.declared.words.Kind.TheVariants as kind
 use Rattle.gui_base.specs.declared.props.Prop.{Prop}
 use Rattle.gui_base.specs.declared.props.Prop.TheVariants as prop
 use Rattle.gui_base.specs.Area.{Rect, area_at, common, width_of, height_of}
@@ -13,6 +12,9 @@ use Rattle.text_defs.specs.declared.TextLook.{TextLook}
 use Rattle.widget_defs.specs.declared.ImageLook.{ImageLook}
 use Rattle.widget_defs.specs.declared.ItemPaint.{ItemPaint}
 use Rattle.widget_defs.specs.declared.ItemPaint.TheVariants.{Fill, Ring, Ink, Picture}
+use Rattle.widget_defs.specs.declared.kinds.Shown.{Shown}
+use Rattle.widget_defs.specs.declared.kinds.Shown.TheVariants as shown
+use Rattle.widget_defs.specs.Kinds.{shows}
 use Rattle.widget_defs.specs.Looks.{Look, PartValues, number_of, text_look, left_look}
 use Rattle.widget_defs.specs.Sizes.{text_size, text_offset}
 
@@ -102,17 +104,21 @@ picture_of (Some image) values content =
     }
     ∷ []
 
--- what the kind of an object paints in its content area
-abbrev pub content_items : Kind → Look → Rect → List Item
-content_items kind.Label look content = ink_of content look.main (text_look look.main) ∷ []
-content_items kind.Image look content = picture_of look.image look.main content
-content_items kind.Bar look content = part_of (share_area look content) look.indicator
-content_items kind.Slider look content =
+-- what is painted in a content area
+abbrev pub shown_items : Shown → Look → Rect → List Item
+shown_items shown.Nothing look content = []
+shown_items shown.Text look content = ink_of content look.main (text_look look.main) ∷ []
+shown_items shown.Picture look content = picture_of look.image look.main content
+shown_items shown.Share look content = part_of (share_area look content) look.indicator
+shown_items shown.ShareAndKnob look content =
     part_of (share_area look content) look.indicator ++ part_of (knob_area look content) look.knob
-content_items kind.Checkbox look content =
+shown_items shown.BoxAndText look content =
     part_of (box_area look content) look.indicator
     ++ ink_of (caption_area look content) look.main (left_look look.main) ∷ []
-content_items kind look content = []
+
+-- what the kind of an object paints in its content area
+abbrev pub content_items : Kind → Look → Rect → List Item
+content_items kind look content = shown_items (shows kind) look content
 
 -- what an object of this area paints behind its children, from back to front
 abbrev pub items : Look → Rect → List Item

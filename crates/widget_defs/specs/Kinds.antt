@@ -1,50 +1,75 @@
--- What a new object of each kind has.
-use Rattle.std.specs.Prelude.{ℕ, ◌+◌, ◌^◌}
-use Rattle.gui_base.specs.Bits.{flag_bit}
-use Rattle.gui_base.specs.declared.words.Flag.{Flag}
-use Rattle.gui_base.specs.declared.words.Flag.TheVariants.{Clickable, Checkable, Scrollable}
+-- What a kind of object is: its row, and what is read off it.
+use Rattle.std.specs.Prelude.{ℕ, Bool, true, false}
 use Rattle.gui_base.specs.declared.words.Flow.{Flow}
-use Rattle.gui_base.specs.declared.words.Flow.TheVariants.{Free, Column}
 use Rattle.gui_base.specs.declared.words.Kind.{Kind}
 use Rattle.gui_base.specs.declared.words.Kind.TheVariants as kind
 use Rattle.gui_base.specs.declared.words.Length.{Length}
-use Rattle.gui_base.specs.declared.words.Length.TheVariants.{Pixels, Content}
+use Rattle.widget_defs.specs.declared.kinds.KindFacts.{KindFacts}
+use Rattle.widget_defs.specs.declared.kinds.Shown.{Shown}
+use Rattle.widget_defs.specs.declared.kinds.Shown.TheVariants as shown
+use Rattle.widget_defs.specs.declared.kinds.TheConstants.{SCREEN, LAYER, OBJ, LABEL, BUTTON, IMAGE, BAR}
+use Rattle.widget_defs.specs.declared.kinds.TheConstants.{SLIDER, CHECKBOX, LIST}
 
--- one flag alone
-abbrev pub only : Flag → ℕ
-only flag = 2 ^ flag_bit flag
+abbrev pub facts : Kind → KindFacts
+facts kind.Screen = SCREEN
+facts kind.Layer = LAYER
+facts kind.Obj = OBJ
+facts kind.Label = LABEL
+facts kind.Button = BUTTON
+facts kind.Image = IMAGE
+facts kind.Bar = BAR
+facts kind.Slider = SLIDER
+facts kind.Checkbox = CHECKBOX
+facts kind.List = LIST
 
--- the flags that are on
+-- the flags that are on at a new object
 abbrev pub first_flags : Kind → ℕ
-first_flags kind.Screen = only Clickable
-first_flags kind.Layer = 0
-first_flags kind.Obj = only Clickable
-first_flags kind.Label = 0
-first_flags kind.Button = only Clickable
-first_flags kind.Image = 0
-first_flags kind.Bar = 0
-first_flags kind.Slider = only Clickable
-first_flags kind.Checkbox = only Clickable + only Checkable
-first_flags kind.List = only Clickable + only Scrollable
+first_flags kind = (facts kind).flags
 
--- the wanted width and height; those of roots are not asked
+-- its wanted width and height; those of roots are not asked
 abbrev pub first_width : Kind → Length
-first_width kind.Label = Content
-first_width kind.Button = Content
-first_width kind.Image = Content
-first_width kind.Checkbox = Content
-first_width kind = Pixels 100
+first_width kind = (facts kind).width
 
 abbrev pub first_height : Kind → Length
-first_height kind.Label = Content
-first_height kind.Button = Content
-first_height kind.Image = Content
-first_height kind.Checkbox = Content
-first_height kind.Bar = Pixels 10
-first_height kind.Slider = Pixels 10
-first_height kind.List = Pixels 100
-first_height kind = Pixels 50
+first_height kind = (facts kind).height
 
 abbrev pub first_flow : Kind → Flow
-first_flow kind.List = Column
-first_flow kind = Free
+first_flow kind = (facts kind).flow
+
+-- what it paints in its content area
+abbrev pub shows : Kind → Shown
+shows kind = (facts kind).shows
+
+abbrev pub is_something : Shown → Bool
+is_something shown.Nothing = false
+is_something shown.Text = true
+is_something shown.Picture = true
+is_something shown.Share = true
+is_something shown.ShareAndKnob = true
+is_something shown.BoxAndText = true
+
+-- the parts that are painted there
+abbrev pub has_indicator : Shown → Bool
+has_indicator shown.Nothing = false
+has_indicator shown.Text = false
+has_indicator shown.Picture = false
+has_indicator shown.Share = true
+has_indicator shown.ShareAndKnob = true
+has_indicator shown.BoxAndText = true
+
+abbrev pub has_knob : Shown → Bool
+has_knob shown.Nothing = false
+has_knob shown.Text = false
+has_knob shown.Picture = false
+has_knob shown.Share = false
+has_knob shown.ShareAndKnob = true
+has_knob shown.BoxAndText = false
+
+-- whether it is of a size by itself
+abbrev pub has_size : Shown → Bool
+has_size shown.Nothing = false
+has_size shown.Text = true
+has_size shown.Picture = true
+has_size shown.Share = false
+has_size shown.ShareAndKnob = false
+has_size shown.BoxAndText = true

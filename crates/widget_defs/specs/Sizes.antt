@@ -2,10 +2,12 @@
 use Rattle.std.specs.Prelude.{ℕ, ◌+◌, max, Some, None}
 use Rattle.std.specs.declared.option.Option.{Option}
 use Rattle.gui_base.specs.declared.words.Kind.{Kind}
-use Rattle.gui_base.specs.declared.words.Kind.TheVariants as kind
 use Rattle.gui_base.specs.declared.props.Prop.TheVariants as prop
 use Rattle.text_defs.specs.Lines.{measured}
 use Rattle.widget_defs.specs.declared.ImageLook.{ImageLook}
+use Rattle.widget_defs.specs.declared.kinds.Shown.{Shown}
+use Rattle.widget_defs.specs.declared.kinds.Shown.TheVariants as shown
+use Rattle.widget_defs.specs.Kinds.{shows}
 use Rattle.widget_defs.specs.Looks.{Look, number_of, text_setting}
 
 -- the widest run of its text in so many pixels at most, and the height of its lines
@@ -21,17 +23,24 @@ image_size (Some image) = (image.w, image.h)
 abbrev pub text_offset : Look → ℕ
 text_offset look = look.face.height + number_of (look.main prop.PadColumn)
 
+-- the width of what is shown, and its height where the content area is so wide
+abbrev pub shown_width : Shown → Look → ℕ
+shown_width shown.Text look = (text_size look None).0
+shown_width shown.Picture look = (image_size look.image).0
+shown_width shown.BoxAndText look = text_offset look + (text_size look None).0
+shown_width what look = 0
+
+abbrev pub shown_height : Shown → Look → ℕ → ℕ
+shown_height shown.Text look content = (text_size look (Some content)).1
+shown_height shown.Picture look content = (image_size look.image).1
+shown_height shown.BoxAndText look content = max look.face.height (text_size look None).1
+shown_height what look content = 0
+
 abbrev pub width_by : Kind → Look → ℕ
-width_by kind.Label look = (text_size look None).0
-width_by kind.Image look = (image_size look.image).0
-width_by kind.Checkbox look = text_offset look + (text_size look None).0
-width_by kind look = 0
+width_by kind look = shown_width (shows kind) look
 
 abbrev pub height_by : Kind → Look → ℕ → ℕ
-height_by kind.Label look content = (text_size look (Some content)).1
-height_by kind.Image look content = (image_size look.image).1
-height_by kind.Checkbox look content = max look.face.height (text_size look None).1
-height_by kind look content = 0
+height_by kind look content = shown_height (shows kind) look content
 
 -- the own width of an object
 abbrev pub own_width : Look → ℕ

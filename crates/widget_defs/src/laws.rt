@@ -1,7 +1,7 @@
 //! What follows from the definitions. Each function does nothing: its contract is a law, which is proved.
 ghost use Rattle.widget_defs.specs.Laws.{SharesFollowValues, KnobsStayInside, CheckboxTextsStayWhole};
 ghost use Rattle.widget_defs.specs.Reference.{ReferenceItems, ReferenceSizes};
-ghost use Rattle.widget_defs.specs.Examples.{ItemsAreWorked, BarsAreWorked, SizesAreWorked, FirstValuesAreWorked};
+ghost use Rattle.widget_defs.specs.Examples.{ItemsAreWorked, BarsAreWorked, SizesAreWorked, KindsAreThese};
 
 /// The share of a bar that is filled is empty at the least value and whole at the greatest, and a greater
 /// value never fills less.
@@ -19,12 +19,16 @@ pub fn checkbox_texts_stay_whole()
     ensures { CheckboxTextsStayWhole }
 {}
 
-/// Items, sizes and first values that were worked out by hand.
+/// What each kind is, row by row.
+pub fn kinds_are_these()
+    ensures { KindsAreThese }
+{}
+
+/// Items and sizes that were worked out by hand.
 pub fn worked_examples()
     ensures items { ItemsAreWorked }
     ensures bars { BarsAreWorked }
     ensures sizes { SizesAreWorked }
-    ensures first { FirstValuesAreWorked }
 {}
 
 /// Seventy-five objects have the items that a reference implementation gives, and thirty the own sizes.

@@ -1,5 +1,5 @@
-//! The definitions of widgets: what an object of each kind paints, how large what it shows is by itself, and
-//! what a new one has.
+//! The definitions of widgets: what a kind of object is, what an object of each kind paints, and how large
+//! what it shows is by itself.
 #![tactic(auto)]
 
 ghost use Rattle.std.specs.Prelude.{◌≡◌};

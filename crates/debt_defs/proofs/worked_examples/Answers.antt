@@ -28,6 +28,9 @@ returns c = record {
     loaded = refl;
     unseen = refl;
     refused = refl;
+    whole_blocks = refl;
+    both_blocks = refl;
+    same_blocks = refl;
   };
   concerned = record {
     place = refl;

@@ -10,18 +10,7 @@ use Rattle.run_defs.specs.Selectors.{selector_named, state_named}
 use Rattle.table_checks.proofs.kinds.Goals as goal
 
 pub returns-clause-rows : goal.returns-clause-rows
-returns-clause-rows c = record {
-  screen = refl;
-  layer = refl;
-  object = refl;
-  label = refl;
-  button = refl;
-  image = refl;
-  bar = refl;
-  slider = refl;
-  checkbox = refl;
-  list = refl;
-}
+returns-clause-rows c = λ kind. refl
 
 pub returns-clause-sets : goal.returns-clause-sets
 unfolding decode_pairs with_bit named command_says property over value past number natural color line_says selector_named state_named

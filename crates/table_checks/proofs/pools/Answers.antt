@@ -66,3 +66,28 @@ returns-clause-sizes c = record {
   no_lines = refl;
   too_many_lines = refl;
 }
+
+pub returns-clause-blocks : goal.returns-clause-blocks
+unfolding number natural with_width setting_of sets_a_pool with_pool with_further
+returns-clause-blocks c = record {
+  bytes = refl;
+  pixels = refl;
+  beside = refl;
+  largest = refl;
+  lines = refl;
+  width = refl;
+  height = refl;
+  no_width = refl;
+  no_height = refl;
+  too_wide = refl;
+  too_high = refl;
+  twice = refl;
+  none = refl;
+  nothing = refl;
+  one_number = refl;
+  no_second = refl;
+  no_first = refl;
+  three = refl;
+  leading_zero = refl;
+  other_letter = refl;
+}

@@ -6,7 +6,10 @@ use Rattle.gui_change.specs.Bars.{items_in, kept_of}
 use Rattle.gui_change.proofs.Keeping.{bars-kept}
 use Rattle.gui_change.proofs.bars.bars_at.Goals as goal
 
-pub returns : goal.returns
-returns c =
+pub returns-clause-kept : goal.returns-clause-kept
+returns-clause-kept c = c.packed.ensures ∙ ap (λ (l : List Item). kept_of l) (ap items_of c.as_slice.ensures.value ∙ c.bars-bars.ensures)
+
+pub returns-clause-items : goal.returns-clause-items
+returns-clause-items c =
     ap items_in c.packed.ensures
     ∙ (ap (λ (l : List Item). items_in (kept_of l)) (ap items_of c.as_slice.ensures.value ∙ c.bars-bars.ensures) ∙ bars-kept (scene_of c.args.store.now) c.args.h.0)

@@ -1,23 +1,14 @@
-use Rattle.std.proofs.Common.{sym, subst, rules, ℕ, Option, Some, ◌<◌, ◌*◌, arith}
+use Rattle.std.proofs.Common.{◌≡◌, ◌∙◌, ◌+◌, ◌*◌, sym, ap, subst, rules, ℕ, arith}
 use Rattle.gui_base.specs.Corners.{rect_of}
-use Rattle.gui_base.specs.declared.Handle.{Handle}
-use Rattle.gui_base.specs.Forest.{size, tree_by}
-use Rattle.gui_base.proofs.Visits.{trees_from}
-use Rattle.scene_defs.specs.Scene.{handle_of, is_at}
+use Rattle.gui_base.specs.Forest.{Forest, size, tree_by, children_of}
+use Rattle.gui_tree.specs.Walks.{walk}
+use Rattle.gui_tree.proofs.Below.{begins_below, steps_below}
+use Rattle.scene_defs.specs.Scene.{handles_of, is_at}
 use Rattle.gui_store.specs.Views.{scene_of}
-use Rattle.gui_paint.specs.Walking.{number_of}
-use Rattle.gui_paint.proofs.Trees.{walk_starts}
-use Rattle.gui_paint.proofs.Waiting.{PaintsTo, paints_none, paints_list, paints_on, paints_tree}
-use Rattle.gui_paint.proofs.Walking.{walked_none, child_small, fewer_left}
-use Rattle.gui_paint.proofs.paint.+paint_tree.Given.{Over}
+use Rattle.gui_paint.specs.Walking.{PaintsMet, number_of, below_walk}
+use Rattle.gui_paint.proofs.Waiting.{paints_none, paints_list, paints_first, paints_tree}
+use Rattle.gui_paint.proofs.Walking.{size_at, size_below, trees_walk, walks_below}
 use Rattle.gui_paint.proofs.paint.+paint_tree.Goals as goal
-use Rattle.gui_paint.proofs.paint.+paint_tree.Goals.{In-Some-next}
-
--- how far the walk has come, at a child
-come : (g : Over) (t : ℕ) (c : In-Some-next g t) → PaintsTo (scene_of c.args.shown.now.store.now) (rect_of c.in-Some.seen.visible) c.args.h.0 c.first_child-next.result (Some c.in-Some-next.child) (number_of c.paint_next.new.start) (number_of c.loop-next.start) c.paint_next.new.buf c.loop-next.buf c.paint_next.new.steps c.loop-next.steps
-come g t c =
-    subst (λ (next : Option Handle). PaintsTo (scene_of c.args.shown.now.store.now) (rect_of c.in-Some.seen.visible) c.args.h.0 c.first_child-next.result next (number_of c.paint_next.new.start) (number_of c.loop-next.start) c.paint_next.new.buf c.loop-next.buf c.paint_next.new.steps c.loop-next.steps)
-    c.in-Some-next.is c.loop-next.invariant
 
 pub returns-in_default : goal.returns-in_default
 returns-in_default g t c =
@@ -28,37 +19,46 @@ returns-in_default g t c =
 pub paint_next-requires-clause-stands : goal.paint_next-requires-clause-stands
 paint_next-requires-clause-stands g t c = c.in-Some.ensures.met.stands
 
-pub loop-next-init : goal.loop-next-init
-loop-next-init g t c =
+pub loop-child-init : goal.loop-child-init
+loop-child-init g t c =
     let scene = scene_of c.args.shown.now.store.now in
+    let clip = rect_of c.in-Some.seen.visible in
+    let h = c.args.h.0 in
+    let begins = begins_below (handles_of scene.trees) h _ (c.into_iter-child-iterator.ensures.into_iter_gives ∙ (c.children-child-items.ensures.walk ∙ ap (λ (f : Forest ℕ). walk f (children_of f h)) c.tree-tree.ensures.forest)) in
     record {
-      come = (walk_starts scene c.args.h.0 _ _ c.tree-tree.ensures.valid c.tree-tree.ensures.forest c.first_child-next.ensures).1;
-      met = _;
-      visits = 0;
-      walked = walked_none scene (rect_of c.in-Some.seen.visible) c.first_child-next.result;
-      paints = paints_none scene (number_of c.paint_next.new.start) c.paint_next.new.buf 0 c.paint_next.new.steps c.paint_next.new.steps (omega arith);
+      below = begins.is;
+      later = λ w buf to p.
+          paints_list scene _ _ _ _ _ _ _ _ _ (sym (walks_below scene clip h c.tree-tree.ensures.valid))
+          (subst (λ (t : Forest ℕ). PaintsMet scene (trees_walk scene clip t) (number_of c.paint_next.new.start) w c.paint_next.new.buf buf (2 * size t) c.paint_next.new.steps to) begins.all p);
     }
 
 pub paint_tree-requires : goal.paint_tree-requires
 paint_tree-requires g t c κs within =
-    let smaller = child_small (scene_of c.args.shown.now.store.now) c.args.h.0 c.in-Some-next.child c.tree-tree.ensures.valid (come g t (goal.at.paint_tree-requires g t c).In-Some-next).come c.in-Some.ensures.met.small in
+    let smaller = (steps_below (handles_of (scene_of c.args.shown.now.store.now).trees) c.args.h.0 _ _ _ c.loop-child.invariant.below c.in-Some-child.ensures.steps).fewer in
     (search rules, within)
 
-pub loop-next-smaller : goal.loop-next-smaller
-loop-next-smaller g t c =
-    let trees = (scene_of c.args.shown.now.store.now).trees in
-    subst (λ (next : Option Handle). size (trees_from handle_of c.next-next.result trees) < size (trees_from handle_of next trees)) (sym c.in-Some-next.is)
-    (fewer_left (scene_of c.args.shown.now.store.now) c.args.h.0 c.in-Some-next.child c.tree-tree.ensures.valid (come g t (goal.at.loop-next-smaller g t c).In-Some-next).come _ c.next-next.result c.tree-tree.ensures.forest c.next-next.ensures)
-
-pub loop-next-preserved : goal.loop-next-preserved
-loop-next-preserved g t c =
-    paints_on (scene_of c.args.shown.now.store.now) (rect_of c.in-Some.seen.visible) c.args.h.0 c.first_child-next.result c.in-Some-next.child c.tree-tree.ensures.valid _ c.next-next.result c.tree-tree.ensures.forest c.next-next.ensures _ _ _ _ _ _ _ _ _
-    (come g t (goal.at.loop-next-preserved g t c).In-Some-next) c.paint_tree.ensures
+pub loop-child-preserved : goal.loop-child-preserved
+loop-child-preserved g t c =
+    let scene = scene_of c.args.shown.now.store.now in
+    let inv = c.loop-child.invariant in
+    let h = c.in-Some-child.child.0 in
+    let w = steps_below (handles_of scene.trees) c.args.h.0 _ _ _ inv.below c.in-Some-child.ensures.steps in
+    let count : size (tree_by (is_at h) scene.trees) ≡ size w.children + 1 = omega (arith, size_at scene h, ap (λ (t : Forest ℕ). size t) w.tree) in
+    record {
+      below = w.is;
+      later = λ v buf to p.
+          inv.later v buf to (paints_first scene (rect_of c.in-Some.seen.visible) h w.children c.next.new.self.left c.loop-child.child-iterator.left _ _ _ _ _ _ _ _ _ w.left count c.paint_tree.ensures p);
+    }
 
 pub returns : goal.returns
 returns g t c =
     let scene = scene_of c.args.shown.now.store.now in
-    let visible = rect_of c.in-Some.seen.visible in
-    let begins = (walk_starts scene c.args.h.0 _ _ c.tree-tree.ensures.valid c.tree-tree.ensures.forest c.first_child-next.ensures).0 in
-    let below = subst (λ (next : Option Handle). PaintsTo scene visible c.args.h.0 c.first_child-next.result next (number_of c.paint_next.new.start) (number_of c.loop-next.start) c.paint_next.new.buf c.loop-next.buf c.paint_next.new.steps c.loop-next.steps) c.in_default-next.is c.loop-next.invariant in
-    paints_tree scene (rect_of c.args.clip) visible c.args.h.0 c.first_child-next.result _ _ _ _ _ _ _ c.args.steps.now c.visit.new.steps _ _ _ c.in-Some.ensures.met.walk begins c.in-Some.ensures.steps c.in-Some.ensures.met.small c.paint_next.ensures below c.paint_next_bars.ensures
+    let clip = rect_of c.in-Some.seen.visible in
+    let h = c.args.h.0 in
+    let start = number_of c.loop-child.start in
+    let buf = c.loop-child.buf in
+    let steps = c.loop-child.steps in
+    let none : PaintsMet scene (trees_walk scene clip c.loop-child.child-iterator.left) start start buf buf (2 * size c.loop-child.child-iterator.left) steps steps =
+    subst (λ (t : Forest ℕ). PaintsMet scene (trees_walk scene clip t) start start buf buf (2 * size t) steps steps) (sym c.in-None.ensures.steps.0) (paints_none scene start buf 0 steps steps (omega arith)) in
+    let below = subst (λ (n : ℕ). PaintsMet scene (below_walk scene clip h) (number_of c.paint_next.new.start) start c.paint_next.new.buf buf (2 * n) c.paint_next.new.steps steps) (size_below scene h) (c.loop-child.invariant.later start buf steps none) in
+    paints_tree scene (rect_of c.args.clip) clip h _ _ _ _ _ _ _ c.args.steps.now c.visit.new.steps _ _ _ c.in-Some.ensures.met.walk c.in-Some.ensures.steps c.in-Some.ensures.met.small c.paint_next.ensures below c.paint_next_bars.ensures

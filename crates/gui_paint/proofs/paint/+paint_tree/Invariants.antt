@@ -1,18 +1,25 @@
+use Rattle.std.proofs.Common.{ℕ, Option, ◌*◌}
 use Rattle.gui_base.specs.Corners.{rect_of}
-use Rattle.gui_base.specs.Forest.{size, tree_by}
-use Rattle.gui_base.proofs.Visits.{trees_from}
-use Rattle.scene_defs.specs.Scene.{handle_of, is_at}
+use Rattle.gui_base.specs.Forest.{size, tree_at, children_of}
+use Rattle.gui_color.specs.Buffer.{Buffer}
+use Rattle.gui_tree.proofs.Below.{IsBelow}
+use Rattle.scene_defs.specs.Scene.{handles_of}
 use Rattle.gui_store.specs.Views.{scene_of}
-use Rattle.gui_paint.specs.Walking.{number_of}
-use Rattle.gui_paint.proofs.Waiting.{PaintsTo}
+use Rattle.gui_paint.specs.Walking.{PaintsMet, number_of, below_walk}
+use Rattle.gui_paint.proofs.Walking.{trees_walk}
 use Rattle.gui_paint.proofs.paint.+paint_tree.Given as goal
 
 abbrev pub decreases-paint_tree : goal.decreases-paint_tree
-decreases-paint_tree g l = size (tree_by (is_at l.h.0) (scene_of l.shown.now.store.now).trees)
+decreases-paint_tree g l = size (tree_at (handles_of (scene_of l.shown.now.store.now).trees) l.h.0)
 
-abbrev pub invariant-loop-next : goal.invariant-loop-next
-invariant-loop-next g l =
-    PaintsTo (scene_of l.shown.store.now) (rect_of l.seen.visible) l.fn.h.0 l.initial.next l.next (number_of l.initial.start) (number_of l.start) l.initial.buf l.buf l.initial.steps l.steps
-
-abbrev pub decreases-loop-next : goal.decreases-loop-next
-decreases-loop-next g l = size (trees_from handle_of l.next (scene_of l.shown.store.now).trees)
+abbrev pub invariant-loop-child : goal.invariant-loop-child
+invariant-loop-child g l =
+    let scene = scene_of l.shown.store.now in
+    let f = handles_of scene.trees in
+    let left = l.child-iterator.left in
+    let clip = rect_of l.seen.visible in
+    record {
+      below : IsBelow f l.fn.h.0 l.child-iterator;
+      later : (w : Option ℕ) (buf : Buffer) (to : ℕ) → PaintsMet scene (trees_walk scene clip left) (number_of l.start) w l.buf buf (2 * size left) l.steps to →
+          PaintsMet scene (below_walk scene clip l.fn.h.0) (number_of l.initial.start) w l.initial.buf buf (2 * size (children_of f l.fn.h.0)) l.initial.steps to;
+    }

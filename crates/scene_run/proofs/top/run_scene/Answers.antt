@@ -9,13 +9,13 @@ use Rattle.scene_run.proofs.top.run_scene.Goals as goal
 use Rattle.scene_run.proofs.top.run_scene.Goals.{After-run_made}
 
 pub read_script-requires-clause-unstarted : goal.read_script-requires-clause-unstarted
-read_script-requires-clause-unstarted g c = unstarted (g.P.Panel.state c.args.panel.now) (g.P.Panel.state c.open-2.new.self) _ _ _ c.requires (g.met.P.Panel.flying c.args.panel.now) c.in-Ok-open.ensures
+read_script-requires-clause-unstarted g c = unstarted (g.P.Panel.state c.args.panel.now) (g.P.Panel.state c.open-2.new.self) _ _ _ _ c.requires (g.met.P.Panel.flying c.args.panel.now) c.in-Ok-open.ensures
 
 pub read_script-requires-clause-still : goal.read_script-requires-clause-still
 read_script-requires-clause-still g c = still_of _ c.in-Ok.ensures.still
 
 pub run_made-requires-clause-unstarted : goal.run_made-requires-clause-unstarted
-run_made-requires-clause-unstarted g c = unstarted (g.P.Panel.state c.args.panel.now) (g.P.Panel.state c.open-2.new.self) _ _ _ c.requires (g.met.P.Panel.flying c.args.panel.now) c.in-Ok-open.ensures
+run_made-requires-clause-unstarted g c = unstarted (g.P.Panel.state c.args.panel.now) (g.P.Panel.state c.open-2.new.self) _ _ _ _ c.requires (g.met.P.Panel.flying c.args.panel.now) c.in-Ok-open.ensures
 
 pub run_made-requires-clause-still : goal.run_made-requires-clause-still
 run_made-requires-clause-still g c = still_of _ c.in-Ok.ensures.still
@@ -27,14 +27,14 @@ returns-in-None-clause-runs g c =
     runs_started _ (bounds_of c.in-Ok-Some.limits) (machine_of c.in-Ok.gui) (outside (g.S.Source.state c.args.source.now) (g.L.Sink.state c.args.log.now) closed)
     (outside (g.S.Source.state c.read_script.new.source) (g.L.Sink.state c.read_script.new.log) after)
     c.read_script.result (ap (option_map bounds_of) (sym c.in-Ok-Some.field-0-is) ∙ c.in-Ok-Some.ensures) c.in-Ok.ensures.machine
-    (rw c.in-None.is (c.read_script.ensures.runs closed (since_opening closed (g.P.Panel.state c.open-2.new.self) _ _ _ c.in-Ok-open.ensures))) c.read_script.ensures.started c.read_script.ensures.read_fault
-    (λ e. fault_since closed (g.P.Panel.state c.open-2.new.self) _ _ _ c.in-Ok-open.ensures _ _ (c.read_script.ensures.write_fault e))
+    (rw c.in-None.is (c.read_script.ensures.runs closed (since_opening closed (g.P.Panel.state c.open-2.new.self) _ _ _ _ c.in-Ok-open.ensures))) c.read_script.ensures.started c.read_script.ensures.read_fault
+    (λ e. fault_since closed (g.P.Panel.state c.open-2.new.self) _ _ _ _ c.in-Ok-open.ensures _ _ (c.read_script.ensures.write_fault e))
 
 module _ (g : Over) (c : After-run_made g) where
   made_ended : MadeEnded c.in-Some.k (machine_of c.in-Ok.gui) (output (g.L.Sink.state c.args.log.now) (g.P.Panel.state c.args.panel.now)) (output (g.L.Sink.state c.run_made.new.log) (g.P.Panel.state c.run_made.new.panel)) c.run_made.result
   made_ended =
       let closed = g.P.Panel.state c.args.panel.now in
-      c.run_made.ensures.runs closed (since_opening closed (g.P.Panel.state c.open-2.new.self) _ _ _ c.in-Ok-open.ensures)
+      c.run_made.ensures.runs closed (since_opening closed (g.P.Panel.state c.open-2.new.self) _ _ _ _ c.in-Ok-open.ensures)
 
 pub returns-in-Ok-open-clause-runs : goal.returns-in-Ok-open-clause-runs
 returns-in-Ok-open-clause-runs g c =
@@ -43,7 +43,7 @@ returns-in-Ok-open-clause-runs g c =
     (outside (g.S.Source.state c.args.source.now) (g.L.Sink.state c.run_made.new.log) (g.P.Panel.state c.run_made.new.panel))
     c.run_made.result (ap (option_map bounds_of) (sym c.in-Ok-Some.field-0-is) ∙ c.in-Ok-Some.ensures) c.in-Ok.ensures.machine (rw c.in-Some.is (record { unread = refl; ended = made_ended g c })) c.run_made.ensures.started
     (λ e. absurd (rw e at (made_ended g c)))
-    (λ e. fault_since closed (g.P.Panel.state c.open-2.new.self) _ _ _ c.in-Ok-open.ensures _ _ (c.run_made.ensures.write_fault e))
+    (λ e. fault_since closed (g.P.Panel.state c.open-2.new.self) _ _ _ _ c.in-Ok-open.ensures _ _ (c.run_made.ensures.write_fault e))
 
 pub returns-in-Ok-None-clause-runs : goal.returns-in-Ok-None-clause-runs
 returns-in-Ok-None-clause-runs g c = runs_usage _ (outside (g.S.Source.state c.args.source.now) (g.L.Sink.state c.args.log.now) (g.P.Panel.state c.args.panel.now))

@@ -1,12 +1,13 @@
-use Rattle.std.proofs.Common.{[], None, ap}
+use Rattle.std.proofs.Common.{◌∙◌, [], None, ap}
 use Rattle.gui_change.specs.Bars.{Kept, items_in}
+use Rattle.gui_change.specs.Kept.{Packed, narrow, wide}
 use Rattle.gui_change.specs.Owed.{Sight}
 use Rattle.gui_change.proofs.seen.Seen.nothing.Goals as goal
 
 -- an object of which nothing is seen, but for its bars
-bare : Kept → Sight
-bare kept = record { visible = None; items = []; bars = items_in kept }
+bare : Packed → Sight
+bare packed = record { visible = None; items = []; bars = items_in (wide packed None) }
 
 pub returns-clause-sight : goal.returns-clause-sight
 unfolding bare
-returns-clause-sight c = ap bare c.none.ensures
+returns-clause-sight c = ap bare (c.keep.ensures ∙ ap narrow c.none.ensures)

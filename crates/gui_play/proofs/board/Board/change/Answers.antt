@@ -1,5 +1,6 @@
-use Rattle.std.proofs.Common.{◌≡◌, ◌∙◌, sym, ap, subst, refl}
-use Rattle.gui_base.specs.Gridded.{HasPixels}
+use Rattle.std.proofs.Common.{◌≡◌, ◌∙◌, sym, ap, refl}
+use Rattle.gui_base.specs.Gridded.{block_of}
+use Rattle.gui_base.specs.Limits.{Bounds}
 use Rattle.gui_damage.specs.Gridded.{listed_in}
 use Rattle.std.proofs.lemmas.Result.{on_err_weaker}
 use Rattle.scene_defs.proofs.Changes.{change_keeps_limits}
@@ -20,7 +21,7 @@ pub invariant_of-self : goal.invariant_of-self
 invariant_of-self c =
     let limits = same_limits (goal.at.invariant_of-self c).After-change in record {
       panel = c.change.ensures.debt.panel ∙ (c.args.self.now.panel ∙ sym (same_panel (scene_in c.args.self.now.canvas) (scene_in c.change.new.self) limits));
-      pixels = subst HasPixels (sym c.change.ensures.round) c.args.self.now.pixels;
+      blocks = ap block_of c.change.ensures.round ∙ (c.args.self.now.blocks ∙ sym (ap (λ (b : Bounds). b.block) limits));
       sized = sized_for c.args.self.now.handlers c.args.self.now.groups c.args.self.now.anims (sym limits) c.args.self.now.sized;
     }
 

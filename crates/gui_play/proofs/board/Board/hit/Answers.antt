@@ -10,32 +10,20 @@ use Rattle.gui_play.specs.Hits.{last_hit}
 use Rattle.gui_play.proofs.Hits.{last_hit-append, hit_is}
 use Rattle.gui_play.proofs.board.Board.hit.Goals as goal
 
-pub hit_below-screen-requires-clause-once : goal.hit_below-screen-requires-clause-once
-hit_below-screen-requires-clause-once c =
-    let valid : IsValid (scene_in c.args.self.now.canvas) = rw c.store.ensures.scene at c.tree-tree.ensures.valid in valid.trees.once
-
-pub hit_below-screen-requires-clause-there : goal.hit_below-screen-requires-clause-there
-hit_below-screen-requires-clause-there c =
+pub hit_below-screen-requires : goal.hit_below-screen-requires
+hit_below-screen-requires c =
     let scene = scene_in c.args.self.now.canvas in
     let valid : IsValid scene = rw c.store.ensures.scene at c.tree-tree.ensures.valid in
     rw (c.active.ensures.screen ∙ ap (λ (s : Scene). s.active) c.store-2.ensures.scene) (root_there scene valid scene.active valid.trees.active)
 
-pub hit_below-top-requires-clause-once : goal.hit_below-top-requires-clause-once
-hit_below-top-requires-clause-once c =
-    let valid : IsValid (scene_in c.args.self.now.canvas) = rw c.store.ensures.scene at c.tree-tree.ensures.valid in valid.trees.once
-
-pub hit_below-top-requires-clause-there : goal.hit_below-top-requires-clause-there
-hit_below-top-requires-clause-there c =
+pub hit_below-top-requires : goal.hit_below-top-requires
+hit_below-top-requires c =
     let scene = scene_in c.args.self.now.canvas in
     let valid : IsValid scene = rw c.store.ensures.scene at c.tree-tree.ensures.valid in
     root_there scene valid 1 valid.trees.top_layer
 
-pub hit_below-requires-clause-once : goal.hit_below-requires-clause-once
-hit_below-requires-clause-once c =
-    let valid : IsValid (scene_in c.args.self.now.canvas) = rw c.store.ensures.scene at c.tree-tree.ensures.valid in valid.trees.once
-
-pub hit_below-requires-clause-there : goal.hit_below-requires-clause-there
-hit_below-requires-clause-there c =
+pub hit_below-requires : goal.hit_below-requires
+hit_below-requires c =
     let scene = scene_in c.args.self.now.canvas in
     let valid : IsValid scene = rw c.store.ensures.scene at c.tree-tree.ensures.valid in
     root_there scene valid 2 valid.trees.system_layer

@@ -1,30 +1,37 @@
-use Rattle.std.proofs.Common.{◌∙◌, sym, ap, ℕ}
-use Rattle.std.specs.Prelude.{option_map}
-use Rattle.gui_base.specs.Forest.{Forest, parent_of}
+use Rattle.std.proofs.Common.{◌≡◌, ◌∙◌, ◌||◌, sym, ap, ℕ, Bool, true, List}
+use Rattle.std.specs.List.{list_any}
+use Rattle.gui_base.specs.Forest.{Forest}
 use Rattle.gui_change.specs.Canvas.{scene_in}
-use Rattle.gui_tree.specs.Handles.{as_handle}
-use Rattle.scene_defs.specs.Scene.{Scene, handles_of}
-use Rattle.gui_play.proofs.Climbs.{GoesUp, goes_up}
-use Rattle.gui_play.proofs.Shown.{hidden_here, hidden_above, fewer_steps}
+use Rattle.gui_tree.specs.Walks.{line_of}
+use Rattle.run_defs.specs.Making.{is_hidden}
+use Rattle.scene_defs.specs.Scene.{Scene, handles_of, path_at, row_at}
+use Rattle.scene_defs.specs.Valid.{IsValid}
+use Rattle.gui_play.specs.Hiding.{hides}
+use Rattle.gui_play.proofs.Shown.{hidden_line}
 use Rattle.gui_play.proofs.board.Board.is_hidden.Goals as goal
-use Rattle.gui_play.proofs.board.Board.is_hidden.Goals.{After-parent-at}
+use Rattle.gui_play.proofs.board.Board.is_hidden.Goals.{In-Some}
 
-up : (c : After-parent-at) → GoesUp (scene_in c.args.self.now.canvas) c.in-Some.k.0 c.parent-at.result
-up c =
-    let valid = rw c.store.ensures.scene at c.tree.ensures.valid in
+pub loop-k-init : goal.loop-k-init
+loop-k-init c =
+    let scene = scene_in c.args.self.now.canvas in
+    let valid : IsValid scene = rw c.store.ensures.scene at c.tree.ensures.valid in
     let trees = c.tree.ensures.forest ∙ ap (λ (s : Scene). handles_of s.trees) c.store.ensures.scene in
-    goes_up (scene_in c.args.self.now.canvas) valid c.in-Some.k.0 c.parent-at.result
-    (c.parent-at.ensures ∙ ap (λ (f : Forest ℕ). option_map as_handle (parent_of f c.in-Some.k.0)) trees)
+    let line = c.into_iter-k-iterator.ensures.into_iter_gives ∙ (c.ancestors-k-items.ensures ∙ ap (λ (f : Forest ℕ). line_of f c.args.h.0) trees) in
+    hidden_line scene c.args.h.0 valid ∙ ap (λ (hs : List ℕ). list_any (λ j. hides (row_at scene j)) hs) (sym line)
+
+-- the nearest that is left, or else those above it
+nearest : (c : In-Some) → list_any is_hidden (path_at (scene_in c.args.self.now.canvas) c.args.h.0) ≡ (hides (row_at (scene_in c.args.self.now.canvas) c.in-Some.k.0) || list_any (λ j. hides (row_at (scene_in c.args.self.now.canvas) j)) c.next.new.self)
+nearest c = c.loop-k.invariant ∙ ap (λ (hs : List ℕ). list_any (λ j. hides (row_at (scene_in c.args.self.now.canvas) j)) hs) c.in-Some.ensures.steps
 
 pub returns-then-hides : goal.returns-then-hides
 returns-then-hides c =
-    sym (c.loop-at.invariant.rest ∙ hidden_here (scene_in c.args.self.now.canvas) c.in-Some.k c.loop-at.at c.hides.result c.in-Some.is c.hides.ensures c.if-hides.true)
+    let scene = scene_in c.args.self.now.canvas in
+    sym (nearest (goal.at.returns-then-hides c).In-Some ∙ ap (λ (b : Bool). b || list_any (λ j. hides (row_at scene j)) c.next.new.self) (sym c.hides.ensures ∙ c.if-hides.true))
 
-pub loop-at-smaller : goal.loop-at-smaller
-loop-at-smaller c =
-    fewer_steps (scene_in c.args.self.now.canvas) c.in-Some.k c.loop-at.at c.parent-at.result (up (goal.at.loop-at-smaller c).After-parent-at) c.in-Some.is
+pub loop-k-preserved : goal.loop-k-preserved
+loop-k-preserved c =
+    let scene = scene_in c.args.self.now.canvas in
+    nearest (goal.at.loop-k-preserved c).In-Some ∙ ap (λ (b : Bool). b || list_any (λ j. hides (row_at scene j)) c.next.new.self) (sym c.hides.ensures ∙ c.if-hides.false)
 
-pub loop-at-preserved : goal.loop-at-preserved
-loop-at-preserved c = record {
-  rest = c.loop-at.invariant.rest ∙ hidden_above (scene_in c.args.self.now.canvas) c.in-Some.k c.loop-at.at c.parent-at.result c.hides.result (up (goal.at.loop-at-preserved c).After-parent-at) c.in-Some.is c.hides.ensures c.if-hides.false;
-}
+pub returns : goal.returns
+returns c = sym (c.loop-k.invariant ∙ ap (λ (hs : List ℕ). list_any (λ j. hides (row_at (scene_in c.args.self.now.canvas) j)) hs) c.in-None.ensures.steps.0)

@@ -1,6 +1,6 @@
 use Rattle.std.proofs.Common.{◌∙◌, sym, ap, subst, ℕ}
 use Rattle.gui_base.specs.Corners.{rect_of}
-use Rattle.gui_base.specs.Gridded.{HasPixels}
+use Rattle.gui_base.specs.Gridded.{block_of}
 use Rattle.gui_base.specs.declared.rounding.Grid.{Grid}
 use Rattle.gui_change.specs.Canvas.{scene_in}
 use Rattle.cover_defs.specs.Cover.{items_shown}
@@ -15,7 +15,7 @@ pub refresh-requires : goal.refresh-requires
 refresh-requires g c = record {
   can = can_refresh (scene_in c.args.self.now.canvas) (stage c.args.refresher.now (g.P.Panel.state c.args.panel.now) (listed_in c.args.self.now.damage))
       (record { sizes = c.requires.can.sizes; started = c.requires.can.started; coming = c.requires.can.coming }) c.requires.refresher c.args.self.now.panel;
-  pixels = c.args.self.now.pixels;
+  blocks = c.args.self.now.blocks ∙ sym (ap (λ (s : Sizes). s.block) c.requires.refresher);
 }
 
 pub returns-clause-refreshes : goal.returns-clause-refreshes
@@ -32,5 +32,5 @@ returns-clause-draws g c =
 pub invariant_of-self-clause-panel : goal.invariant_of-self-clause-panel
 invariant_of-self-clause-panel g c = ap (λ (grid : Grid). rect_of grid.panel) c.refresh.ensures.round ∙ c.args.self.now.panel
 
-pub invariant_of-self-clause-pixels : goal.invariant_of-self-clause-pixels
-invariant_of-self-clause-pixels g c = subst HasPixels (sym c.refresh.ensures.round) c.args.self.now.pixels
+pub invariant_of-self-clause-blocks : goal.invariant_of-self-clause-blocks
+invariant_of-self-clause-blocks g c = ap block_of c.refresh.ensures.round ∙ c.args.self.now.blocks

@@ -1,31 +1,39 @@
-use Rattle.std.proofs.Common.{◌∙◌, sym, ap, ℕ}
-use Rattle.std.specs.Prelude.{option_map}
-use Rattle.gui_base.specs.Forest.{Forest, parent_of}
+use Rattle.std.proofs.Common.{◌≡◌, ◌∙◌, sym, ap, ℕ, Bool, cond, option_map}
+use Rattle.std.specs.Prelude.{Some, find}
+use Rattle.gui_base.specs.Forest.{Forest}
 use Rattle.gui_change.specs.Canvas.{scene_in}
 use Rattle.gui_tree.specs.Handles.{as_handle}
-use Rattle.scene_defs.specs.Scene.{Scene, handles_of}
-use Rattle.gui_play.proofs.Climbs.{GoesUp, goes_up}
-use Rattle.gui_play.proofs.Scrolling.{first_here, first_above}
-use Rattle.gui_play.proofs.Shown.{fewer_steps}
+use Rattle.gui_tree.specs.Walks.{line_of}
+use Rattle.scene_defs.specs.Scene.{Scene, handles_of, path_at}
+use Rattle.scene_defs.specs.Valid.{IsValid}
+use Rattle.gui_play.specs.Dragging.{can_scroll}
+use Rattle.gui_play.proofs.Scrolling.{first_at, first_line, first_on}
 use Rattle.gui_play.proofs.board.Board.scrolled_from.Goals as goal
-use Rattle.gui_play.proofs.board.Board.scrolled_from.Goals.{After-parent-at}
+use Rattle.gui_play.proofs.board.Board.scrolled_from.Goals.{In-Some}
 
-up : (c : After-parent-at) → GoesUp (scene_in c.args.self.now.canvas) c.in-Some.k.0 c.parent-at.result
-up c =
-    let valid = rw c.store.ensures.scene at c.tree.ensures.valid in
+pub loop-k-init : goal.loop-k-init
+loop-k-init c =
+    let scene = scene_in c.args.self.now.canvas in
+    let valid : IsValid scene = rw c.store.ensures.scene at c.tree.ensures.valid in
     let trees = c.tree.ensures.forest ∙ ap (λ (s : Scene). handles_of s.trees) c.store.ensures.scene in
-    goes_up (scene_in c.args.self.now.canvas) valid c.in-Some.k.0 c.parent-at.result
-    (c.parent-at.ensures ∙ ap (λ (f : Forest ℕ). option_map as_handle (parent_of f c.in-Some.k.0)) trees)
+    let line = c.into_iter-k-iterator.ensures.into_iter_gives ∙ (c.ancestors-k-items.ensures ∙ ap (λ (f : Forest ℕ). line_of f c.args.h.0) trees) in
+    first_line scene c.args.down c.args.h.0 valid ∙ ap (first_at scene c.args.down) (sym line)
+
+-- the nearest that is left, or else the first above it
+nearest : (c : In-Some) → first_on (scene_in c.args.self.now.canvas) c.args.down (path_at (scene_in c.args.self.now.canvas) c.args.h.0) ≡ option_map as_handle (cond (can_scroll (scene_in c.args.self.now.canvas) c.args.down c.in-Some.k) (Some c.in-Some.k.0) (find (λ (j : ℕ). can_scroll (scene_in c.args.self.now.canvas) c.args.down (as_handle j)) c.next.new.self))
+nearest c = c.loop-k.invariant ∙ ap (first_at (scene_in c.args.self.now.canvas) c.args.down) c.in-Some.ensures.steps
+
+-- where the one at hand is told of
+told : (c : In-Some) (can : Bool) → can_scroll (scene_in c.args.self.now.canvas) c.args.down c.in-Some.k ≡ can →
+    first_on (scene_in c.args.self.now.canvas) c.args.down (path_at (scene_in c.args.self.now.canvas) c.args.h.0) ≡ option_map as_handle (cond can (Some c.in-Some.k.0) (find (λ (j : ℕ). can_scroll (scene_in c.args.self.now.canvas) c.args.down (as_handle j)) c.next.new.self))
+told c can is =
+    nearest c ∙ ap (λ (b : Bool). option_map as_handle (cond b (Some c.in-Some.k.0) (find (λ (j : ℕ). can_scroll (scene_in c.args.self.now.canvas) c.args.down (as_handle j)) c.next.new.self))) is
 
 pub returns-then-can_scroll : goal.returns-then-can_scroll
-returns-then-can_scroll c =
-    sym (c.loop-at.invariant.rest ∙ first_here (scene_in c.args.self.now.canvas) c.args.down c.in-Some.k c.loop-at.at c.can_scroll.result c.in-Some.is c.can_scroll.ensures c.if-can_scroll.true)
+returns-then-can_scroll c = sym (told (goal.at.returns-then-can_scroll c).In-Some _ (sym c.can_scroll.ensures ∙ c.if-can_scroll.true))
 
-pub loop-at-smaller : goal.loop-at-smaller
-loop-at-smaller c =
-    fewer_steps (scene_in c.args.self.now.canvas) c.in-Some.k c.loop-at.at c.parent-at.result (up (goal.at.loop-at-smaller c).After-parent-at) c.in-Some.is
+pub loop-k-preserved : goal.loop-k-preserved
+loop-k-preserved c = told (goal.at.loop-k-preserved c).In-Some _ (sym c.can_scroll.ensures ∙ c.if-can_scroll.false)
 
-pub loop-at-preserved : goal.loop-at-preserved
-loop-at-preserved c = record {
-  rest = c.loop-at.invariant.rest ∙ first_above (scene_in c.args.self.now.canvas) c.args.down c.in-Some.k c.loop-at.at c.parent-at.result c.can_scroll.result (up (goal.at.loop-at-preserved c).After-parent-at) c.in-Some.is c.can_scroll.ensures c.if-can_scroll.false;
-}
+pub returns : goal.returns
+returns c = sym (c.loop-k.invariant ∙ ap (first_at (scene_in c.args.self.now.canvas) c.args.down) c.in-None.ensures.steps.0)

@@ -7,7 +7,7 @@ invariant_of-result g c =
     let s = c.self.inside in
     let o = first_read s.slots s.firsts.items c.args.bucket c.index.result.now c.self.invariant (rw (← c.self.view_is) at c.requires) c.index.ensures in
     let few = o.few in
-    record { bucket = c.args.bucket; run = o.run; few = omega arith; small = o.small }
+    record { owner = o.owner; bucket = c.args.bucket; run = o.run; few = omega arith; small = o.small }
 
 pub returns-clause-few : goal.returns-clause-few
 returns-clause-few g c =

@@ -1,10 +1,9 @@
-use Rattle.std.proofs.Common.{◌≡◌, ◌∙◌, sym, ap, subst, ◌<◌, pos, Some, None, arith}
-use Rattle.gui_base.specs.Area.{area_at}
-use Rattle.gui_base.specs.Gridded.{HasPixels}
+use Rattle.std.proofs.Common.{◌≡◌, ◌∙◌, sym, ap, subst, ◌<◌, Some, None, arith}
+use Rattle.gui_base.specs.Gridded.{block_of}
 use Rattle.gui_color.specs.Buffer.{Buffer}
 use Rattle.gui_damage.specs.Gridded.{listed_in}
 use Rattle.gui_damage.specs.Pending.{Pending}
-use Rattle.gui_refresh.specs.Stages.{Stage, Refreshing, stage}
+use Rattle.gui_refresh.specs.Stages.{Stage, Refreshing, panel_with, stage}
 use Rattle.gui_refresh.proofs.Pumps.{pump_polled, pump_beside, pump_waiting, some_of, none_drawn}
 use Rattle.gui_refresh.proofs.Slicing.{draws_polled, draws_beside, draws_waiting}
 use Rattle.gui_refresh.proofs.Steps.{IsSound, panel_is}
@@ -31,8 +30,8 @@ draw-requires g c =
     let a = (goal.at.draw-requires g c).After-poll in
     let step = c.in-None.ensures.step in
     record {
-      pixels = subst HasPixels (sym c.in-None.ensures.round) c.requires.pixels;
-      area = ap (λ (d : Pending). d.panel) step.pending ∙ (c.requires.can.area ∙ (panel_is (at g a) c.requires.can ∙ sym (ap (λ (r : Refreshing). area_at (pos 0) (pos 0) r.sizes.width r.sizes.height) step.refresher)));
+      blocks = ap block_of c.in-None.ensures.round ∙ (c.requires.blocks ∙ sym (ap (λ (r : Refreshing). r.sizes.block) step.refresher));
+      area = ap (λ (d : Pending). d.panel) step.pending ∙ (c.requires.can.area ∙ (panel_is (at g a) c.requires.can ∙ sym (ap (λ (r : Refreshing). panel_with r.sizes) step.refresher)));
       none = subst (λ (r : Refreshing). 0 < r.free → r.drawn ≡ None) (sym step.refresher) (none_drawn (g.Q.Picture.color c.args.picture.now) (at g a) (sound g a) (flying g a).0 (flying g a).1);
     }
 

@@ -1,7 +1,11 @@
-use Rattle.std.proofs.Common.{◌∙◌, sym, subst, arith}
-use Rattle.gui_base.specs.Gridded.{HasPixels}
+use Rattle.std.proofs.Common.{◌∙◌, sym, ap, subst, arith}
+use Rattle.gui_base.specs.Gridded.{block_of}
+use Rattle.gui_base.specs.Rounding.{Rounding}
 use Rattle.gui_damage.specs.Gridded.{listed_in}
-use Rattle.gui_refresh.specs.Stages.{Stage, stage}
+use Rattle.gui_damage.specs.Joining.{JoinsAll}
+use Rattle.gui_refresh.specs.Stages.{Sizes, Stage, stage}
+use Rattle.gui_refresh.proofs.Drawing.{same_grid}
+use Rattle.gui_refresh.proofs.Steps.{panel_is}
 use Rattle.gui_refresh.proofs.Pumps.{begins, goes_on, pumps_on, refresh_done, refresh_stopped}
 use Rattle.gui_refresh.proofs.Slicing.{draws_joined, draws_on, draws_all}
 use Rattle.gui_refresh.proofs.refresher.Refresher.refresh.Given.{Over}
@@ -20,14 +24,16 @@ after g c = stage c.pump.new.self (g.P.Panel.state c.pump.new.panel) (listed_in 
 pub loop-init : goal.loop-init
 loop-init g c =
     let start = first g (goal.at.loop-init g c).After-join_all in
+    let grid = same_grid c.args.self.now.sizes c.args.damage.now.round c.requires.blocks (c.requires.can.area ∙ panel_is start c.requires.can) in
+    let joins = subst (λ (r : Rounding). JoinsAll r.round (listed_in c.args.damage.now) (listed_in c.join_all.new.self)) grid c.join_all.ensures.joins in
     record {
       round = c.join_all.ensures.round;
-      comes = begins (g.Q.Picture.color c.args.picture.now) start (listed_in c.join_all.new.damage) c.requires.can c.join_all.ensures.joins;
-      draws = draws_joined _ _ start (listed_in c.join_all.new.damage) _ c.join_all.ensures.joins;
+      comes = begins (g.Q.Picture.color c.args.picture.now) start (listed_in c.join_all.new.self) c.requires.can joins;
+      draws = draws_joined _ _ start (listed_in c.join_all.new.self) _ joins;
     }
 
 pub pump-requires : goal.pump-requires
-pump-requires g c = record { can = c.loop.invariant.comes.quiet.can; pixels = subst HasPixels (sym c.loop.invariant.round) c.requires.pixels }
+pump-requires g c = record { can = c.loop.invariant.comes.quiet.can; blocks = ap block_of c.loop.invariant.round ∙ (c.requires.blocks ∙ sym (ap (λ (s : Sizes). s.block) c.loop.invariant.comes.quiet.sizes)) }
 
 pub loop-preserved : goal.loop-preserved
 loop-preserved g c =

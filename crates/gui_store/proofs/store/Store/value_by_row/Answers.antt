@@ -33,3 +33,12 @@ returns-in-None-clause-value c =
     to_z-of_z w32 c.default_in.result fits ∙ c.default_in.ensures
     ∙ value-is (parts_of c.args.self.now) c.args.self.now.kept c.args.h.0 c.args.part c.args.prop (shown_row c.args.row.now) None
     (c.requires ∙ sym (read-row (parts_of c.args.self.now) c.args.self.now.kept c.args.h.0 _ refl)) (sym c.in-None.is ∙ c.given.ensures)
+
+pub returns-in-None-clause-in_range : goal.returns-in-None-clause-in_range
+returns-in-None-clause-in_range c =
+    let fits : SFits w32 c.default_in.result = search rules in
+    let is : to_z w32 (of_z w32 c.default_in.result) ≡ value (scene_of c.args.self.now) c.args.h.0 c.args.part c.args.prop =
+    to_z-of_z w32 c.default_in.result fits ∙ c.default_in.ensures
+    ∙ value-is (parts_of c.args.self.now) c.args.self.now.kept c.args.h.0 c.args.part c.args.prop (shown_row c.args.row.now) None
+    (c.requires ∙ sym (read-row (parts_of c.args.self.now) c.args.self.now.kept c.args.h.0 _ refl)) (sym c.in-None.is ∙ c.given.ensures) in
+    subst (λ n. is_value c.args.prop n ≡ true) (sym is) (values_in_range (scene_of c.args.self.now) c.args.h.0 c.args.part c.args.prop c.args.self.now.kept.valid)

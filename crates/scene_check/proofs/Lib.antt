@@ -14,5 +14,6 @@ pub mod Owning
 pub mod PlainWords
 pub mod Planting
 pub mod Scenes
+pub mod Steps
 pub mod Trees
 pub mod Worked

@@ -65,3 +65,9 @@ pub returns-clause-runs : goal.returns-clause-runs
 returns-clause-runs g c =
     let opens = rw c.in-Err-NoMemory.field-0-is at c.in-Err-NoMemory.ensures in
     runs_no_memory _ (g.S.Source.state c.args.source.now) (g.L.Sink.state c.args.log.now) (g.P.Panel.state c.args.panel.now) (g.P.Panel.state c.open-2.new.self) opens.0
+
+pub run_made-requires-clause-least : goal.run_made-requires-clause-least
+run_made-requires-clause-least g c = (c.in-Ok-Some.limits.made c.in-Some.k c.in-Some.is).0
+
+pub run_made-requires-clause-most : goal.run_made-requires-clause-most
+run_made-requires-clause-most g c = (c.in-Ok-Some.limits.made c.in-Some.k c.in-Some.is).1

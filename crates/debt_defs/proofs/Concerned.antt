@@ -125,18 +125,7 @@ module _ (scene : Scene) (v : IsValid scene) (k : ℕ) where
   differs-not (change.EndFont f) t w off = record { object = refl; children = refl; values = λ part prop. refl }
   differs-not (change.Image i format width height) t w off = record { object = refl; children = refl; values = λ part prop. refl }
   differs-not (change.ImageRow i y bytes) t w off = record { object = refl; children = refl; values = λ part prop. refl }
-  differs-not (change.Flag h flag on) t w off = set-same scene h.0 k _ (λ object. refl) off (λ object. refl) true (λ e object. refl) (λ e. absurd (false≢true (sym e)))
-  differs-not (change.Pos h x y) t w off = set-same scene h.0 k _ (λ object. refl) off (λ object. refl) true (λ e object. refl) (λ e. absurd (false≢true (sym e)))
-  differs-not (change.Align h align x y) t w off = set-same scene h.0 k _ (λ object. refl) off (λ object. refl) true (λ e object. refl) (λ e. absurd (false≢true (sym e)))
-  differs-not (change.Size h width height) t w off = set-same scene h.0 k _ (λ object. refl) off (λ object. refl) true (λ e object. refl) (λ e. absurd (false≢true (sym e)))
-  differs-not (change.Scroll h x y) t w off = set-same scene h.0 k _ (λ object. refl) off (λ object. refl) true (λ e object. refl) (λ e. absurd (false≢true (sym e)))
-  differs-not (change.Flex h flow) t w off = set-same scene h.0 k _ (λ object. refl) off (λ object. refl) true (λ e object. refl) (λ e. absurd (false≢true (sym e)))
-  differs-not (change.Places h main cross track) t w off = set-same scene h.0 k _ (λ object. refl) off (λ object. refl) true (λ e object. refl) (λ e. absurd (false≢true (sym e)))
-  differs-not (change.Grow h n) t w off = set-same scene h.0 k _ (λ object. refl) off (λ object. refl) true (λ e object. refl) (λ e. absurd (false≢true (sym e)))
-  differs-not (change.Text h text) t w off = set-same scene h.0 k _ (λ object. refl) off (λ object. refl) true (λ e object. refl) (λ e. absurd (false≢true (sym e)))
-  differs-not (change.Value h n) t w off = set-same scene h.0 k _ (λ object. refl) off (λ object. refl) true (λ e object. refl) (λ e. absurd (false≢true (sym e)))
-  differs-not (change.Range h low high) t w off = set-same scene h.0 k _ (λ object. refl) off (λ object. refl) true (λ e object. refl) (λ e. absurd (false≢true (sym e)))
-  differs-not (change.Source h i) t w off = set-same scene h.0 k _ (λ object. refl) off (λ object. refl) true (λ e object. refl) (λ e. absurd (false≢true (sym e)))
+  differs-not c t w off = set-same scene _ k _ (λ object. refl) off (λ object. refl) true (λ e object. refl) (λ e. absurd (false≢true (sym e)))
 
 -- What is alike is the same: the fonts and images that it shows are finished, and stay.
 shown-image : (images : List Image) (h : ℕ) (f : Forest Object) → all_by (in_order images) f ≡ true → is_shown_image images (image_of (option_map row_of (object_by (is_at h) f))) ≡ true

@@ -17,11 +17,16 @@ use Rattle.widget_defs.specs.declared.ImageLook.{ImageLook}
 use Rattle.widget_defs.specs.Looks.{Look}
 use Rattle.scene_defs.specs.declared.Row.{Row}
 use Rattle.scene_defs.specs.declared.Change.{Change}
-use Rattle.scene_defs.specs.declared.Change.TheVariants as change
+use Rattle.debt_defs.specs.declared.subject.Reach.{Reach}
+use Rattle.debt_defs.specs.declared.subject.Reach.TheVariants.{OfProp, OfStyle}
+use Rattle.debt_defs.specs.declared.subject.Subject.{Subject}
+use Rattle.debt_defs.specs.declared.subject.Subject.TheVariants.{Own, Spread, Styled, Shared, Made, Comes}
+use Rattle.debt_defs.specs.declared.subject.Subject.TheVariants.{Goes, Moves, Among, Loads, Nobody}
 use Rattle.scene_defs.specs.Scene.{Object, Scene, handle_of, is_at, object_at, row_at, path_at, value}
 use Rattle.scene_defs.specs.Looks.{font_at, image_look, look_of}
 use Rattle.scene_defs.specs.Edits.{text_at}
 use Rattle.scene_defs.specs.Change.{changed}
+use Rattle.debt_defs.specs.Subject.{subject_of}
 use Rattle.scene_defs.specs.Valid.{IsValid, IsChange}
 use Rattle.debt_defs.specs.Look.{is_among}
 
@@ -73,43 +78,30 @@ loses scene h k = lies_in scene h k || is_among (children scene k) h
 abbrev pub holds_place : Scene → ℕ → ℕ → Bool
 holds_place scene h k = k == h || is_among (children scene k) h
 
--- Whether a change of a scene concerns k. A setter concerns its object. A state, or what sets a property that
--- is inherited, concerns all below it too, and a shared style all its users. A tree that goes away from its
--- parent concerns both parents and all of the tree; among its siblings it concerns itself and the parent.
+-- whether what is set is inherited: a property, or one of those that a style sets
+abbrev pub is_inherited_by : Scene → Reach → Bool
+is_inherited_by scene (OfProp prop) = inherits prop
+is_inherited_by scene (OfStyle s) = sets_inherited scene.book s
+
+-- Whether a change of a scene that is about this concerns k. A setter concerns its object. A state, or what sets
+-- a property that is inherited, concerns all below it too, and a shared style all its users. A tree that goes
+-- away from its parent concerns both parents and all of the tree; among its siblings it concerns itself and the
+-- parent.
+abbrev pub touches : Scene → Subject → ℕ → Bool
+touches scene (Own h) k = k == h.0
+touches scene (Spread h) k = k == h.0 || lies_in scene h.0 k
+touches scene (Styled h reach) k = asks scene (is_inherited_by scene reach) h.0 k
+touches scene (Shared s prop) k = asks_user scene (inherits prop) s k
+touches scene (Made n) k = k == n.0
+touches scene (Comes n p) k = k == n.0 || k == p.0
+touches scene (Goes h) k = loses scene h.0 k
+touches scene (Moves h p) k = loses scene h.0 k || k == p.0
+touches scene (Among h) k = holds_place scene h.0 k
+touches scene (Loads h) k = k == h.0
+touches scene Nobody k = false
+
 abbrev pub concerns : Scene → Change → ℕ → Bool
-concerns scene (change.Screen n) k = k == n.0
-concerns scene (change.New n p kind) k = k == n.0 || k == p.0
-concerns scene (change.Delete h) k = loses scene h.0 k
-concerns scene (change.Parent h p) k = loses scene h.0 k || k == p.0
-concerns scene (change.Index h n) k = holds_place scene h.0 k
-concerns scene (change.Front h) k = holds_place scene h.0 k
-concerns scene (change.Back h) k = holds_place scene h.0 k
-concerns scene (change.Load h) k = k == h.0
-concerns scene (change.Flag h flag on) k = k == h.0
-concerns scene (change.Pos h x y) k = k == h.0
-concerns scene (change.Align h align x y) k = k == h.0
-concerns scene (change.Size h width height) k = k == h.0
-concerns scene (change.Scroll h x y) k = k == h.0
-concerns scene (change.Flex h flow) k = k == h.0
-concerns scene (change.Places h main cross track) k = k == h.0
-concerns scene (change.Grow h n) k = k == h.0
-concerns scene (change.State h state on) k = k == h.0 || lies_in scene h.0 k
-concerns scene (change.Text h text) k = k == h.0
-concerns scene (change.Value h n) k = k == h.0
-concerns scene (change.Range h low high) k = k == h.0
-concerns scene (change.Source h i) k = k == h.0
-concerns scene (change.Style s) k = false
-concerns scene (change.Set s prop value) k = asks_user scene (inherits prop) s k
-concerns scene (change.Unset s prop) k = asks_user scene (inherits prop) s k
-concerns scene (change.Use h s selector) k = asks scene (sets_inherited scene.book s) h.0 k
-concerns scene (change.Unuse h s selector) k = asks scene (sets_inherited scene.book s) h.0 k
-concerns scene (change.Local h selector prop value) k = asks scene (inherits prop) h.0 k
-concerns scene (change.Unlocal h selector prop) k = asks scene (inherits prop) h.0 k
-concerns scene (change.Font f height advance) k = false
-concerns scene (change.Glyph f code shape bytes) k = false
-concerns scene (change.EndFont f) k = false
-concerns scene (change.Image i format width height) k = false
-concerns scene (change.ImageRow i y bytes) k = false
+concerns scene change k = touches scene (subject_of change) k
 
 -- the font of the text of h
 abbrev pub face_at : Scene → ℕ → Face

@@ -8,4 +8,5 @@ pub mod Named
 pub mod Orders
 pub mod Same
 pub mod Scenes
+pub mod Subject
 pub mod TooLittle

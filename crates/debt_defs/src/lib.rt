@@ -1,5 +1,6 @@
 //! What a change of a scene owes: the areas that are to be painted anew, and why no other pixel changes.
-//! There is no code here: each function does nothing, and its contract is a law, which is proved.
+//! The only code is what code and definitions share, what a change is about, and laws: each function does
+//! nothing, and its contract is proved.
 #![tactic(auto)]
 
 ghost use Rattle.debt_defs.specs.Concerns.{OthersAreSame, OthersLookSame};
@@ -10,6 +11,10 @@ ghost use Rattle.debt_defs.specs.Laws.{DebtIsRound};
 ghost use Rattle.debt_defs.specs.Orders.{OthersKeepOrder, SettersKeepOrder, SeenInsideAbove};
 ghost use Rattle.debt_defs.specs.TooLittle.{TooLittleIsOwed};
 ghost use Rattle.widget_defs.specs.Items.{Item};
+
+mod subject;
+
+pub use subject::{Reach, Subject};
 
 /// A pixel that no area of the debt of a change has keeps its paint. It holds for any look of scenes whose
 /// objects keep their order but for what is seen inside the named one.

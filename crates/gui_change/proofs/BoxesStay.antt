@@ -15,10 +15,13 @@ use Rattle.scene_defs.specs.Edits.{over_row, with_row}
 use Rattle.scene_defs.specs.Row.{is_on}
 use Rattle.scene_defs.specs.Scene.{Object, Scene, value}
 use Rattle.scene_defs.specs.Valid.{IsValid, IsChange}
-use Rattle.debt_defs.specs.Concerns.{concerns}
+use Rattle.debt_defs.specs.declared.subject.Subject.{Subject}
+use Rattle.debt_defs.specs.declared.subject.Subject.TheVariants.{Nobody}
+use Rattle.debt_defs.specs.Subject.{subject_of}
+use Rattle.debt_defs.specs.Concerns.{concerns, touches}
 use Rattle.debt_defs.proofs.Concerned.{others_are_same}
 use Rattle.gui_layout.specs.Scenes.{scene_box}
-use Rattle.gui_change.specs.Moving.{moves_nobody, goes_by}
+use Rattle.gui_change.specs.Moving.{moves_nobody, is_nobody, goes_by}
 use Rattle.gui_change.proofs.Changes.{after_is}
 use Rattle.gui_change.proofs.Laid.{laid, box-same}
 use Rattle.gui_change.proofs.MainValues.{values-set, values-unset, values-local, values-unlocal}
@@ -36,6 +39,10 @@ module _ (scene : Scene) (k : ℕ) where
   others-stay change valid plain off done =
       ap (λ (s : Scene). scene_box s k) (sym (after_is scene change done))
       ∙ box-alike scene (changed scene change) k (looks-same scene (changed scene change) k (others_are_same scene change k valid plain off))
+
+  untouched : (subject : Subject) → is_nobody subject ≡ true → touches scene subject k ≡ false
+  untouched Nobody is = refl
+  untouched subject is = absurd (false≢true is)
 
   style-stays : (after : Book) → ((q : Prop) → goes_by q ≡ true → value (record scene { book = after }) k Main q ≡ value scene k Main q) →
       scene_box (record scene { book = after }) k ≡ scene_box scene k
@@ -61,13 +68,7 @@ module _ (scene : Scene) (k : ℕ) where
   after-stays (change.Unset s p) valid plain done nobody = style-stays _ (values-unset scene s p k (not-true _ nobody))
   after-stays (change.Local h selector p n) valid plain done nobody = style-stays _ (λ q on. values-local scene h.0 selector p (not-true _ nobody) k q on n)
   after-stays (change.Unlocal h selector p) valid plain done nobody = style-stays _ (λ q on. values-unlocal scene h.0 selector p (not-true _ nobody) k q on)
-  after-stays (change.Style s) valid plain done nobody = others-stay (change.Style s) valid plain refl done
-  after-stays (change.Font f height advance) valid plain done nobody = others-stay (change.Font f height advance) valid plain refl done
-  after-stays (change.Glyph f code shape bytes) valid plain done nobody = others-stay (change.Glyph f code shape bytes) valid plain refl done
-  after-stays (change.EndFont f) valid plain done nobody = others-stay (change.EndFont f) valid plain refl done
-  after-stays (change.Image i format width height) valid plain done nobody = others-stay (change.Image i format width height) valid plain refl done
-  after-stays (change.ImageRow i y bytes) valid plain done nobody = others-stay (change.ImageRow i y bytes) valid plain refl done
-  after-stays change valid plain done nobody = absurd (false≢true nobody)
+  after-stays change valid plain done nobody = others-stay change valid plain (untouched (subject_of change) nobody) done
 
 pub boxes_stay : (scene : Scene) (change : Change) → IsValid scene → IsChange change → answer_of scene change ≡ None → moves_nobody change ≡ true →
     (k : ℕ) → scene_box (changed scene change) k ≡ scene_box scene k

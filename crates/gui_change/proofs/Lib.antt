@@ -1,3 +1,4 @@
+pub mod Subjects
 pub mod Alike
 pub mod BarsStay
 pub mod Below

@@ -27,7 +27,7 @@ use Rattle.gui_layout.specs.declared.places.Places.{Places}
 use Rattle.gui_layout.proofs.Climbing.{is_above}
 use Rattle.gui_tree.proofs.Parts.{distinct_once}
 use Rattle.gui_change.specs.Concerned.{may_be}
-use Rattle.gui_change.specs.Edits.{WasKept, WasSeenEdited, beside, edit_of}
+use Rattle.gui_change.specs.Edits.{WasKept, WasSeenEdited, edit_of}
 use Rattle.gui_change.specs.Marking.{ScrollsSame}
 use Rattle.gui_change.specs.Seen.{IsSeen}
 use Rattle.gui_change.specs.declared.concerned.Concerned.{Concerned}
@@ -37,26 +37,12 @@ use Rattle.gui_change.specs.declared.seen.Seen.{Seen}
 use Rattle.gui_change.proofs.BarsStay.{bars-alike}
 use Rattle.gui_change.proofs.Below.{handles-stay}
 use Rattle.gui_change.proofs.Orders.{shown_listed}
+use Rattle.gui_change.proofs.Subjects.{leaves-by}
 use Rattle.gui_change.proofs.Subtrees.{tree-trans}
 use Rattle.gui_change.proofs.Unchanged.{DifferBut, boxes-hidden, looks-same, still-seen}
 use Rattle.gui_change.proofs.Unmoved.{limits-stay, off-concerned, same-after, valid-after}
 
 -- Such a change leaves the trees and the active screen.
-not-beside : (above : Option Handle) → Same ≡ beside above → ⊥
-not-beside None is = cc
-not-beside (Some p) is = cc
-
-leaves-by : (scene : Scene) (c : Change) → Same ≡ edit_of scene c → leaves_trees scene c ≡ true
-leaves-by scene (change.Screen n) is = cc
-leaves-by scene (change.New n p kind) is = cc
-leaves-by scene (change.Delete h) is = cc
-leaves-by scene (change.Parent h p) is = cc
-leaves-by scene (change.Index h n) is = absurd (not-beside (option_map as_handle (parent_of (handles_of scene.trees) h.0)) is)
-leaves-by scene (change.Front h) is = absurd (not-beside (option_map as_handle (parent_of (handles_of scene.trees) h.0)) is)
-leaves-by scene (change.Back h) is = absurd (not-beside (option_map as_handle (parent_of (handles_of scene.trees) h.0)) is)
-leaves-by scene (change.Load h) is = cc
-leaves-by scene c is = refl
-
 active-by : (scene : Scene) (c : Change) (setter : Option Setter) (styling : Option Styling) (assets : Option AssetChange) → Same ≡ edit_of scene c → (after_by setter styling assets scene c).active ≡ scene.active
 active-by scene c (Some setter) styling assets is = refl
 active-by scene c None (Some styling) assets is = refl

@@ -1,3 +1,4 @@
+pub mod After
 pub mod Again
 pub mod Bars
 pub mod Canvas

@@ -12,6 +12,7 @@
 //! What is known of the objects is lent, in paint order, so that a painter need not look it up.
 #![tactic(auto)]
 
+mod after;
 mod again;
 mod bars;
 mod canvas;

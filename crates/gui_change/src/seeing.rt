@@ -7,13 +7,13 @@ ghost use Rattle.std.specs.List.{flat_map};
 ghost use Rattle.debt_defs.specs.Debt.{is_named};
 ghost use Rattle.gui_base.specs.Forest.{has, tree_at};
 ghost use Rattle.gui_layout.specs.Listing.{HasThese, times};
-ghost use Rattle.gui_layout.specs.Solved.{AreReached, AreSolved};
 ghost use Rattle.gui_pool.specs.Table.{value_at};
 ghost use Rattle.gui_store.specs.Views.{scene_of};
 ghost use Rattle.gui_style.specs.Styles.{uses_style};
 ghost use Rattle.gui_tree.specs.Handles.{numbers};
 ghost use Rattle.scene_defs.specs.Scene.{handles_of, is_there};
 ghost use Rattle.scene_defs.specs.Shown.{entries, order};
+ghost use Rattle.gui_change.specs.After.{scene_after};
 ghost use Rattle.gui_change.specs.Again.{owed_again};
 ghost use Rattle.gui_change.specs.Concerned.{is_below, is_below_user, may_be};
 ghost use Rattle.gui_change.specs.Dues.{OwesAll};
@@ -26,6 +26,7 @@ ghost use Rattle.gui_change.specs.Sees.{is_below_other, IsRoom, IsSeenIn, KnowsS
 ghost use Rattle.gui_change.specs.Sights.{KeepOthers};
 ghost use Rattle.gui_change.specs.declared.seen.Seen.{Seen};
 
+use crate::after::After;
 use crate::again::see_all_again;
 use crate::concerned::Concerned;
 use crate::debts::is_named;
@@ -34,7 +35,6 @@ use crate::seen::Seen;
 use crate::shown::list_tree;
 use gui_base::{Grid, Handle};
 use gui_damage::Damage;
-use gui_layout::Places;
 use gui_pool::Table;
 use gui_store::Store;
 
@@ -43,26 +43,22 @@ fn see_one(
     table: &mut Table<Seen>,
     damage: &mut Damage<Grid>,
     named: Option<Handle>,
-    store: &Store,
-    places: &Places,
-    concerned: Concerned,
+    after: &After<'_>,
     h: Handle,
 )
-    requires solved { AreSolved places.now (scene_of store.now) }
-    requires reached { AreReached places.now (scene_of store.now) }
-    requires known { KeepOthers table.old concerned (scene_of store.now) }
-    requires shown { KnowsShown table.old (scene_of store.now) }
+    requires known { KeepOthers table.old after.now.concerned (scene_after after.now) }
+    requires shown { KnowsShown table.old (scene_after after.now) }
     requires named { (k : ℕ) → (h.0 == k) ≡ false → is_named (option_map number_of named) k ≡ false }
     ensures sees { SeesAgain (option_map number_of named)
-        (scene_of store.now) table.old table.new damage.old damage.new }
-    ensures own { IsSeenIn table.new (scene_of store.now) h.0 }
+        (scene_after after.now) table.old table.new damage.old damage.new }
+    ensures own { IsSeenIn table.new (scene_after after.now) h.0 }
 {
-    let _tree = store.tree();
+    let _tree = after.store.tree();
     if table.get(h.0 as u32).is_none() {
         return;
     }
     let one = [h];
-    see_all_again(table, damage, named, &one, store, places, concerned);
+    see_all_again(table, damage, named, &one, after);
 }
 
 /// Sees the object that a change names once more, if something is known of it. It owes even where nothing
@@ -71,23 +67,19 @@ fn see_named(
     table: &mut Table<Seen>,
     damage: &mut Damage<Grid>,
     named: Option<Handle>,
-    store: &Store,
-    places: &Places,
-    concerned: Concerned,
+    after: &After<'_>,
 )
-    requires solved { AreSolved places.now (scene_of store.now) }
-    requires reached { AreReached places.now (scene_of store.now) }
-    requires known { KeepOthers table.old concerned (scene_of store.now) }
-    requires shown { KnowsShown table.old (scene_of store.now) }
+    requires known { KeepOthers table.old after.now.concerned (scene_after after.now) }
+    requires shown { KnowsShown table.old (scene_after after.now) }
     ensures sees { SeesAgain (option_map number_of named)
-        (scene_of store.now) table.old table.new damage.old damage.new }
+        (scene_after after.now) table.old table.new damage.old damage.new }
     ensures own { (k : ℕ) → is_named (option_map number_of named) k ≡ true →
-        IsSeenIn table.new (scene_of store.now) k }
+        IsSeenIn table.new (scene_after after.now) k }
 {
     let Some(h) = named else {
         return;
     };
-    see_one(table, damage, named, store, places, concerned, h);
+    see_one(table, damage, named, after, h);
 }
 
 /// Sees an object that is there and all below it once more. Where nothing is known of it, nothing is known of
@@ -97,38 +89,26 @@ fn see_tree(
     listed: &mut Vec<Handle>,
     damage: &mut Damage<Grid>,
     named: Option<Handle>,
-    store: &Store,
-    places: &Places,
-    concerned: Concerned,
+    after: &After<'_>,
     top: Handle,
 )
-    requires solved { AreSolved places.now (scene_of store.now) }
-    requires reached { AreReached places.now (scene_of store.now) }
-    requires known { KeepOthers table.old concerned (scene_of store.now) }
-    requires shown { KnowsShown table.old (scene_of store.now) }
-    requires room { IsRoom (scene_of store.now).limits.objects listed.old }
-    requires there { is_there (scene_of store.now) top.0 ≡ true }
+    requires known { KeepOthers table.old after.now.concerned (scene_after after.now) }
+    requires shown { KnowsShown table.old (scene_after after.now) }
+    requires room { IsRoom (scene_after after.now).limits.objects listed.old }
+    requires there { is_there (scene_after after.now) top.0 ≡ true }
     requires named { (k : ℕ) → (top.0 == k) ≡ false → is_named (option_map number_of named) k ≡ false }
     ensures sees { SeesAgain (option_map number_of named)
-        (scene_of store.now) table.old table.new damage.old damage.new }
-    ensures all { (k : ℕ) → has (tree_at (handles_of (scene_of store.now).trees) top.0) k ≡ true →
-        IsSeenIn table.new (scene_of store.now) k }
-    ensures room { IsRoom (scene_of store.now).limits.objects listed.new }
+        (scene_after after.now) table.old table.new damage.old damage.new }
+    ensures all { (k : ℕ) → has (tree_at (handles_of (scene_after after.now).trees) top.0) k ≡ true →
+        IsSeenIn table.new (scene_after after.now) k }
+    ensures room { IsRoom (scene_after after.now).limits.objects listed.new }
 {
-    let tree = store.tree();
+    let tree = after.store.tree();
     if table.get(top.0 as u32).is_none() {
         return;
     }
     list_tree(tree, listed, top);
-    see_all_again(
-        table,
-        damage,
-        named,
-        listed.as_slice(),
-        store,
-        places,
-        concerned,
-    );
+    see_all_again(table, damage, named, listed.as_slice(), after);
     listed.clear();
 }
 
@@ -137,24 +117,20 @@ fn see_trees(
     table: &mut Table<Seen>,
     listed: &mut Vec<Handle>,
     damage: &mut Damage<Grid>,
-    store: &Store,
-    places: &Places,
-    concerned: Concerned,
+    after: &After<'_>,
     tops: &[Handle],
 )
-    requires solved { AreSolved places.now (scene_of store.now) }
-    requires reached { AreReached places.now (scene_of store.now) }
-    requires known { KeepOthers table.old concerned (scene_of store.now) }
-    requires shown { KnowsShown table.old (scene_of store.now) }
-    requires room { IsRoom (scene_of store.now).limits.objects listed.old }
-    requires tops { (u : ℕ) → 0 < times tops.now u → is_there (scene_of store.now) u ≡ true }
-    ensures sees { SeesAgain None (scene_of store.now) table.old table.new damage.old damage.new }
-    ensures all { (k : ℕ) → in_trees_at (handles_of (scene_of store.now).trees) tops.now k ≡ true →
-        IsSeenIn table.new (scene_of store.now) k }
-    ensures room { IsRoom (scene_of store.now).limits.objects listed.new }
+    requires known { KeepOthers table.old after.now.concerned (scene_after after.now) }
+    requires shown { KnowsShown table.old (scene_after after.now) }
+    requires room { IsRoom (scene_after after.now).limits.objects listed.old }
+    requires tops { (u : ℕ) → 0 < times tops.now u → is_there (scene_after after.now) u ≡ true }
+    ensures sees { SeesAgain None (scene_after after.now) table.old table.new damage.old damage.new }
+    ensures all { (k : ℕ) → in_trees_at (handles_of (scene_after after.now).trees) tops.now k ≡ true →
+        IsSeenIn table.new (scene_after after.now) k }
+    ensures room { IsRoom (scene_after after.now).limits.objects listed.new }
 {
     for top in tops {
-        see_tree(table, listed, damage, None, store, places, concerned, *top);
+        see_tree(table, listed, damage, None, after, *top);
     }
 }
 
@@ -164,49 +140,36 @@ fn see_below(
     listed: &mut Vec<Handle>,
     damage: &mut Damage<Grid>,
     named: Option<Handle>,
-    store: &Store,
-    places: &Places,
-    concerned: Concerned,
+    after: &After<'_>,
     h: Handle,
 )
-    requires solved { AreSolved places.now (scene_of store.now) }
-    requires reached { AreReached places.now (scene_of store.now) }
-    requires known { KeepOthers table.old concerned (scene_of store.now) }
-    requires shown { KnowsShown table.old (scene_of store.now) }
-    requires room { IsRoom (scene_of store.now).limits.objects listed.old }
+    requires known { KeepOthers table.old after.now.concerned (scene_after after.now) }
+    requires shown { KnowsShown table.old (scene_after after.now) }
+    requires room { IsRoom (scene_after after.now).limits.objects listed.old }
     requires named { (k : ℕ) → (h.0 == k) ≡ false → is_named (option_map number_of named) k ≡ false }
     ensures sees { SeesAgain (option_map number_of named)
-        (scene_of store.now) table.old table.new damage.old damage.new }
-    ensures all { (k : ℕ) → is_below (scene_of store.now) h.0 k ≡ true →
-        IsSeenIn table.new (scene_of store.now) k }
-    ensures room { IsRoom (scene_of store.now).limits.objects listed.new }
+        (scene_after after.now) table.old table.new damage.old damage.new }
+    ensures all { (k : ℕ) → is_below (scene_after after.now) h.0 k ≡ true →
+        IsSeenIn table.new (scene_after after.now) k }
+    ensures room { IsRoom (scene_after after.now).limits.objects listed.new }
 {
-    if !store.tree().has(h) {
+    if !after.store.tree().has(h) {
         return;
     }
-    see_tree(table, listed, damage, named, store, places, concerned, h);
+    see_tree(table, listed, damage, named, after, h);
 }
 
 /// Sees each user of a style once more.
-fn see_users(
-    table: &mut Table<Seen>,
-    damage: &mut Damage<Grid>,
-    store: &Store,
-    places: &Places,
-    concerned: Concerned,
-    style: u16,
-)
-    requires solved { AreSolved places.now (scene_of store.now) }
-    requires reached { AreReached places.now (scene_of store.now) }
-    requires known { KeepOthers table.old concerned (scene_of store.now) }
-    requires shown { KnowsShown table.old (scene_of store.now) }
-    ensures sees { SeesAgain None (scene_of store.now) table.old table.new damage.old damage.new }
-    ensures all { (k : ℕ) → uses_style (scene_of store.now).book k style ≡ true →
-        IsSeenIn table.new (scene_of store.now) k }
+fn see_users(table: &mut Table<Seen>, damage: &mut Damage<Grid>, after: &After<'_>, style: u16)
+    requires known { KeepOthers table.old after.now.concerned (scene_after after.now) }
+    requires shown { KnowsShown table.old (scene_after after.now) }
+    ensures sees { SeesAgain None (scene_after after.now) table.old table.new damage.old damage.new }
+    ensures all { (k : ℕ) → uses_style (scene_after after.now).book k style ≡ true →
+        IsSeenIn table.new (scene_after after.now) k }
 {
-    let mut users = store.users(style);
+    let mut users = after.store.users(style);
     while let Some(h) = users.next() {
-        see_one(table, damage, None, store, places, concerned, *h);
+        see_one(table, damage, None, after, *h);
     }
 }
 
@@ -225,22 +188,19 @@ fn see_below_users(
     table: &mut Table<Seen>,
     listed: &mut Vec<Handle>,
     damage: &mut Damage<Grid>,
-    store: &Store,
-    places: &Places,
-    concerned: Concerned,
+    after: &After<'_>,
     style: u16,
 )
-    requires solved { AreSolved places.now (scene_of store.now) }
-    requires reached { AreReached places.now (scene_of store.now) }
-    requires known { KeepOthers table.old concerned (scene_of store.now) }
-    requires shown { KnowsShown table.old (scene_of store.now) }
-    requires room { IsRoom (scene_of store.now).limits.objects listed.old }
-    ensures sees { SeesAgain None (scene_of store.now) table.old table.new damage.old damage.new }
-    ensures all { (k : ℕ) → is_below_user (scene_of store.now) style k ≡ true →
-        IsSeenIn table.new (scene_of store.now) k }
-    ensures room { IsRoom (scene_of store.now).limits.objects listed.new }
+    requires known { KeepOthers table.old after.now.concerned (scene_after after.now) }
+    requires shown { KnowsShown table.old (scene_after after.now) }
+    requires room { IsRoom (scene_after after.now).limits.objects listed.old }
+    ensures sees { SeesAgain None (scene_after after.now) table.old table.new damage.old damage.new }
+    ensures all { (k : ℕ) → is_below_user (scene_after after.now) style k ≡ true →
+        IsSeenIn table.new (scene_after after.now) k }
+    ensures room { IsRoom (scene_after after.now).limits.objects listed.new }
 {
     // Lending the tree tells that the scene is in order.
+    let store = after.store;
     let _tree = store.tree();
     let mut users = store.users(style);
     while let Some(h) = users.next() {
@@ -248,7 +208,7 @@ fn see_below_users(
         if is_below_other(store, style, *h) {
             continue;
         }
-        see_below(table, listed, damage, None, store, places, concerned, *h);
+        see_below(table, listed, damage, None, after, *h);
     }
 }
 
@@ -256,43 +216,35 @@ fn see_below_users(
 fn see_shown(
     table: &mut Table<Seen>,
     damage: &mut Damage<Grid>,
-    store: &Store,
-    places: &Places,
-    concerned: Concerned,
+    after: &After<'_>,
     listed: &[Handle],
 )
-    requires solved { AreSolved places.now (scene_of store.now) }
-    requires reached { AreReached places.now (scene_of store.now) }
-    requires known { KeepOthers table.old concerned (scene_of store.now) }
-    requires shown { KnowsShown table.old (scene_of store.now) }
-    requires order { numbers listed.now ≡ order (scene_of store.now) }
-    ensures sees { SeesAgain None (scene_of store.now) table.old table.new damage.old damage.new }
-    ensures all { (k : ℕ) → IsSeenIn table.new (scene_of store.now) k }
+    requires known { KeepOthers table.old after.now.concerned (scene_after after.now) }
+    requires shown { KnowsShown table.old (scene_after after.now) }
+    requires order { numbers listed.now ≡ order (scene_after after.now) }
+    ensures sees { SeesAgain None (scene_after after.now) table.old table.new damage.old damage.new }
+    ensures all { (k : ℕ) → IsSeenIn table.new (scene_after after.now) k }
 {
-    let _tree = store.tree();
-    see_all_again(table, damage, None, listed, store, places, concerned);
+    let _tree = after.store.tree();
+    see_all_again(table, damage, None, listed, after);
 }
 
 /// Sees two objects once more.
 fn see_both(
     table: &mut Table<Seen>,
     damage: &mut Damage<Grid>,
-    store: &Store,
-    places: &Places,
-    concerned: Concerned,
+    after: &After<'_>,
     h: Handle,
     other: Handle,
 )
-    requires solved { AreSolved places.now (scene_of store.now) }
-    requires reached { AreReached places.now (scene_of store.now) }
-    requires known { KeepOthers table.old concerned (scene_of store.now) }
-    requires shown { KnowsShown table.old (scene_of store.now) }
-    ensures sees { SeesAgain None (scene_of store.now) table.old table.new damage.old damage.new }
-    ensures own { IsSeenIn table.new (scene_of store.now) h.0 }
-    ensures other { IsSeenIn table.new (scene_of store.now) other.0 }
+    requires known { KeepOthers table.old after.now.concerned (scene_after after.now) }
+    requires shown { KnowsShown table.old (scene_after after.now) }
+    ensures sees { SeesAgain None (scene_after after.now) table.old table.new damage.old damage.new }
+    ensures own { IsSeenIn table.new (scene_after after.now) h.0 }
+    ensures other { IsSeenIn table.new (scene_after after.now) other.0 }
 {
-    see_one(table, damage, None, store, places, concerned, h);
-    see_one(table, damage, None, store, places, concerned, other);
+    see_one(table, damage, None, after, h);
+    see_one(table, damage, None, after, other);
 }
 
 /// Sees the objects once more that a change may concern, where it is not the named one alone: that was seen.
@@ -302,41 +254,33 @@ fn see_concerned(
     listed: &mut Vec<Handle>,
     damage: &mut Damage<Grid>,
     named: Option<Handle>,
-    store: &Store,
-    places: &Places,
-    concerned: Concerned,
+    after: &After<'_>,
     shown: &[Handle],
 )
-    requires solved { AreSolved places.now (scene_of store.now) }
-    requires reached { AreReached places.now (scene_of store.now) }
-    requires known { KeepOthers table.old concerned (scene_of store.now) }
-    requires shown { KnowsShown table.old (scene_of store.now) }
-    requires room { IsRoom (scene_of store.now).limits.objects listed.old }
-    requires order { numbers shown.now ≡ order (scene_of store.now) }
+    requires known { KeepOthers table.old after.now.concerned (scene_after after.now) }
+    requires shown { KnowsShown table.old (scene_after after.now) }
+    requires room { IsRoom (scene_after after.now).limits.objects listed.old }
+    requires order { numbers shown.now ≡ order (scene_after after.now) }
     requires own { (k : ℕ) → is_named (option_map number_of named) k ≡ true →
-        IsSeenIn table.old (scene_of store.now) k }
-    ensures sees { SeesAgain None (scene_of store.now) table.old table.new damage.old damage.new }
-    ensures all { (k : ℕ) → may_be (scene_of store.now) concerned k ≡ true →
-        IsSeenIn table.new (scene_of store.now) k }
-    ensures room { IsRoom (scene_of store.now).limits.objects listed.new }
+        IsSeenIn table.old (scene_after after.now) k }
+    ensures sees { SeesAgain None (scene_after after.now) table.old table.new damage.old damage.new }
+    ensures all { (k : ℕ) → may_be (scene_after after.now) after.now.concerned k ≡ true →
+        IsSeenIn table.new (scene_after after.now) k }
+    ensures room { IsRoom (scene_after after.now).limits.objects listed.new }
 {
-    match concerned {
+    match after.concerned {
         Concerned::Nobody => {}
         Concerned::One(h) if is_named(named, h) => {}
-        Concerned::One(h) => see_one(table, damage, None, store, places, concerned, h),
-        Concerned::Both(h, k) => see_both(table, damage, store, places, concerned, h, k),
-        Concerned::Below(h) => {
-            see_below(table, listed, damage, None, store, places, concerned, h);
-        }
+        Concerned::One(h) => see_one(table, damage, None, after, h),
+        Concerned::Both(h, k) => see_both(table, damage, after, h, k),
+        Concerned::Below(h) => see_below(table, listed, damage, None, after, h),
         Concerned::Moved(h, k, m) => {
-            see_both(table, damage, store, places, concerned, k, m);
-            see_below(table, listed, damage, None, store, places, concerned, h);
+            see_both(table, damage, after, k, m);
+            see_below(table, listed, damage, None, after, h);
         }
-        Concerned::Users(style) => see_users(table, damage, store, places, concerned, style),
-        Concerned::BelowUsers(style) => {
-            see_below_users(table, listed, damage, store, places, concerned, style);
-        }
-        Concerned::Anybody => see_shown(table, damage, store, places, concerned, shown),
+        Concerned::Users(style) => see_users(table, damage, after, style),
+        Concerned::BelowUsers(style) => see_below_users(table, listed, damage, after, style),
+        Concerned::Anybody => see_shown(table, damage, after, shown),
     }
 }
 
@@ -347,32 +291,27 @@ fn see_own(
     listed: &mut Vec<Handle>,
     damage: &mut Damage<Grid>,
     named: Option<Handle>,
-    store: &Store,
-    places: &Places,
-    concerned: Concerned,
+    after: &After<'_>,
     shown: &[Handle],
 )
-    requires solved { AreSolved places.now (scene_of store.now) }
-    requires reached { AreReached places.now (scene_of store.now) }
-    requires known { KeepOthers table.old concerned (scene_of store.now) }
-    requires shown { KnowsShown table.old (scene_of store.now) }
-    requires room { IsRoom (scene_of store.now).limits.objects listed.old }
-    requires order { numbers shown.now ≡ order (scene_of store.now) }
+    requires known { KeepOthers table.old after.now.concerned (scene_after after.now) }
+    requires shown { KnowsShown table.old (scene_after after.now) }
+    requires room { IsRoom (scene_after after.now).limits.objects listed.old }
+    requires order { numbers shown.now ≡ order (scene_after after.now) }
     ensures sees { SeesAgain (option_map number_of named)
-        (scene_of store.now) table.old table.new damage.old damage.new }
-    ensures all { (k : ℕ) → may_be (scene_of store.now) concerned k ≡ true →
-        IsSeenIn table.new (scene_of store.now) k }
-    ensures room { IsRoom (scene_of store.now).limits.objects listed.new }
+        (scene_after after.now) table.old table.new damage.old damage.new }
+    ensures all { (k : ℕ) → may_be (scene_after after.now) after.now.concerned k ≡ true →
+        IsSeenIn table.new (scene_after after.now) k }
+    ensures room { IsRoom (scene_after after.now).limits.objects listed.new }
 {
+    let concerned = after.concerned;
     match concerned {
         Concerned::Below(h) if is_named(named, h) => {
-            see_below(table, listed, damage, named, store, places, concerned, h);
+            see_below(table, listed, damage, named, after, h);
         }
         _ => {
-            see_named(table, damage, named, store, places, concerned);
-            see_concerned(
-                table, listed, damage, named, store, places, concerned, shown,
-            );
+            see_named(table, damage, named, after);
+            see_concerned(table, listed, damage, named, after, shown);
         }
     }
 }
@@ -385,50 +324,35 @@ pub(crate) fn see_changed(
     listed: &mut Vec<Handle>,
     damage: &mut Damage<Grid>,
     named: Option<Handle>,
-    store: &Store,
-    places: &Places,
+    after: &After<'_>,
     solved: &[Handle],
-    concerned: Concerned,
 )
-    requires solved { AreSolved places.now (scene_of store.now) }
-    requires reached { AreReached places.now (scene_of store.now) }
-    requires known { KeepOthers look.old.seen concerned (scene_of store.now) }
-    requires order { numbers look.old.order.items ≡ order (scene_of store.now) }
-    requires entries { all_entries look.old.entries.items ≡ entries (scene_of store.now) }
-    requires table { HasThese (scene_of store.now).limits.objects look.old.seen look.old.order.items }
-    requires order_room { (scene_of store.now).limits.objects ≤ vec_capacity look.old.order }
-    requires entries_room { 2 * (scene_of store.now).limits.objects ≤ vec_capacity look.old.entries }
-    requires tops { (u : ℕ) → 0 < times solved.now u → is_there (scene_of store.now) u ≡ true }
+    requires known { KeepOthers look.old.seen after.now.concerned (scene_after after.now) }
+    requires order { numbers look.old.order.items ≡ order (scene_after after.now) }
+    requires entries { all_entries look.old.entries.items ≡ entries (scene_after after.now) }
+    requires table { HasThese (scene_after after.now).limits.objects look.old.seen look.old.order.items }
+    requires order_room { (scene_after after.now).limits.objects ≤ vec_capacity look.old.order }
+    requires entries_room { 2 * (scene_after after.now).limits.objects ≤ vec_capacity look.old.entries }
+    requires tops { (u : ℕ) → 0 < times solved.now u → is_there (scene_after after.now) u ≡ true }
     requires others { (k : ℕ) (s : Seen) → value_at look.old.seen k ≡ Some s →
-        in_trees_at (handles_of (scene_of store.now).trees) solved.now k ≡ false →
-        may_be (scene_of store.now) concerned k ≡ false → IsSeen (scene_of store.now) k s }
-    requires room { IsRoom (scene_of store.now).limits.objects listed.old }
-    ensures shows { Shows (scene_of store.now).limits.objects look.new (scene_of store.now) }
-    ensures room { IsRoom (scene_of store.now).limits.objects listed.new }
+        in_trees_at (handles_of (scene_after after.now).trees) solved.now k ≡ false →
+        may_be (scene_after after.now) after.now.concerned k ≡ false → IsSeen (scene_after after.now) k s }
+    requires room { IsRoom (scene_after after.now).limits.objects listed.old }
+    ensures shows { Shows (scene_after after.now).limits.objects look.new (scene_after after.now) }
+    ensures room { IsRoom (scene_after after.now).limits.objects listed.new }
     ensures debt { OwesAll damage.old damage.new
-        (flat_map (owed_again (option_map number_of named) look.old.seen (scene_of store.now))
-        (order (scene_of store.now))) }
+        (flat_map (owed_again (option_map number_of named) look.old.seen (scene_after after.now))
+        (order (scene_after after.now))) }
 {
-    let _tree = store.tree();
-    see_own(
-        &mut look.seen,
-        listed,
-        damage,
-        named,
-        store,
-        places,
-        concerned,
-        look.order.as_slice(),
-    );
+    let _tree = after.store.tree();
+    let order = look.order.as_slice();
+    see_own(&mut look.seen, listed, damage, named, after, order);
     // What is known of those is right now. So all others may keep their items where they stay in their places,
     // and these owe nothing more.
-    see_trees(
-        &mut look.seen,
-        listed,
-        damage,
-        store,
-        places,
-        Concerned::Nobody,
-        solved,
-    );
+    let rest = After {
+        store: after.store,
+        places: after.places,
+        concerned: Concerned::Nobody,
+    };
+    see_trees(&mut look.seen, listed, damage, &rest, solved);
 }

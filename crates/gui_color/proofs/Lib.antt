@@ -7,3 +7,4 @@ pub mod Places
 pub mod Runs
 pub mod Rows
 pub mod Pixels
+pub mod Filling

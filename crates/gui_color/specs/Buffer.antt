@@ -1,10 +1,10 @@
 -- What callers see of a draw buffer.
-use Rattle.std.specs.Prelude.{◌≡◌, ℕ, ◌+◌, ◌*◌, true, if◌then◌else◌, ℤ, pos, negsuc, ◌-ℤ◌}
+use Rattle.std.specs.Prelude.{◌≡◌, ℕ, ◌+◌, ◌*◌, Bool, true, if◌then◌else◌, ℤ, pos, negsuc, ◌-ℤ◌}
 use Rattle.std.specs.Prelude.{List, ◌++◌, take, drop, length, slice_index_or, slice_range}
 use Rattle.std.specs.Int.RustNames.{unsigned_abs}
 use Rattle.gui_base.specs.declared.color.Rgb565.{Rgb565}
 use Rattle.gui_base.specs.Area.{Rect, has, count_between, width_of, size_of}
-use Rattle.gui_base.specs.Color.{black}
+use Rattle.gui_base.specs.Color.{black, mix}
 
 -- an area, the colours of its pixels row by row, and how many pixels there may be
 pub record Buffer : Type 0 where
@@ -39,6 +39,11 @@ pixel_at buf x y = color_at buf.area buf.pixels x y
 -- each pixel is black
 abbrev pub IsBlack : Buffer → Type 0
 IsBlack buf = (x y : ℤ) → has buf.area x y ≡ true → pixel_at buf x y ≡ black
+
+-- a colour was mixed over the pixels of the first where a test holds, and the others are as they were
+abbrev pub IsMixed : Buffer → Buffer → (ℤ → ℤ → Bool) → Rgb565 → ℕ → Type 0
+IsMixed old new test fg opa =
+    (x y : ℤ) → has old.area x y ≡ true → pixel_at new x y ≡ (if test x y then mix fg (pixel_at old x y) opa else pixel_at old x y)
 
 -- the colours of row y from column x1 to column x2
 unfoldable pub row_of : Buffer → ℤ → ℤ → ℤ → List Rgb565

@@ -1,13 +1,15 @@
 //! The buffer that an area of the picture is drawn into.
-ghost use Rattle.std.specs.Prelude.{◌≡◌, ◌+◌, ◌^◌, ◌<◌, ◌≤◌, [], true, false, length, replicate, IfOk, ◌≤ℤ◌};
+ghost use Rattle.std.specs.Prelude.{◌≡◌, ◌+◌, ◌^◌, ◌<◌, ◌≤◌, [], true, false, length, replicate, slice_range, IfOk, ◌≤ℤ◌};
 ghost use Rattle.std.specs.Borrow.{sem};
-ghost use Rattle.gui_base.specs.Area.{has, is_empty, size_of, count_between};
+ghost use Rattle.gui_base.specs.Area.{has, is_empty, width_of, size_of, count_between};
 ghost use Rattle.gui_base.specs.Color.{black};
 ghost use Rattle.gui_base.specs.Corners.{rect_of};
 ghost use Rattle.gui_color.specs.Buffer.{no_pixel, distance, place, row_of};
-ghost use Rattle.gui_color.specs.Buffer.{IsWhole, IsBlack, HoldsRow};
-ghost use Rattle.gui_color.specs.Lending.{LendsRow};
+ghost use Rattle.gui_color.specs.Buffer.{IsWhole, IsBlack, IsMixed, HoldsRow};
+ghost use Rattle.gui_color.specs.Lending.{LendsRow, LendsRun};
 
+use crate::mixing::parts_of;
+use crate::row::fill_row;
 use gui_base::{Area, NoMemory, Rgb565, Steps};
 use std::alloc::Global;
 use std::marker::Model;
@@ -104,6 +106,69 @@ impl DrawBuf {
         let len = distance_between(x1, x2) + 1;
         self.pixels.slice_mut(start..start + len)
     }
+
+    /// Mixes `fg` with an opacity from 0 to 255 over the pixels of a part of the area.
+    pub fn fill(&mut self, part: Area, fg: Rgb565, opa: u8)
+        requires some { is_empty (rect_of part) ≡ false }
+        requires first { has self.old.area part.x1 part.y1 ≡ true }
+        requires last { has self.old.area part.x2 part.y2 ≡ true }
+        ensures area { self.new.area ≡ self.old.area }
+        ensures limit { self.new.limit ≡ self.old.limit }
+        ensures pixels { IsMixed self.old self.new (has (rect_of part)) fg opa }
+    {
+        if parts_of(opa) == 0 {
+            return;
+        }
+        if part.width() == self.area().width() {
+            self.fill_whole_lines(part, fg, opa);
+        } else {
+            self.fill_lines(part, fg, opa);
+        }
+    }
+
+    /// The same of a part as wide as the area, whose lines lie one after another.
+    fn fill_whole_lines(&mut self, part: Area, fg: Rgb565, opa: u8)
+        requires wide { width_of (rect_of part) ≡ width_of self.old.area }
+        requires some { is_empty (rect_of part) ≡ false }
+        requires first { has self.old.area part.x1 part.y1 ≡ true }
+        requires last { has self.old.area part.x2 part.y2 ≡ true }
+        ensures area { self.new.area ≡ self.old.area }
+        ensures limit { self.new.limit ≡ self.old.limit }
+        ensures pixels { IsMixed self.old self.new (has (rect_of part)) fg opa }
+    {
+        let from = place_of(self.area(), part.x1, part.y1);
+        let len = part.width() as usize * part.height() as usize;
+        fill_row(self.run_mut(from, len), fg, opa);
+    }
+
+    /// The same of any part, line by line.
+    fn fill_lines(&mut self, part: Area, fg: Rgb565, opa: u8)
+        requires some { is_empty (rect_of part) ≡ false }
+        requires first { has self.old.area part.x1 part.y1 ≡ true }
+        requires last { has self.old.area part.x2 part.y2 ≡ true }
+        ensures area { self.new.area ≡ self.old.area }
+        ensures limit { self.new.limit ≡ self.old.limit }
+        ensures pixels { IsMixed self.old self.new (has (rect_of part)) fg opa }
+    {
+        let area = self.area();
+        let whole = area.width() as usize;
+        let from = place_of(area, part.x1, part.y1);
+        let len = part.width() as usize;
+        for line in 0..part.height() as usize {
+            fill_row(self.run_mut(from + line * whole, len), fg, opa);
+        }
+    }
+
+    /// So many pixels from a place on, row by row, for writing.
+    fn run_mut(&mut self, from: usize, len: usize) -> &mut [Rgb565]
+        requires { from + len ≤ size_of self.old.area }
+        ensures* writes_back { sem 𝓛 (LendsRun self.entry from result) }
+        ensures run { result.now ≡ slice_range self.old.pixels from (from + len) }
+        ensures len { length result.now ≡ len }
+        ensures whole { IsWhole self.old }
+    {
+        self.pixels.slice_mut(from..from + len)
+    }
 }
 
 /// How many pixels of an area come before one of its pixels, row by row.
@@ -124,8 +189,23 @@ fn distance_between(from: i32, to: i32) -> usize
     (i64::from(to) - i64::from(from)) as usize
 }
 
-/// Makes each pixel black, each one a step.
+/// How many pixels are cleared at once: 1,024 bytes, which the C library stores in whole vectors.
+const CLEARED: usize = 512;
+
+/// Makes each pixel black, so many at once, each one a step.
 fn clear<L: Ledger>(row: &mut [Rgb565], steps: &mut Steps<L>)
+    ensures black { row.new ≡ replicate (length row.old) black }
+    ensures steps { steps.new ≡ steps.old + length row.old }
+{
+    for i in 0..row.len().div_ceil(CLEARED) {
+        let from = i * CLEARED;
+        let to = row.len().min(from + CLEARED);
+        clear_run(&mut row[from..to], steps);
+    }
+}
+
+/// Makes each pixel black, each one a step.
+fn clear_run<L: Ledger>(row: &mut [Rgb565], steps: &mut Steps<L>)
     ensures black { row.new ≡ replicate (length row.old) black }
     ensures steps { steps.new ≡ steps.old + length row.old }
 {

@@ -12,6 +12,7 @@ use gui_base::Rgb565;
 const PAIR: usize = 2 * GROUP;
 
 /// Mixes `fg` over each pixel with an opacity from 0 to 255.
+#[inline]
 pub fn fill_row(row: &mut [Rgb565], fg: Rgb565, opa: u8)
     ensures { row.new ≡ map (λ bg. mix fg bg opa) row.old }
 {
@@ -34,6 +35,7 @@ fn cover_row(row: &mut [Rgb565], fg: Rgb565)
 /// Mixes `fg` over each pixel, a group at a time. Where whole groups leave pixels over, those are mixed
 /// together with some before them, as the row's last group: from what the row was, and written when the whole
 /// groups are mixed.
+#[inline(never)]
 fn blend_row(row: &mut [Rgb565], fg: Rgb565, opa: u8)
     ensures { row.new ≡ map (λ bg. mix fg bg opa) row.old }
 {

@@ -32,12 +32,21 @@ use std::sync::ledger::Ledger;
 ///
 /// From the opening on, and after each call, each pixel of the panel is pending, or its newest copy has the
 /// scene's colour: the one that is drawn and waits, else the one in flight, else what the panel shows.
-#[derive(Drop)]
 pub struct Gui {
     board: Board,
     refresher: Refresher,
     ghost sizes: { refresher.sizes ≡ sizes_of (machine_on board).scene.limits },
     ghost joined: { AreJoined (machine_on board) },
+}
+
+impl Drop for Gui {
+    /// Lets go of all that it holds. Who owns one calls this, where each field by itself would be dear to prove.
+    fn drop(self) {
+        let Gui {
+            board: _,
+            refresher: _,
+        } = self;
+    }
 }
 
 impl Gui {
@@ -65,8 +74,9 @@ impl Gui {
         ensures still { IfOk result (λ gui. refresher_in gui
             ≡ record (refresher_in gui) { drawn = None; free = 2; started = false }) }
     {
-        let board = Board::open(alloc, limits)?;
+        // The board comes last, since a way out on which it is let go is dear to prove.
         let refresher = Refresher::open(alloc, limits)?;
+        let board = Board::open(alloc, limits)?;
         Ok(Gui { board, refresher })
     }
 

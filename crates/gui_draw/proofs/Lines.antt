@@ -1,30 +1,10 @@
 -- A part of a draw buffer, line by line.
-use Rattle.gui_draw.proofs.Common.{pos, ◌≡◌, ◌∙◌, refl, sym, ap, ℕ, ◌+◌, ◌<◌, Bool, true, false, ◌&&◌, ◌||◌, if◌then◌else◌, List, map, length, Option, None, arith, ℤ, ◌≤ℤ◌, ◌+ℤ◌, ◌-ℤ◌, ints, le_z, nat_tests, length-map, get_or-map, Rgb565, Rect, has, is_empty, width_of, height_of, Dab, Coat, within, plain, fill_coat, mix, black, Buffer, HoldsRow, distance, row_of, with_row, Draws, IsInside, IsPart, IsOutside, HasLine, line_of}
-use Rattle.gui_draw.proofs.Counts.{row_count_all}
-use Rattle.gui_draw.proofs.Steps.{draws_none, draws_same, draws_both, draws_row}
-
--- the first lines of an area
-abbrev pub first_lines : Rect → ℕ → Rect
-first_lines area n = record { x1 = area.x1; y1 = area.y1; x2 = area.x2; y2 = (area.y1 +ℤ pos n) -ℤ pos 1 }
-
-lines_none : (area : Rect) (x y : ℤ) → has (first_lines area 0) x y ≡ false
-lines_none area x y = grind (arith, ints, nat_tests)
-
-line_more : (top y : ℤ) (n : ℕ) → (le_z top y && le_z y ((top +ℤ pos (n + 1)) -ℤ pos 1)) ≡ ((le_z top y && le_z y ((top +ℤ pos n) -ℤ pos 1)) || (le_z (top +ℤ pos n) y && le_z y (top +ℤ pos n)))
-line_more top y n = grind (arith, ints, nat_tests)
-
-either_line : (a b c d : Bool) → d ≡ (b || c) → (a && d) ≡ ((a && b) || (a && c))
-either_line true b c d h = h
-either_line false b c d h = refl
-
-lines_more : (area : Rect) (n : ℕ) (x y : ℤ) → has (first_lines area (n + 1)) x y ≡ (has (first_lines area n) x y || has (line_of area n) x y)
-lines_more area n x y = either_line (le_z area.x1 x && le_z x area.x2) _ _ _ (line_more area.y1 y n)
-
-lines_apart : (area : Rect) (n : ℕ) (x y : ℤ) → (has (first_lines area n) x y && has (line_of area n) x y) ≡ false
-lines_apart area n x y = grind (arith, ints, nat_tests)
-
-lines_all : (area : Rect) (x y : ℤ) → has (first_lines area (height_of area)) x y ≡ has area x y
-lines_all area x y = grind (arith, ints, nat_tests)
+use Rattle.gui_draw.proofs.Common.{pos, ◌≡◌, ◌∙◌, refl, sym, ap, ℕ, zero, suc, ◌+◌, ◌*◌, ◌<◌, ◌≤◌, Bool, true, false, ◌&&◌, if◌then◌else◌, Option, Some, None, arith, ℤ, ◌≤ℤ◌, ◌+ℤ◌, ints, Rgb565, Rect, has, is_empty, width_of, height_of, Dab, Coat, laid, within, plain, fill_coat, mix, Buffer, pixel_at, pixel_count, Draws, IsInside, IsPart, IsOutside, HasLine, line_of}
+use Rattle.gui_base.specs.Area.{size_of}
+use Rattle.gui_color.specs.Buffer.{IsMixed}
+pub use Rattle.gui_color.proofs.Filling.{first_lines, lines_none, lines_more, lines_apart, lines_all}
+use Rattle.gui_draw.proofs.Counts.{row_count_all, pixel_count_same, pixel_count_both, pixel_count_none, pixel_count_row}
+use Rattle.gui_draw.proofs.Steps.{draws_none, draws_same, draws_both}
 
 pub part_start : (buf : Buffer) (part : Rect) (coat : Coat) (steps : ℕ) → Draws buf buf steps steps (within (first_lines part 0) coat)
 part_start buf part coat steps = draws_none buf steps _ (λ x y i. rw (lines_none part x y) refl)
@@ -73,15 +53,44 @@ pub part_outside : (buf : Buffer) (clip item : Rect) (coat : Coat) (steps : ℕ)
 part_outside buf clip item coat steps out =
     draws_none buf steps _ (λ x y i. sym (clipped false (has clip x y) (has item x y) (coat x y) (sym (out x y i))))
 
--- one line of a part, filled
-pub fill_line : (buf : Buffer) (part : Rect) (line : ℕ) (ws : List Rgb565) (fg : Rgb565) (opa from to : ℕ) → HasLine buf.area part line → HoldsRow buf (part.y1 +ℤ pos line) part.x1 part.x2 →
-    length (row_of buf (part.y1 +ℤ pos line) part.x1 part.x2) ≡ width_of part → ws ≡ map (λ bg. mix fg bg opa) (row_of buf (part.y1 +ℤ pos line) part.x1 part.x2) → to ≡ from + width_of part →
-    Draws buf (with_row buf (part.y1 +ℤ pos line) part.x1 ws) from to (fill_coat (line_of part line) fg opa)
-fill_line buf part line ws fg opa from to has_it row len is counted =
-    let y = part.y1 +ℤ pos line in
-    let old = row_of buf y part.x1 part.x2 in
-    draws_row buf y part.x1 part.x2 ws (plain fg opa) from to row has_it.order has_it.first has_it.last (rw is (length-map old (λ bg. mix fg bg opa) ∙ len))
-    (λ x v i.
-    let near : distance part.x1 x < length old = rw len (grind (arith, ints)) in
-    rw is (get_or-map (λ bg. mix fg bg opa) old (distance part.x1 x) black black near ∙ ap (λ bg. mix fg bg opa) (row.colors x v i)))
-    (counted ∙ ap (λ (n : ℕ). from + n) (sym (row_count_all (plain fg opa) y part.x1 (width_of part) (λ i. refl))))
+-- a part that is filled
+one_more : (area part : Rect) (fg : Rgb565) (opa n : ℕ) → IsInside area part → n < height_of part → pixel_count area (fill_coat (first_lines part (n + 1)) fg opa) ≡ pixel_count area (fill_coat (first_lines part n) fg opa) + width_of part
+one_more area part fg opa n inside below =
+    let line = has_line area part n inside below in
+    let y = part.y1 +ℤ pos n in
+    let all = pixel_count_row area y part.x1 part.x2 (plain fg opa) line.order line.first line.last ∙ row_count_all (plain fg opa) y part.x1 (width_of part) (λ i. refl) in
+    pixel_count_same area _ _ (λ x v i. ap (λ (t : Bool). if t then plain fg opa x v else None) (lines_more part n x v))
+    ∙ (pixel_count_both area (has (first_lines part n)) (has (line_of part n)) (plain fg opa) (λ x v i. lines_apart part n x v)
+    ∙ ap (λ (k : ℕ). pixel_count area (fill_coat (first_lines part n) fg opa) + k) all)
+
+one_row : (n w : ℕ) → (n + 1) * w ≡ n * w + w
+one_row n w = grind arith
+
+swapped : (a b : ℕ) → a * b ≡ b * a
+swapped a b = grind arith
+
+lines_counted : (area part : Rect) (fg : Rgb565) (opa : ℕ) → IsInside area part → (n : ℕ) → n ≤ height_of part → pixel_count area (fill_coat (first_lines part n) fg opa) ≡ n * width_of part
+lines_counted area part fg opa inside zero h = pixel_count_none area _ (λ x y i. rw (lines_none part x y) refl) ∙ omega arith
+lines_counted area part fg opa inside (suc n) h =
+    let e : suc n ≡ n + 1 = omega arith in
+    let more = one_more area part fg opa n inside (omega arith) in
+    let before = lines_counted area part fg opa inside n (omega arith) in
+    rw e (omega (arith, more, before, one_row n (width_of part)))
+
+all_counted : (area part : Rect) (fg : Rgb565) (opa : ℕ) → IsInside area part → pixel_count area (fill_coat part fg opa) ≡ size_of part
+all_counted area part fg opa inside =
+    pixel_count_same area _ _ (λ x y i. ap (λ (t : Bool). if t then plain fg opa x y else None) (sym (lines_all part x y)))
+    ∙ (lines_counted area part fg opa inside (height_of part) (omega arith) ∙ swapped (height_of part) (width_of part))
+
+laid_where : (t : Bool) (fg under : Rgb565) (opa : ℕ) → (if t then mix fg under opa else under) ≡ laid (if t then Some (record { color = fg; opa = opa }) else None) under
+laid_where true fg under opa = refl
+laid_where false fg under opa = refl
+
+pub filled : (old new : Buffer) (part : Rect) (fg : Rgb565) (opa from to : ℕ) → IsInside old.area part → new.area ≡ old.area → new.limit ≡ old.limit → IsMixed old new (has part) fg opa → to ≡ from + size_of part →
+    Draws old new from to (fill_coat part fg opa)
+filled old new part fg opa from to inside area limit mixed counted = record {
+  area_stays = area;
+  limit_stays = limit;
+  pixels = λ x y i. mixed x y i ∙ laid_where (has part x y) fg (pixel_at old x y) opa;
+  steps = counted ∙ ap (λ (n : ℕ). from + n) (sym (all_counted old.area part fg opa inside));
+}

@@ -1,3 +1,4 @@
+pub mod Brushes
 pub mod Counts
 pub mod Dots
 pub mod Drawing

@@ -1,10 +1,14 @@
 -- Cells, runs and lines where they stand, and drawings that take a few steps more.
-use Rattle.std.specs.Prelude.{ℕ, ◌+◌, ◌≤◌, Bool, List, length, ℤ, pos, negsuc, ◌-ℤ◌, ◌≤ℤ◌}
+use Rattle.std.specs.Prelude.{ℕ, ◌+◌, ◌≤◌, Bool, List, length, take, ℤ, pos, negsuc, ◌-ℤ◌, ◌≤ℤ◌}
 use Rattle.std.specs.List.{sum_by}
+use Rattle.std.specs.Str.{chars}
 use Rattle.gui_base.specs.declared.words.TextAlign.{TextAlign}
 use Rattle.gui_base.specs.Coats.{Coat}
 use Rattle.gui_color.specs.Buffer.{Buffer}
 use Rattle.gui_draw.specs.Drawing.{Draws}
+use Rattle.gui_draw.specs.declared.runs.Lettering.{Lettering}
+use Rattle.gui_font.specs.Sets.{face_in}
+use Rattle.gui_font.specs.declared.lines.Run.{Run}
 use Rattle.text_defs.specs.Face.{Face}
 use Rattle.text_defs.specs.Ink.{cell_inked, run_inked, lines_inked}
 use Rattle.text_defs.specs.Lines.{Setting, TextLine}
@@ -16,6 +20,15 @@ cell_at face c left top x y = cell_inked face.height (face.cell c) (x -ℤ left)
 -- the ink of a run whose first cell stands there
 abbrev pub run_at : Face → ℕ → List ℕ → ℤ → ℤ → ℤ → ℤ → Bool
 run_at face letter cs left top x y = run_inked face letter cs (x -ℤ left) (y -ℤ top)
+
+-- the font of a lettering
+abbrev pub face_of : Lettering → Face
+face_of lettering = face_in lettering.fonts.now lettering.look.font
+
+-- the ink of the characters of a run
+abbrev pub ink_of : Lettering → Run → ℤ → ℤ → ℤ → ℤ → Bool
+ink_of lettering run =
+    run_at (face_of lettering) lettering.look.letter (take run.count (chars run.text.now))
 
 -- the ink of lines that stand there
 abbrev pub lines_at : Setting → TextAlign → ℕ → ℕ → List TextLine → ℤ → ℤ → ℤ → ℤ → Bool

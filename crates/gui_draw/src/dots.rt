@@ -1,13 +1,15 @@
 //! The bits of a glyph, drawn row by row.
-ghost use Rattle.gui_base.specs.Coats.{within, only, plain};
+ghost use Rattle.gui_base.specs.Coats.{within};
 ghost use Rattle.gui_base.specs.Corners.{rect_of};
+ghost use Rattle.gui_draw.specs.Brushes.{dabbed, stroke};
 ghost use Rattle.gui_draw.specs.Drawing.{Draws};
 ghost use Rattle.gui_draw.specs.Parts.{IsInside, HasLine, line_of};
 ghost use Rattle.gui_draw.specs.Dots.{dots_in, HasDots};
 
+use crate::brush::Brush;
 use crate::rows::line_mut;
 use crate::ticks::tick_bits;
-use gui_base::{Area, Rgb565, Steps};
+use gui_base::Steps;
 use gui_color::{DrawBuf, mask_row};
 use std::sync::ledger::Ledger;
 
@@ -21,40 +23,37 @@ pub(crate) struct Dots<'a> {
     pub(crate) row: u32,
 }
 
-/// Mixes a colour over the pixels of a part of the buffer's area whose bits are set.
+/// Mixes a brush's colour over the pixels of its part whose bits are set.
 pub(crate) fn ink_part<L: Ledger>(
     buf: &mut DrawBuf,
-    part: Area,
+    brush: Brush,
     dots: Dots<'_>,
-    fg: Rgb565,
-    opa: u8,
     steps: &mut Steps<L>,
 )
-    requires inside { IsInside buf.old.area (rect_of part) }
-    requires bits { HasDots dots (rect_of part) }
+    requires inside { IsInside buf.old.area (rect_of brush.part) }
+    requires bits { HasDots dots (rect_of brush.part) }
     ensures { Draws buf.old buf.new steps.old steps.new
-        (within (rect_of part) (only (dots_in dots.entry (rect_of part)) (plain fg opa))) }
+        (stroke brush (dots_in dots.entry (rect_of brush.part))) }
 {
-    for line in 0..part.height() {
-        ink_line(buf, part, line, dots, fg, opa, steps);
+    for line in 0..brush.part.height() {
+        ink_line(buf, brush, line, dots, steps);
     }
 }
 
 /// The same of one line of the part.
 fn ink_line<L: Ledger>(
     buf: &mut DrawBuf,
-    part: Area,
+    brush: Brush,
     line: u32,
     dots: Dots<'_>,
-    fg: Rgb565,
-    opa: u8,
     steps: &mut Steps<L>,
 )
-    requires has { HasLine buf.old.area (rect_of part) line }
-    requires bits { HasDots dots (rect_of part) }
-    ensures { Draws buf.old buf.new steps.old steps.new
-        (within (line_of (rect_of part) line) (only (dots_in dots.entry (rect_of part)) (plain fg opa))) }
+    requires has { HasLine buf.old.area (rect_of brush.part) line }
+    requires bits { HasDots dots (rect_of brush.part) }
+    ensures { Draws buf.old buf.new steps.old steps.new (within (line_of (rect_of brush.part) line)
+        (dabbed brush (dots_in dots.entry (rect_of brush.part)))) }
 {
+    let Brush { part, fg, opa } = brush;
     let from = (dots.row as usize + line as usize) * dots.stride;
     let bits = &dots.bytes[from..from + dots.stride];
     mask_row(line_mut(buf, part, line), bits, dots.column, fg, opa);

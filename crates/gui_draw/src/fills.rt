@@ -1,13 +1,15 @@
 //! Filling areas.
+ghost use Rattle.std.specs.Prelude.{◌≡◌, ◌+◌};
+ghost use Rattle.gui_base.specs.Area.{size_of};
 ghost use Rattle.gui_base.specs.Coats.{within, fill_coat};
 ghost use Rattle.gui_base.specs.Corners.{rect_of};
 ghost use Rattle.gui_draw.specs.Drawing.{Draws};
-ghost use Rattle.gui_draw.specs.Parts.{IsInside, HasLine, line_of};
+ghost use Rattle.gui_draw.specs.Parts.{IsInside};
 
-use crate::rows::{line_mut, part_of};
+use crate::rows::part_of;
 use crate::ticks::tick_times;
 use gui_base::{Area, Rgb565, Steps};
-use gui_color::{DrawBuf, fill_row};
+use gui_color::DrawBuf;
 use std::sync::ledger::Ledger;
 
 /// Mixes a colour with an opacity from 0 to 255 over the pixels of the buffer that are in the clip and in the
@@ -28,28 +30,20 @@ pub fn fill<L: Ledger>(
     }
 }
 
-/// The same of a part of the buffer's area, line by line.
+/// The same of a part of the buffer's area.
 fn fill_part<L: Ledger>(buf: &mut DrawBuf, part: Area, fg: Rgb565, opa: u8, steps: &mut Steps<L>)
     requires { IsInside buf.old.area (rect_of part) }
     ensures { Draws buf.old buf.new steps.old steps.new (fill_coat (rect_of part) fg opa) }
 {
-    for line in 0..part.height() {
-        fill_line(buf, part, line, fg, opa, steps);
-    }
+    buf.fill(part, fg, opa);
+    tick_lines(part, steps);
 }
 
-/// The same of one line of a part.
-fn fill_line<L: Ledger>(
-    buf: &mut DrawBuf,
-    part: Area,
-    line: u32,
-    fg: Rgb565,
-    opa: u8,
-    steps: &mut Steps<L>,
-)
-    requires { HasLine buf.old.area (rect_of part) line }
-    ensures { Draws buf.old buf.new steps.old steps.new (fill_coat (line_of (rect_of part) line) fg opa) }
+/// A step for each pixel of a part.
+fn tick_lines<L: Ledger>(part: Area, steps: &mut Steps<L>)
+    ensures { steps.new ≡ steps.old + size_of (rect_of part) }
 {
-    fill_row(line_mut(buf, part, line), fg, opa);
-    tick_times(part.width(), steps);
+    for _ in 0..part.height() {
+        tick_times(part.width(), steps);
+    }
 }

@@ -2,18 +2,19 @@
 ghost use Rattle.std.specs.Prelude.{◌≡◌, ◌+◌, false, length, MatchOption, ℤ, pos, negsuc, ◌≤ℤ◌, ◌+ℤ◌, ◌-ℤ◌};
 ghost use Rattle.std.specs.Int.{int_max, int_min};
 ghost use Rattle.gui_base.specs.Area.{IsCoordinate};
-ghost use Rattle.gui_base.specs.Coats.{within, only, plain};
 ghost use Rattle.gui_base.specs.Corners.{rect_of};
+ghost use Rattle.gui_draw.specs.Brushes.{stroke};
 ghost use Rattle.gui_draw.specs.Drawing.{Draws};
 ghost use Rattle.gui_draw.specs.Parts.{IsInside};
 ghost use Rattle.text_defs.specs.Fonts.{glyph_bytes};
 ghost use Rattle.gui_draw.specs.Glyphs.{glyph_at, span_rect};
 ghost use Rattle.gui_draw.specs.Spans.{is_seen, IsSpan, IsFar};
 
+use crate::brush::Brush;
 use crate::dots::{Dots, ink_part};
-use gui_base::{Area, Rgb565, Steps};
+use gui_base::{Area, Steps};
 use gui_color::DrawBuf;
-use gui_font::GlyphBox;
+use gui_font::{Bits, GlyphBox};
 use std::sync::ledger::Ledger;
 
 /// The top left pixel of a cell.
@@ -23,39 +24,35 @@ pub(crate) struct Corner {
     pub(crate) y: i64,
 }
 
-/// Mixes a colour over the pixels of a part of the buffer's area whose bits are set in a glyph, inside its
-/// cell.
+/// Mixes a brush's colour over the pixels of its part whose bits are set in a glyph, inside its cell.
 pub(crate) fn ink_glyph<L: Ledger>(
     buf: &mut DrawBuf,
-    part: Area,
+    brush: Brush,
     cell: Corner,
     height: u8,
-    shape: GlyphBox,
-    bytes: &[u8],
-    fg: Rgb565,
-    opa: u8,
+    bits: Bits<'_>,
     steps: &mut Steps<L>,
 )
-    requires inside { IsInside buf.old.area (rect_of part) }
+    requires inside { IsInside buf.old.area (rect_of brush.part) }
     requires near { IsFar cell.x × IsFar cell.y }
-    requires bytes { length bytes.now ≡ glyph_bytes shape }
-    ensures { Draws buf.old buf.new steps.old steps.new (within (rect_of part)
-        (only (glyph_at height shape bytes.now cell.x cell.y) (plain fg opa))) }
+    requires bytes { length bits.rows.now ≡ glyph_bytes bits.shape }
+    ensures { Draws buf.old buf.new steps.old steps.new
+        (stroke brush (glyph_at height bits.entry.shape bits.entry.rows.now cell.x cell.y)) }
 {
-    let Some(columns) = columns_of(part, cell, shape) else {
+    let Some(columns) = columns_of(brush.part, cell, bits.shape) else {
         return;
     };
-    let Some(lines) = lines_of(part, cell, height, shape) else {
+    let Some(lines) = lines_of(brush.part, cell, height, bits.shape) else {
         return;
     };
-    let seen = area_of(part, columns, lines);
+    let part = area_of(brush.part, columns, lines);
     let dots = Dots {
-        bytes,
-        stride: (usize::from(shape.w) + 7) / 8,
+        bytes: bits.rows,
+        stride: (usize::from(bits.shape.w) + 7) / 8,
         column: columns.first,
         row: lines.first,
     };
-    ink_part(buf, seen, dots, fg, opa, steps);
+    ink_part(buf, Brush { part, ..brush }, dots, steps);
 }
 
 /// The columns of a glyph that are seen in a part.

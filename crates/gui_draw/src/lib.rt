@@ -1,6 +1,7 @@
 //! Drawing items into a draw buffer: each pixel of an item is one mix, and each mix is a step.
 #![tactic(auto)]
 
+mod brush;
 mod dots;
 mod fills;
 mod glyphs;

@@ -1,24 +1,31 @@
 //! Runs of characters.
-ghost use Rattle.std.specs.Prelude.{◌≡◌, ◌+◌, ◌≤◌, ◌<◌, true, take, length, pos, ◌≤ℤ◌, ◌+ℤ◌};
+ghost use Rattle.std.specs.Prelude.{◌≡◌, ◌+◌, ◌≤◌, true, length, pos, ◌+ℤ◌};
 ghost use Rattle.std.specs.Str.{chars};
-ghost use Rattle.gui_base.specs.Coats.{within, only, plain};
 ghost use Rattle.gui_base.specs.Corners.{rect_of};
+ghost use Rattle.gui_draw.specs.Brushes.{stroke};
 ghost use Rattle.gui_draw.specs.Drawing.{Draws};
 ghost use Rattle.gui_draw.specs.Parts.{IsInside};
 ghost use Rattle.text_defs.specs.BuiltIn.{built_in};
 ghost use Rattle.text_defs.specs.Fonts.{has_font};
-ghost use Rattle.gui_font.specs.Sets.{face_in};
-ghost use Rattle.gui_draw.specs.Runs.{cell_at, run_at, IsPen};
+ghost use Rattle.gui_draw.specs.Runs.{cell_at, face_of, ink_of, IsPen};
 ghost use Rattle.gui_draw.specs.Spans.{IsFar};
 
+use crate::brush::Brush;
 use crate::glyphs::{Corner, ink_glyph};
 use crate::letters::{LETTER_BOX, has_built_in, rows_of};
 use crate::stamps::{has_columns, stamp_letter};
-use gui_base::{Area, Rgb565, Steps};
+use gui_base::Steps;
 use gui_color::DrawBuf;
-use gui_font::{Fonts, TextLook, first_char};
+use gui_font::{Bits, Fonts, Run, TextLook, first_char};
 use std::sync::ledger::Ledger;
 use text_defs::built_in::HEIGHT;
+
+/// How the letters of a text are drawn: the fonts, and the look of the text.
+#[derive(Clone, Copy)]
+pub(crate) struct Lettering<'a> {
+    pub(crate) fonts: &'a Fonts,
+    pub(crate) look: TextLook,
+}
 
 /// What is left of a text, and where its first cell stands.
 #[derive(Clone, Copy)]
@@ -27,39 +34,35 @@ struct Pen<'a> {
     cell: Corner,
 }
 
-/// Draws the first `count` characters of a text, the first cell's top left at a corner. Each cell is one
-/// step, and each pixel.
+/// Draws the characters of a run, the first cell's top left at a corner. Each cell is one step, and each
+/// pixel.
 pub(crate) fn ink_run<L: Ledger>(
     buf: &mut DrawBuf,
-    part: Area,
+    brush: Brush,
     start: Corner,
-    text: &str,
-    count: u32,
-    fonts: &Fonts,
-    look: TextLook,
-    fg: Rgb565,
-    opa: u8,
+    run: Run<'_>,
+    lettering: Lettering<'_>,
     steps: &mut Steps<L>,
 )
-    requires inside { IsInside buf.old.area (rect_of part) }
+    requires inside { IsInside buf.old.area (rect_of brush.part) }
     requires near { IsPen start.x × IsFar start.y }
-    requires there { has_font fonts.now.fonts look.font ≡ true }
-    requires letter { look.letter ≤ 100 }
-    requires few { count ≤ 1000 }
-    requires count { count ≤ length (chars text.now) }
-    ensures { Draws buf.old buf.new (steps.old + count) steps.new (within (rect_of part)
-        (only (run_at (face_in fonts.now look.font) look.letter (take count (chars text.now)) start.x start.y)
-        (plain fg opa))) }
+    requires there { has_font lettering.fonts.now.fonts lettering.look.font ≡ true }
+    requires letter { lettering.look.letter ≤ 100 }
+    requires few { run.count ≤ 1000 }
+    requires count { run.count ≤ length (chars run.text.now) }
+    ensures { Draws buf.old buf.new (steps.old + run.entry.count) steps.new
+        (stroke brush (ink_of lettering.entry run.entry start.x start.y)) }
 {
     let mut at = Pen {
-        left: text,
+        left: run.text,
         cell: start,
     };
-    'cells: for _ in 0..count {
+    'cells: for _ in 0..run.count {
         let Some((c, left)) = first_char(at.left) else {
             unreachable!();
         };
-        ink_cell(buf, part, at.cell, fonts, look.font, c, fg, opa, steps);
+        ink_cell(buf, brush, at.cell, c, lettering, steps);
+        let Lettering { fonts, look } = lettering;
         let cell = next_cell(at.cell, fonts.advance(look.font, c), look.letter);
         at = Pen { left, cell };
     }
@@ -68,65 +71,54 @@ pub(crate) fn ink_run<L: Ledger>(
 /// Draws the cell of a character: one step to look at it, and one for each pixel.
 fn ink_cell<L: Ledger>(
     buf: &mut DrawBuf,
-    part: Area,
+    brush: Brush,
     cell: Corner,
-    fonts: &Fonts,
-    font: u8,
     c: char,
-    fg: Rgb565,
-    opa: u8,
+    lettering: Lettering<'_>,
     steps: &mut Steps<L>,
 )
-    requires inside { IsInside buf.old.area (rect_of part) }
+    requires inside { IsInside buf.old.area (rect_of brush.part) }
     requires near { IsFar cell.x × IsFar cell.y }
-    requires there { has_font fonts.now.fonts font ≡ true }
-    ensures { Draws buf.old buf.new (steps.old + 1) steps.new (within (rect_of part)
-        (only (cell_at (face_in fonts.now font) c cell.x cell.y) (plain fg opa))) }
+    requires there { has_font lettering.fonts.now.fonts lettering.look.font ≡ true }
+    ensures { Draws buf.old buf.new (steps.old + 1) steps.new
+        (stroke brush (cell_at (face_of lettering.entry) c cell.x cell.y)) }
 {
+    let (fonts, font) = (lettering.fonts, lettering.look.font);
     steps.tick();
     if font == 0 {
-        ink_letter(buf, part, cell, c, fg, opa, steps);
+        ink_letter(buf, brush, cell, c, steps);
         return;
     }
     if let Some(bits) = fonts.bits(font, c) {
-        ink_glyph(
-            buf,
-            part,
-            cell,
-            fonts.height(font),
-            bits.shape,
-            bits.rows,
-            fg,
-            opa,
-            steps,
-        );
+        ink_glyph(buf, brush, cell, fonts.height(font), bits, steps);
     }
 }
 
 /// Draws the cell of a character of the built-in font.
 fn ink_letter<L: Ledger>(
     buf: &mut DrawBuf,
-    part: Area,
+    brush: Brush,
     cell: Corner,
     c: char,
-    fg: Rgb565,
-    opa: u8,
     steps: &mut Steps<L>,
 )
-    requires inside { IsInside buf.old.area (rect_of part) }
+    requires inside { IsInside buf.old.area (rect_of brush.part) }
     requires near { IsFar cell.x × IsFar cell.y }
-    ensures { Draws buf.old buf.new steps.old steps.new (within (rect_of part)
-        (only (cell_at built_in c cell.x cell.y) (plain fg opa))) }
+    ensures { Draws buf.old buf.new steps.old steps.new (stroke brush (cell_at built_in c cell.x cell.y)) }
 {
     if !has_built_in(c) {
         return;
     }
-    if has_columns(part, cell.x) {
-        stamp_letter(buf, part, cell, c, fg, opa, steps);
+    if has_columns(brush.part, cell.x) {
+        stamp_letter(buf, brush, cell, c, steps);
         return;
     }
     let rows = rows_of(c);
-    ink_glyph(buf, part, cell, HEIGHT, LETTER_BOX, &rows, fg, opa, steps);
+    let bits = Bits {
+        shape: LETTER_BOX,
+        rows: &rows,
+    };
+    ink_glyph(buf, brush, cell, HEIGHT, bits, steps);
 }
 
 /// The cell after another.

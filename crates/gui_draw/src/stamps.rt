@@ -3,18 +3,20 @@ ghost use Rattle.std.specs.Prelude.{◌≡◌, ℕ, ◌<◌, ◌≤◌, ◌+◌,
 ghost use Rattle.std.specs.Prelude.{if◌then◌else◌, pos, ◌+ℤ◌, ◌-ℤ◌};
 ghost use Rattle.std.specs.Int.Signed.{le_z};
 ghost use Rattle.gui_base.specs.Area.{width_of, height_of};
-ghost use Rattle.gui_base.specs.Coats.{within, only, plain};
+ghost use Rattle.gui_base.specs.Coats.{within};
 ghost use Rattle.gui_base.specs.Color.{black};
 ghost use Rattle.gui_base.specs.Corners.{rect_of};
 ghost use Rattle.gui_color.specs.Masks.{masked};
 ghost use Rattle.text_defs.specs.BuiltIn.{built_in, has_built_in, column_of};
 ghost use Rattle.text_defs.specs.Bits.{bit};
 ghost use Rattle.gui_draw.specs.Counts.{one_if, sum_below};
+ghost use Rattle.gui_draw.specs.Brushes.{dabbed, stroke};
 ghost use Rattle.gui_draw.specs.Drawing.{Draws};
 ghost use Rattle.gui_draw.specs.Parts.{IsInside, HasLine, line_of};
 ghost use Rattle.gui_draw.specs.Runs.{cell_at};
 ghost use Rattle.gui_draw.specs.Spans.{IsFar};
 
+use crate::brush::Brush;
 use crate::glyphs::{Corner, Span, area_of, end_of, lines_of};
 use crate::letters::{LETTER_BOX, has_dot};
 use crate::rows::line_mut;
@@ -42,83 +44,78 @@ fn span_at(from: i64, count: u8) -> Span
     Span { from, to, first: 0 }
 }
 
-/// Mixes a colour over the pixels of a part of the buffer's area whose bits are set in the glyph of a letter.
-/// The part has all columns of the glyph.
+/// Mixes a brush's colour over the pixels of its part whose bits are set in the glyph of a letter. The part
+/// has all columns of the glyph.
 pub(crate) fn stamp_letter<L: Ledger>(
     buf: &mut DrawBuf,
-    part: Area,
+    brush: Brush,
     cell: Corner,
     c: char,
-    fg: Rgb565,
-    opa: u8,
     steps: &mut Steps<L>,
 )
-    requires inside { IsInside buf.old.area (rect_of part) }
+    requires inside { IsInside buf.old.area (rect_of brush.part) }
     requires near { IsFar cell.x × IsFar cell.y }
-    requires columns { (le_z part.x1 cell.x && le_z ((cell.x +ℤ pos 5) -ℤ pos 1) part.x2) ≡ true }
+    requires columns { (le_z brush.part.x1 cell.x
+        && le_z ((cell.x +ℤ pos 5) -ℤ pos 1) brush.part.x2) ≡ true }
     requires code { has_built_in c ≡ true }
-    ensures { Draws buf.old buf.new steps.old steps.new
-        (within (rect_of part) (only (cell_at built_in c cell.x cell.y) (plain fg opa))) }
+    ensures { Draws buf.old buf.new steps.old steps.new (stroke brush (cell_at built_in c cell.x cell.y)) }
 {
-    let Some(lines) = lines_of(part, cell, HEIGHT, LETTER_BOX) else {
+    let Some(lines) = lines_of(brush.part, cell, HEIGHT, LETTER_BOX) else {
         return;
     };
-    let seen = area_of(part, span_at(cell.x, 5), lines);
+    let part = area_of(brush.part, span_at(cell.x, 5), lines);
+    let stamp = Brush { part, ..brush };
     // Nearly all letters have all their rows, and the compiler unrolls a loop over a number that it knows.
-    if seen.height() == 7 {
-        stamp_lines(buf, seen, 0, 7, c, fg, opa, steps);
+    if part.height() == 7 {
+        stamp_lines(buf, stamp, 0, 7, c, steps);
     } else {
-        stamp_lines(buf, seen, lines.first, seen.height(), c, fg, opa, steps);
+        stamp_lines(buf, stamp, lines.first, part.height(), c, steps);
     }
 }
 
-/// Mixes it over an area as wide as the glyph and `count` lines high. Its first line has row `first` of the
-/// glyph.
+/// Mixes it over a part that is as wide as the glyph and `count` lines high. Its first line has row `first` of
+/// the glyph.
 #[inline(always)]
 fn stamp_lines<L: Ledger>(
     buf: &mut DrawBuf,
-    area: Area,
+    stamp: Brush,
     first: u32,
     count: u32,
     c: char,
-    fg: Rgb565,
-    opa: u8,
     steps: &mut Steps<L>,
 )
-    requires inside { IsInside buf.old.area (rect_of area) }
-    requires wide { width_of (rect_of area) ≡ 5 }
-    requires high { count ≡ height_of (rect_of area) }
+    requires inside { IsInside buf.old.area (rect_of stamp.part) }
+    requires wide { width_of (rect_of stamp.part) ≡ 5 }
+    requires high { count ≡ height_of (rect_of stamp.part) }
     requires rows { first + count ≤ 7 }
     requires code { has_built_in c ≡ true }
-    ensures { Draws buf.old buf.new steps.old steps.new (within (rect_of area)
-        (only (cell_at built_in c area.x1 (area.y1 -ℤ pos first)) (plain fg opa))) }
+    ensures { Draws buf.old buf.new steps.old steps.new
+        (stroke stamp (cell_at built_in c stamp.part.x1 (stamp.part.y1 -ℤ pos first))) }
 {
     for line in 0..count {
-        stamp_line(buf, area, line, first, c, fg, opa, steps);
+        stamp_line(buf, stamp, line, first, c, steps);
     }
 }
 
-/// The same of one line of the area.
+/// The same of one line of the part.
 #[inline(always)]
 fn stamp_line<L: Ledger>(
     buf: &mut DrawBuf,
-    area: Area,
+    stamp: Brush,
     line: u32,
     first: u32,
     c: char,
-    fg: Rgb565,
-    opa: u8,
     steps: &mut Steps<L>,
 )
-    requires has { HasLine buf.old.area (rect_of area) line }
-    requires wide { width_of (rect_of area) ≡ 5 }
+    requires has { HasLine buf.old.area (rect_of stamp.part) line }
+    requires wide { width_of (rect_of stamp.part) ≡ 5 }
     requires row { first + line < 7 }
     requires code { has_built_in c ≡ true }
-    ensures { Draws buf.old buf.new steps.old steps.new (within (line_of (rect_of area) line)
-        (only (cell_at built_in c area.x1 (area.y1 -ℤ pos first)) (plain fg opa))) }
+    ensures { Draws buf.old buf.new steps.old steps.new (within (line_of (rect_of stamp.part) line)
+        (dabbed stamp (cell_at built_in c stamp.part.x1 (stamp.part.y1 -ℤ pos first)))) }
 {
     let y = (first + line) as u8;
-    ink_dots(line_mut(buf, area, line), c, y, fg, opa);
+    ink_dots(line_mut(buf, stamp.part, line), c, y, stamp.fg, stamp.opa);
     tick_dots(c, y, steps);
 }
 

@@ -3,28 +3,31 @@ ghost use Rattle.std.specs.Prelude.{◌≡◌, ◌+◌, ◌≤◌, ◌||◌, Som
 ghost use Rattle.std.specs.Str.{chars};
 ghost use Rattle.gui_base.specs.Area.{width_of, IsCoordinate};
 ghost use Rattle.std.specs.Int.Signed.{le_z, lt_z};
-ghost use Rattle.gui_base.specs.Coats.{within, only, plain};
+ghost use Rattle.gui_base.specs.Coats.{within};
 ghost use Rattle.gui_base.specs.Corners.{rect_of};
+ghost use Rattle.gui_draw.specs.Brushes.{stroke};
 ghost use Rattle.gui_draw.specs.Parts.{IsInside};
 ghost use Rattle.text_defs.specs.Fonts.{finished, has_font};
 ghost use Rattle.text_defs.specs.Ink.{line_at};
 ghost use Rattle.gui_font.specs.LinesLeft.{runs_left, setting_of};
 ghost use Rattle.gui_font.specs.Sets.{face_in};
 ghost use Rattle.text_defs.specs.Coats.{ink_coat};
-ghost use Rattle.gui_draw.specs.Runs.{run_at, lines_at, letter_count, DrawsIn, IsPen};
+ghost use Rattle.gui_draw.specs.Runs.{lines_at, face_of, ink_of, letter_count, DrawsIn, IsPen};
 ghost use Rattle.gui_draw.specs.Spans.{IsFar};
 
+use crate::brush::Brush;
 use crate::glyphs::Corner;
 use crate::rows::part_of;
-use crate::runs::ink_run;
+use crate::runs::{Lettering, ink_run};
 use gui_base::{Area, Rgb565, Steps};
 use gui_color::DrawBuf;
-use gui_font::{Fonts, Line, Lines, TextAlign, TextLook};
+use gui_font::{Fonts, Line, Lines, Run, TextAlign, TextLook};
 use std::sync::ledger::Ledger;
 
 /// Mixes a colour with an opacity from 0 to 255 over the pixels of the buffer that are in the clip, in the
 /// area and in the ink of a text, which is set in the area's width from its top left on. Besides the steps of
 /// the mixes there is one at most for each character.
+// Each parameter by itself, as in all calls of this library: callers have them from different places.
 pub fn ink<L: Ledger>(
     buf: &mut DrawBuf,
     clip: Area,
@@ -47,18 +50,8 @@ pub fn ink<L: Ledger>(
     if let Some(part) = part_of(buf, clip, area) {
         let whole = area.width();
         let lines = fonts.lines(look, text, Some(whole as i32));
-        ink_lines(
-            buf,
-            part,
-            corner_of(area),
-            lines,
-            whole,
-            fonts,
-            look,
-            fg,
-            opa,
-            steps,
-        );
+        let brush = Brush { part, fg, opa };
+        ink_lines(buf, brush, area, lines, Lettering { fonts, look }, steps);
     }
 }
 
@@ -73,42 +66,38 @@ fn corner_of(area: Area) -> Corner
     }
 }
 
-/// Draws lines from the top left of an area on, `whole` pixels wide.
+/// Draws lines from the top left of an area on, in its width.
 fn ink_lines<L: Ledger>(
     buf: &mut DrawBuf,
-    part: Area,
-    start: Corner,
+    brush: Brush,
+    area: Area,
     lines: Lines<'_>,
-    whole: u32,
-    fonts: &Fonts,
-    look: TextLook,
-    fg: Rgb565,
-    opa: u8,
+    lettering: Lettering<'_>,
     steps: &mut Steps<L>,
 )
-    requires inside { IsInside buf.old.area (rect_of part) }
-    requires near { IsCoordinate start.x × IsCoordinate start.y }
-    requires there { has_font fonts.now.fonts look.font ≡ true }
-    requires letter { look.letter ≤ 100 }
-    requires line { look.line ≤ 100 }
-    requires face { (setting_of lines).face ≡ face_in fonts.now look.font }
-    requires letter_is { (setting_of lines).letter ≡ look.letter }
-    requires wide { whole ≤ 400000 }
+    requires inside { IsInside buf.old.area (rect_of brush.part) }
+    requires there { has_font lettering.fonts.now.fonts lettering.look.font ≡ true }
+    requires letter { lettering.look.letter ≤ 100 }
+    requires line { lettering.look.line ≤ 100 }
+    requires face { (setting_of lines).face ≡ face_of lettering }
+    requires letter_is { (setting_of lines).letter ≡ lettering.look.letter }
+    requires wide { width_of (rect_of area) ≤ 400000 }
     requires lines { length (runs_left lines) ≤ 1001 }
     requires letters { letter_count (runs_left lines) ≤ 1000 }
-    ensures { let pitch = (face_in fonts.now look.font).height + look.line in
-        DrawsIn (letter_count (runs_left lines.entry)) buf.old buf.new steps.old steps.new
-        (within (rect_of part) (only (lines_at (setting_of lines.entry) look.align pitch whole
-        (runs_left lines.entry) start.x start.y) (plain fg opa))) }
+    ensures { let look = lettering.entry.look in
+        let pitch = (face_of lettering.entry).height + look.line in
+        let whole = width_of (rect_of area) in
+        DrawsIn (letter_count (runs_left lines.entry)) buf.old buf.new steps.old steps.new (stroke brush
+        (lines_at (setting_of lines.entry) look.align pitch whole (runs_left lines.entry) area.x1 area.y1)) }
 {
-    let pitch = u32::from(fonts.height(look.font)) + u32::from(look.line);
+    let look = lettering.look;
+    let pitch = u32::from(lettering.fonts.height(look.font)) + u32::from(look.line);
+    let whole = area.width();
     let mut lines = lines;
-    let mut at = start;
+    let mut at = corner_of(area);
     'lines: while let Some(run) = lines.next_run() {
         let first = line_start(at, look.align, whole, run.line);
-        ink_line(
-            buf, part, first, run.text, run.count, fonts, look, fg, opa, steps,
-        );
+        ink_line(buf, brush, first, run, lettering, steps);
         at = below(at, pitch);
     }
 }
@@ -116,30 +105,26 @@ fn ink_lines<L: Ledger>(
 /// Draws a line whose first cell stands there, unless no pixel of it is in the part.
 fn ink_line<L: Ledger>(
     buf: &mut DrawBuf,
-    part: Area,
+    brush: Brush,
     start: Corner,
-    text: &str,
-    count: u32,
-    fonts: &Fonts,
-    look: TextLook,
-    fg: Rgb565,
-    opa: u8,
+    run: Run<'_>,
+    lettering: Lettering<'_>,
     steps: &mut Steps<L>,
 )
-    requires inside { IsInside buf.old.area (rect_of part) }
+    requires inside { IsInside buf.old.area (rect_of brush.part) }
     requires near { IsPen start.x × IsPen start.y }
-    requires there { has_font fonts.now.fonts look.font ≡ true }
-    requires letter { look.letter ≤ 100 }
-    requires few { count ≤ 1000 }
-    requires count { count ≤ length (chars text.now) }
-    ensures { DrawsIn count buf.old buf.new steps.old steps.new (within (rect_of part)
-        (only (run_at (face_in fonts.now look.font) look.letter (take count (chars text.now)) start.x start.y)
-        (plain fg opa))) }
+    requires there { has_font lettering.fonts.now.fonts lettering.look.font ≡ true }
+    requires letter { lettering.look.letter ≤ 100 }
+    requires few { run.count ≤ 1000 }
+    requires count { run.count ≤ length (chars run.text.now) }
+    ensures { DrawsIn run.entry.count buf.old buf.new steps.old steps.new
+        (stroke brush (ink_of lettering.entry run.entry start.x start.y)) }
 {
-    if is_beside(part, start, fonts.height(look.font)) {
+    let height = lettering.fonts.height(lettering.look.font);
+    if is_beside(brush.part, start, height) {
         return;
     }
-    ink_run(buf, part, start, text, count, fonts, look, fg, opa, steps);
+    ink_run(buf, brush, start, run, lettering, steps);
 }
 
 /// Whether no pixel of a line that stands there is in a part.

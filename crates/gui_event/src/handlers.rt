@@ -20,10 +20,16 @@ const HANDLES: u32 = 65_536;
 ///
 /// A handle without handlers takes no memory. A call takes time by the number of handlers of its object, and
 /// of objects that share a bucket with it; `drop_kind` takes so much for each handler that it drops.
-#[derive(Drop)]
 pub struct Handlers {
     // By handle.
     lists: Lists<Handler>,
+}
+
+impl Drop for Handlers {
+    /// Lets go of all that it holds. Who owns one calls this, where each field by itself would be dear to prove.
+    fn drop(self) {
+        let Handlers { lists: _ } = self;
+    }
 }
 
 impl Model for Handlers {

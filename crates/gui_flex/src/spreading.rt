@@ -90,25 +90,33 @@ fn place_track(track: &mut [FlexItem], places: FlexPlaces, extent: u32, gap: u32
     }
 }
 
-/// Places the items of all tracks.
-fn place_tracks(
-    items: &mut [FlexItem],
-    wrap: bool,
-    places: FlexPlaces,
+/// The sizes of a container along its flow and across it, and the spaces between two items and between two
+/// tracks.
+#[derive(Clone, Copy)]
+struct Extents {
     extent: u32,
     cross_extent: u32,
     gap: u32,
     track_gap: u32,
-)
+    ghost extent_fits: { extent ≤ 8191 },
+    ghost cross_extent_fits: { cross_extent ≤ 8191 },
+    ghost gap_fits: { gap ≤ 1000 },
+    ghost track_gap_fits: { track_gap ≤ 1000 },
+}
+
+/// Places the items of all tracks.
+fn place_tracks(items: &mut [FlexItem], wrap: bool, places: FlexPlaces, extents: Extents)
     requires few { length items.old ≤ 4000 }
-    requires extent { extent ≤ 8191 }
-    requires cross_extent { cross_extent ≤ 8191 }
-    requires gap { gap ≤ 1000 }
-    requires track_gap { track_gap ≤ 1000 }
-    ensures spots { spots_of items.new
-        ≡ spots (placings_of places) wrap extent cross_extent gap track_gap (items_of items.old) }
+    ensures spots { spots_of items.new ≡ spots (placings_of places) wrap extents.extent
+        extents.cross_extent extents.gap extents.track_gap (items_of items.old) }
     ensures items { items_of items.new ≡ items_of items.old }
 {
+    let Extents {
+        extent,
+        cross_extent,
+        gap,
+        track_gap,
+    } = extents;
     let (count, sizes) = measure(items, wrap, extent, gap);
     let free = cross_extent.saturating_sub(sizes + track_gap * count.saturating_sub(1));
     let mut first = 0;
@@ -129,6 +137,7 @@ fn place_tracks(
 /// it. `extent` and `cross_extent` are the sizes of the container along the flow and across it, from 0 to
 /// 8191; `gap` and `track_gap` are the spaces between two items and between two tracks, from 0 to 1000. There
 /// are at most 4,000 items.
+// Each size by itself, as a container has them: the sizes of its content area and its gaps.
 pub fn place(
     items: &mut [FlexItem],
     wrap: bool,
@@ -148,13 +157,11 @@ pub fn place(
         (nat_of track_gap) (items_of items.old) }
     ensures items { items_of items.new ≡ items_of items.old }
 {
-    place_tracks(
-        items,
-        wrap,
-        places,
-        extent as u32,
-        cross_extent as u32,
-        gap as u32,
-        track_gap as u32,
-    );
+    let extents = Extents {
+        extent: extent as u32,
+        cross_extent: cross_extent as u32,
+        gap: gap as u32,
+        track_gap: track_gap as u32,
+    };
+    place_tracks(items, wrap, places, extents);
 }

@@ -33,7 +33,6 @@ const KEYS: u32 = 256 * FONT_STEP;
 /// that is not there counts as the built-in one where a text is set in it.
 ///
 /// A font takes 4 bytes, a glyph 44 to 48, and its bits a byte for each byte.
-#[derive(Drop)]
 pub struct Fonts {
     fonts: Vec<FontSlot>,
     // The place of each glyph among the glyphs, by its key.
@@ -41,6 +40,18 @@ pub struct Fonts {
     glyphs: Vec<GlyphSlot>,
     // The bits of the glyphs, one glyph after the other.
     ink: Vec<u8>,
+}
+
+impl Drop for Fonts {
+    /// Lets go of all that it holds. Who owns one calls this, where each field by itself would be dear to prove.
+    fn drop(self) {
+        let Fonts {
+            fonts: _,
+            index: _,
+            glyphs: _,
+            ink: _,
+        } = self;
+    }
 }
 
 impl Model for Fonts {

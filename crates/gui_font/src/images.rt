@@ -26,13 +26,23 @@ const NAMES: u32 = 65_536;
 /// how many more images and bytes fit. The bytes of all rows are taken when an image begins.
 ///
 /// An image takes 52 to 56 bytes, and each byte of it a byte.
-#[derive(Drop)]
 pub struct Images {
     // The place of each image among the slots, by its number.
     index: Table<u32>,
     slots: Vec<ImageSlot>,
     // The bytes of the images, one image after the other.
     bytes: Vec<u8>,
+}
+
+impl Drop for Images {
+    /// Lets go of all that it holds. Who owns one calls this, where each field by itself would be dear to prove.
+    fn drop(self) {
+        let Images {
+            index: _,
+            slots: _,
+            bytes: _,
+        } = self;
+    }
 }
 
 impl Model for Images {

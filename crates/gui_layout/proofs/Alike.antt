@@ -1,11 +1,13 @@
 -- Objects whose boxes differ in their own heights alone scroll their children alike.
-use Rattle.std.proofs.Common.{◌≡◌, ◌∙◌, refl, sym, ap, ℕ, ◌-◌, true, false, ◌||◌, eqb, eq-eqb, subst, List, [], ◌∷◌, get_or, map, inl, inr}
+use Rattle.std.proofs.Common.{◌≡◌, ◌∙◌, refl, sym, ap, ℕ, ◌-◌, true, false, ◌||◌, eqb, eq-eqb, subst, List, ◌∷◌, get_or, map, inl, inr}
 use Rattle.std.proofs.lemmas.Bool.{cases_Bool, eqb-true, both_ways, false_from_ne_true, or_left, or_right, false≢true}
 use Rattle.gui_base.specs.Forest.{Forest, Empty, Tree, has, roots, map_forest, tree_at, children_of}
+use Rattle.gui_base.proofs.Forests.{map-agree}
 use Rattle.layout_defs.specs.Boxes.{Box}
 use Rattle.layout_defs.specs.OwnHeights.{but_height, but_height_tall}
-use Rattle.layout_defs.specs.Solving.{Tall, Slot, Room, Span, Placed, no_span, far_end, end_across, end_down, kid_reach, reach_in, room_of}
-use Rattle.layout_defs.proofs.OwnHeights.{slots_ask_none}
+use Rattle.layout_defs.specs.Solving.{Tall, Slot, Room, Span, far_end, end_across, end_down, kid_reach, reach_in, room_of}
+use Rattle.layout_defs.proofs.Boxes.{map-map}
+use Rattle.layout_defs.proofs.OwnHeights.{far_end-but, kid_reach-but, roots-map}
 use Rattle.gui_layout.specs.Marked.{is_root}
 use Rattle.gui_layout.specs.Scrolls.{Scrolled, HoldsScrolls, scrolled_at, scrolled_by, scrolled_in}
 use Rattle.gui_layout.specs.Scrolled.{IsScrolled, IsScrolledIn}
@@ -16,25 +18,16 @@ use Rattle.gui_tree.proofs.Parts.{IsDistinct, distinct-part, found, there}
 use Rattle.gui_layout.proofs.Settling.{tree-in}
 
 -- Own heights.
-abbrev first_reach : Forest Placed → Span
-first_reach Empty = no_span
-first_reach (Tree p cs rest) = p.reach
-
 reach-but : (tall : Tall) (slot : Slot) (cs : Forest Tall) → kid_reach (but_height_tall tall) slot (roots (map_forest but_height_tall cs)) ≡ kid_reach tall slot (roots cs)
-reach-but tall slot cs = ap first_reach (slots_ask_none (slot ∷ []) (Tree tall cs Empty))
-
-far-but : (end : Tall → Slot → ℕ) → ((kid : Tall) (slot : Slot) → end (but_height_tall kid) slot ≡ end kid slot) → (kids : List Tall) (slots : List Slot) → far_end end (map but_height_tall kids) slots ≡ far_end end kids slots
-far-but end alike [] slots = refl
-far-but end alike (kid ∷ kids) [] = refl
-far-but end alike (kid ∷ kids) (slot ∷ slots) = rw (far-but end alike kids slots, alike kid slot) refl
+reach-but tall slot cs = ap (kid_reach (but_height_tall tall) slot) (roots-map but_height_tall cs) ∙ kid_reach-but tall slot (roots cs)
 
 abbrev span_with : Room → ℕ → ℕ → Span
 span_with room across down = record { across = across - room.width; down = down - room.height }
 
 inside-but : (room : Room) (kids : List Tall) (slots : List Slot) → reach_in room (map but_height_tall kids) slots ≡ reach_in room kids slots
 inside-but room kids slots =
-    ap (λ n. span_with room n (far_end (end_down room) (map but_height_tall kids) slots)) (far-but (end_across room) (λ kid s. refl) kids slots)
-    ∙ ap (λ n. span_with room (far_end (end_across room) kids slots) n) (far-but (end_down room) (λ kid s. refl) kids slots)
+    ap (λ n. span_with room n (far_end (end_down room) (map but_height_tall kids) slots)) (far_end-but (end_across room) (λ kid s. refl) kids slots)
+    ∙ ap (λ n. span_with room (far_end (end_across room) kids slots) n) (far_end-but (end_down room) (λ kid s. refl) kids slots)
 
 module _ (b c : ℕ → Box) (widths naturals : List ℕ) where
   -- a box is the same in both but for its own height
@@ -57,12 +50,9 @@ module _ (b c : ℕ → Box) (widths naturals : List ℕ) where
   beside-of h cs rest same k i = same k (or_right _ _ (or_right _ _ i))
 
   talls-alike : (f : Forest ℕ) → AllAlike f → map_forest but_height_tall (talls b widths naturals f) ≡ map_forest but_height_tall (talls c widths naturals f)
-  talls-alike Empty same = refl
-  talls-alike (Tree h cs rest) same =
-      let one = tall-alike h (first-of h cs rest same) in
-      let cs_same = talls-alike cs (below-of h cs rest same) in
-      let rest_same = talls-alike rest (beside-of h cs rest same) in
-      λ i. Tree (one i) (cs_same i) (rest_same i)
+  talls-alike f same =
+      sym (map-map but_height_tall (tall_at b widths naturals) f)
+      ∙ (map-agree (λ h. but_height_tall (tall_at b widths naturals h)) (λ h. but_height_tall (tall_at c widths naturals h)) f (λ h i. tall-alike h (same h i)) ∙ map-map but_height_tall (tall_at c widths naturals) f)
 
   scrolled-alike : (h : ℕ) (slot : Slot) (cs : Forest ℕ) → Alike h → AllAlike cs → scrolled_in (tall_at b widths naturals h) slot (roots (talls b widths naturals cs)) ≡ scrolled_in (tall_at c widths naturals h) slot (roots (talls c widths naturals cs))
   scrolled-alike h slot cs same all =

@@ -25,11 +25,11 @@ use Rattle.gui_layout.specs.Slots.{HoldsPlaced}
 use Rattle.gui_layout.specs.Solved.{place_at}
 use Rattle.gui_layout.specs.Tables.{area_in, natural_height_or, natural_width_or, slot_or, told, width_or}
 use Rattle.gui_layout.proofs.Entering.{boxed_are, joined, place_in}
-use Rattle.gui_layout.proofs.Finds.{elsewhere, widths-handles}
+use Rattle.gui_layout.proofs.Keeps.{elsewhere}
 use Rattle.gui_layout.proofs.Marking.{marked-has}
 use Rattle.gui_layout.proofs.Listed.{told_at}
 use Rattle.gui_tree.proofs.Parts.{IsDistinct, distinct_once}
-use Rattle.gui_layout.proofs.Solves.{handles_solved, placed_handle}
+use Rattle.gui_layout.proofs.Solves.{handles_solved, placed_handle, widths-handles}
 
 -- what is found in some trees and then in others
 row-and : {A : Type 0} (test : A → Bool) (a b : Forest A) → row_by test (and_then a b) ≡ cond (has_by test a) (row_by test a) (row_by test b)

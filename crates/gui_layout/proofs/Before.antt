@@ -1,10 +1,11 @@
 -- What is right of objects that did not differ since they were solved.
-use Rattle.std.proofs.Common.{◌≡◌, ◌∙◌, refl, sym, ap, subst, ℕ, Bool, true, false, eqb, eq-eqb, ◌||◌, List, ◌∷◌, map, Option, Some, None, inl, inr}
+use Rattle.std.proofs.Common.{◌≡◌, ◌∙◌, refl, sym, ap, subst, ℕ, Bool, true, false, eqb, eq-eqb, ◌||◌, List, map, Option, Some, None, inl, inr}
 use Rattle.std.proofs.lemmas.Bool.{cases_Bool, eqb-true, both_ways, false_from_ne_true, or_left, or_right, false≢true}
 use Rattle.gui_base.specs.Forest.{Forest, Empty, Tree, StandsOnce, children_of, has, has_by, map_forest, parent_by, roots}
 use Rattle.gui_base.specs.Limits.{Bounds}
 use Rattle.layout_defs.specs.Boxes.{Box}
 use Rattle.layout_defs.specs.OwnHeights.{but_height}
+use Rattle.layout_defs.proofs.OwnHeights.{roots-map}
 use Rattle.scene_defs.specs.Scene.{Scene, handles_of}
 use Rattle.gui_layout.specs.declared.places.Places.{Places}
 use Rattle.gui_layout.specs.Marked.{AllFillBut, AllFitButBoth, FitsBut, HasNatural, LeftBy, LeftOf, StandUnmarked, marked_trees}
@@ -19,10 +20,6 @@ use Rattle.gui_layout.specs.Scrolled.{scrolled_known}
 use Rattle.gui_layout.proofs.Overs.{kids-same, root-in}
 use Rattle.gui_layout.proofs.Rescrolled.{unmarked-root}
 use Rattle.gui_layout.proofs.Settling.{is_at, is_root, parent-root, root-has}
-
-roots-map : (g : ℕ → Known) (f : Forest ℕ) → roots (map_forest g f) ≡ map g (roots f)
-roots-map g Empty = refl
-roots-map g (Tree h cs rest) = ap (λ ks. g h ∷ ks) (roots-map g rest)
 
 -- Children that stand by themselves, one by one.
 stand-at : (k : ℕ) (known : ℕ → Known) (p : Known) (cs : Forest ℕ) → is_root k cs ≡ true → StandUnmarked nobody known p cs → StandsFree p (known k)

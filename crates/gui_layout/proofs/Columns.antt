@@ -1,6 +1,5 @@
 -- Children with their natural heights.
-use Rattle.std.proofs.Common.{◌≡◌, ◌∙◌, refl, sym, ap, subst, ℕ, max, Option, List, [], ◌∷◌, length, map, get_or, Bool, true, false, arith}
-use Rattle.gui_base.specs.Forest.{Forest, roots}
+use Rattle.std.proofs.Common.{◌≡◌, ◌∙◌, refl, sym, ap, subst, ℕ, max, Option, List, [], ◌∷◌, length, map, Bool, true, false, arith}
 use Rattle.layout_defs.specs.declared.Course.{Course}
 use Rattle.layout_defs.specs.declared.Course.TheVariants.{Free, Across, Down}
 use Rattle.layout_defs.specs.Boxes.{Box, course_of, inner, inset, wraps, is_reversed}
@@ -9,22 +8,7 @@ use Rattle.layout_defs.specs.Solving.{Tall, tall_box, taking_part, in_order, nat
 use Rattle.gui_layout.specs.declared.layout_box.LayoutBox.{LayoutBox}
 use Rattle.gui_layout.specs.Views.{axis_of, box_of, box_at}
 use Rattle.gui_layout.specs.Rows.{Sum, down_kid, run_down, sum_of, with_gaps}
-use Rattle.gui_layout.specs.Talls.{heights_of}
-use Rattle.gui_layout.proofs.Kids.{named}
 use Rattle.gui_layout.proofs.Sums.{together, together_is, count_is}
-use Rattle.gui_layout.specs.Kids.{tall_kid}
-
--- a child as it is found
-abbrev pub tall_found : (ℕ → Box) → List ℕ → ℕ → Forest ℕ → Tall
-tall_found box widths h cs = record { box = record (box h) { handle = h }; width = get_or widths h 0; natural_height = natural_height (record (box h) { handle = h }) (get_or widths h 0) (roots (heights_of box widths cs)) }
-
-pub found_is : (boxes : List (Option LayoutBox)) (widths : List ℕ) (h width natural : ℕ) (kid : LayoutBox) (cs : Forest ℕ) → box_of h kid ≡ box_at boxes h → width ≡ get_or widths h 0 →
-    natural ≡ natural_height (record (box_at boxes h) { handle = h }) (get_or widths h 0) (roots (heights_of (box_at boxes) widths cs)) →
-    tall_kid h kid width natural ≡ tall_found (box_at boxes) widths h cs
-found_is boxes widths h width natural kid cs is_box is_width is_natural =
-    ap (λ (b : Box). record { box = b; width = width; natural_height = natural }) (is_box ∙ sym (named boxes h))
-    ∙ (ap (λ w. record { box = record (box_at boxes h) { handle = h }; width = w; natural_height = natural }) is_width
-    ∙ ap (λ n. record { box = record (box_at boxes h) { handle = h }; width = get_or widths h 0; natural_height = n }) is_natural)
 
 -- the height of those together that stand in no row
 heights_are : (course : Course) (box : Box) (room : ℕ) (kids : List Tall) → (course ≡ Across → ⊥) → together tall_box (λ (b : Box). b.down) (λ (k : Tall). k.natural_height) (run_down course) box.down.gap kids ≡ kids_height course box room kids

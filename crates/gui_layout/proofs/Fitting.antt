@@ -1,125 +1,41 @@
--- Tables that hold what the passes find fit object by object, and objects that fit stand where they are solved.
-use Rattle.std.proofs.Common.{◌≡◌, ◌∙◌, refl, sym, ap, subst, ℕ, List, [], ◌∷◌, length, get_or, map, suc, inl, inr, arith}
-use Rattle.std.proofs.lemmas.Bool.{cases_Bool}
+-- Objects fit that the passes have seen to, and objects that fit stand where they are solved.
+use Rattle.std.proofs.Common.{◌≡◌, ◌∙◌, refl, sym, ap, subst, ℕ, List, ◌∷◌, get_or, map}
 use Rattle.gui_base.specs.Forest.{Forest, Empty, Tree, roots, map_forest}
-use Rattle.layout_defs.specs.declared.Course.{Course}
-use Rattle.layout_defs.specs.declared.Course.TheVariants.{Free, Across, Down}
-use Rattle.layout_defs.specs.Boxes.{Box, course_of, inner}
-use Rattle.layout_defs.specs.Solving.{Wide, Tall, Placed, Slot, solved, wide_box, tall_box, width_in, own_slot, dealt, natural_width, natural_height, kid_widths_by, kid_widths, flat_slots, kid_reach, kid_slots, moved, offset_of, room_of, flow_slots, taking_part, row_widths, nowhere, with_widths, with_natural_heights, with_slots}
+use Rattle.layout_defs.specs.Boxes.{Box}
+use Rattle.layout_defs.specs.Solving.{Wide, Widened, Tall, Placed, Slot, solved, natural_width, natural_height, kid_widths, kid_reach, kid_slots, nowhere, with_widths, with_natural_heights, with_slots}
 use Rattle.layout_defs.specs.Tables.{Holds}
-use Rattle.gui_layout.specs.Found.{HoldsNaturalWidths, HoldsWidths, boxed, widths_of}
+use Rattle.gui_layout.specs.Found.{boxed, widths_of}
 use Rattle.gui_layout.specs.Scrolls.{HoldsScrolls, not_scrolled, scrolled_placed}
-use Rattle.gui_layout.specs.Settled.{Known, wide_of, tall_of, width_of, slot_of, AllFit, Layout, known_at, known, corner, AllFill, IsSettled}
-use Rattle.gui_layout.specs.Slots.{HoldsPlaced, HoldsSlots, slot_at, talls, tall_at}
-use Rattle.gui_layout.specs.Talls.{HoldsNaturalHeights, heights_of, widened_at}
+use Rattle.gui_layout.specs.Settled.{Known, wide_of, tall_of, width_of, slot_of, EachKids, NaturalWidthFits, WidthsFit, NaturalHeightFits, SlotsFit, AllFit, Layout, known_at, known, corner, AllFill, IsSettled}
+use Rattle.gui_layout.specs.Slots.{HoldsPlaced, slot_at, talls, tall_at}
+use Rattle.gui_layout.proofs.Passes.{roots_known}
 
 same_tree : {A : Type 0} (a b : A) (cs ds rest later : Forest A) → a ≡ b → cs ≡ ds → rest ≡ later → Tree a cs rest ≡ Tree b ds later
 same_tree {A} a b cs ds rest later row children others = ap (λ (r : A). Tree r cs rest) row ∙ (ap (λ (f : Forest A). Tree b f rest) children ∙ ap (λ (f : Forest A). Tree b ds f) others)
 
--- Lists of sizes and slots are as long as those of the children.
-dealt-length : {A B : Type 0} (box : A → Box) (own : A → B) (kids : List A) (ys : List B) → length (dealt box own kids ys) ≡ length kids
-dealt-length box own [] ys = refl
-dealt-length box own (kid ∷ kids) [] = ap (λ n. suc n) (dealt-length box own kids [])
-dealt-length box own (kid ∷ kids) (y ∷ ys) = elim (cases_Bool (box kid).hidden) [
-  | inl is ↦ rw is (ap (λ n. suc n) (dealt-length box own kids (y ∷ ys)))
-  | inr isnt ↦ rw isnt (ap (λ n. suc n) (dealt-length box own kids ys))
-]
+abbrev widened_at : (ℕ → Box) → List ℕ → ℕ → Widened
+widened_at box widths h = record { box = record (box h) { handle = h }; width = get_or widths h 0 }
 
-mapped-length : {A B : Type 0} (g : A → B) (xs : List A) → length (map g xs) ≡ length xs
-mapped-length g [] = refl
-mapped-length g (x ∷ xs) = ap (λ n. suc n) (mapped-length g xs)
+abbrev heights_of : (ℕ → Box) → List ℕ → Forest ℕ → Forest Tall
+heights_of box widths f = with_natural_heights (map_forest (widened_at box widths) f)
 
-widths-length : (course : Course) (box : Box) (room : ℕ) (kids : List Wide) → length (kid_widths_by course box room kids) ≡ length kids
-widths-length Free box room kids = mapped-length (width_in room) kids
-widths-length Across box room kids = dealt-length wide_box (width_in room) kids (row_widths box room kids)
-widths-length Down box room kids = mapped-length (width_in room) kids
-
-slots-length : (tall : Tall) (slot : Slot) (kids : List Tall) → length (kid_slots tall slot kids) ≡ length kids
-slots-length tall slot kids =
-    let room = room_of tall slot in
-    mapped-length (moved (offset_of tall.box (kid_reach tall slot kids))) (flat_slots tall slot kids)
-    ∙ dealt-length tall_box (own_slot room) kids (flow_slots tall.box room (taking_part tall_box kids))
+-- Objects fit where each pass has seen to them.
+pub fit_of : (f : Forest Known) → EachKids NaturalWidthFits f → EachKids WidthsFit f → EachKids NaturalHeightFits f → EachKids SlotsFit f → AllFit f
+fit_of Empty naturals widths heights slots = tt
+fit_of (Tree k cs rest) naturals widths heights slots = (
+  record { natural_width = naturals.0; widths = widths.0; natural_height = heights.0; slots = slots.0 },
+  fit_of cs naturals.1 widths.1 heights.1 slots.1,
+  fit_of rest naturals.2 widths.2 heights.2 slots.2,
+)
 
 module _ (box : ℕ → Box) (l : Layout) where
   abbrev knows : Forest ℕ → Forest Known
   knows f = known box l f
 
-  -- what the tables hold is what they know of the roots
-  pub wide_roots : (f : Forest ℕ) → HoldsNaturalWidths box l.natural_widths f → roots (widths_of box f) ≡ map wide_of (roots (knows f))
-  wide_roots Empty holds = refl
-  wide_roots (Tree h cs rest) holds =
-      ap (λ n. record { box = record (box h) { handle = h }; natural = n } ∷ roots (widths_of box rest)) (sym holds.0)
-      ∙ ap (λ ws. wide_of (known_at box l h) ∷ ws) (wide_roots rest holds.2)
-
-  pub high_roots : (f : Forest ℕ) → HoldsNaturalHeights box l.widths l.natural_heights f → roots (heights_of box l.widths f) ≡ map tall_of (roots (knows f))
-  high_roots Empty holds = refl
-  high_roots (Tree h cs rest) holds =
-      ap (λ n. record { box = record (box h) { handle = h }; width = get_or l.widths h 0; natural_height = n } ∷ roots (heights_of box l.widths rest)) (sym holds.0)
-      ∙ ap (λ ts. tall_of (known_at box l h) ∷ ts) (high_roots rest holds.2)
-
   pub tall_roots : (f : Forest ℕ) → roots (talls box l.widths l.natural_heights f) ≡ map tall_of (roots (knows f))
-  tall_roots Empty = refl
-  tall_roots (Tree h cs rest) = ap (λ ts. tall_of (known_at box l h) ∷ ts) (tall_roots rest)
-
-  -- the widths of roots are those that they were given, where there is one for each
-  widths_are : (ws : List ℕ) (f : Forest ℕ) → length ws ≡ length (roots (widths_of box f)) → HoldsWidths box ws l.widths f → map width_of (roots (knows f)) ≡ ws
-  widths_are [] Empty long holds = refl
-  widths_are (w ∷ ws) Empty long holds = absurd (omega arith)
-  widths_are [] (Tree h cs rest) long holds = absurd (omega arith)
-  widths_are (w ∷ ws) (Tree h cs rest) long holds =
-      ap (λ n. n ∷ map width_of (roots (knows rest))) holds.0 ∙ ap (λ ns. w ∷ ns) (widths_are ws rest (omega arith) holds.2)
-
-  slots_are : (ss : List Slot) (f : Forest ℕ) → length ss ≡ length (roots (talls box l.widths l.natural_heights f)) → HoldsSlots box l.widths l.natural_heights ss l.slots f → map slot_of (roots (knows f)) ≡ ss
-  slots_are [] Empty long holds = refl
-  slots_are (s ∷ ss) Empty long holds = absurd (omega arith)
-  slots_are [] (Tree h cs rest) long holds = absurd (omega arith)
-  slots_are (s ∷ ss) (Tree h cs rest) long holds =
-      ap (λ n. n ∷ map slot_of (roots (knows rest))) holds.0 ∙ ap (λ ns. s ∷ ns) (slots_are ss rest (omega arith) holds.2)
-
-  -- Tables that hold what the passes find of these trees fit.
-  pub record HoldsAll (f : Forest ℕ) : Type 0 where
-    pub natural_widths : HoldsNaturalWidths box l.natural_widths f
-    pub widths : HoldsWidths box (map width_of (roots (knows f))) l.widths f
-    pub natural_heights : HoldsNaturalHeights box l.widths l.natural_heights f
-    pub slots : HoldsSlots box l.widths l.natural_heights (map slot_of (roots (knows f))) l.slots f
-
-  pub fit_of : (f : Forest ℕ) → HoldsAll f → AllFit (knows f)
-  fit_of Empty holds = tt
-  fit_of (Tree h cs rest) holds =
-      let own = record (box h) { handle = h } in
-      let k = known_at box l h in
-      let tall = tall_at box l.widths l.natural_heights h in
-      let wides = wide_roots cs holds.natural_widths.1 in
-      let highs = high_roots cs holds.natural_heights.1 in
-      let given = kid_widths own k.width (roots (widths_of box cs)) in
-      let dealt_slots = kid_slots tall k.slot (roots (talls box l.widths l.natural_heights cs)) in
-      let wide : map width_of (roots (knows cs)) ≡ given = widths_are given cs (widths-length (course_of own.flow) own (inner own.across k.width) (roots (widths_of box cs))) holds.widths.1 in
-      let stand : map slot_of (roots (knows cs)) ≡ dealt_slots = slots_are dealt_slots cs (slots-length tall k.slot (roots (talls box l.widths l.natural_heights cs))) holds.slots.1 in (
-        record {
-          natural_width = holds.natural_widths.0 ∙ ap (natural_width own) wides;
-          widths = wide ∙ ap (kid_widths own k.width) wides;
-          natural_height = holds.natural_heights.0 ∙ ap (natural_height own k.width) highs;
-          slots = stand ∙ ap (kid_slots tall k.slot) (tall_roots cs);
-        },
-        fit_of cs (record {
-          natural_widths = holds.natural_widths.1;
-          widths = subst (λ ws. HoldsWidths box ws l.widths cs) (sym wide) holds.widths.1;
-          natural_heights = holds.natural_heights.1;
-          slots = subst (λ ss. HoldsSlots box l.widths l.natural_heights ss l.slots cs) (sym stand) holds.slots.1;
-        }),
-        fit_of rest (record {
-          natural_widths = holds.natural_widths.2;
-          widths = holds.widths.2;
-          natural_heights = holds.natural_heights.2;
-          slots = holds.slots.2;
-        }),
-      )
+  tall_roots f = roots_known tall_of (known_at box l) f
 
   -- what is known of objects that fit is what the definition gives of their boxes
-  roots_known : {A : Type 0} (g : Known → A) (f : Forest ℕ) → roots (map_forest (λ h. g (known_at box l h)) f) ≡ map g (roots (knows f))
-  roots_known g Empty = refl
-  roots_known g (Tree h cs rest) = ap (λ xs. g (known_at box l h) ∷ xs) (roots_known g rest)
-
   abbrev wides : Forest ℕ → Forest Wide
   wides f = map_forest (λ h. wide_of (known_at box l h)) f
 
@@ -139,14 +55,14 @@ module _ (box : ℕ → Box) (l : Layout) where
   wides_given (Tree h cs rest) fit =
       let own = record (box h) { handle = h } in
       let below = wides_given cs fit.1 in
-      let natural = ap (λ (t : Forest Wide). natural_width own (roots t)) below ∙ (ap (natural_width own) (roots_known wide_of cs) ∙ sym fit.0.natural_width) in
+      let natural = ap (λ (t : Forest Wide). natural_width own (roots t)) below ∙ (ap (natural_width own) (roots_known wide_of (known_at box l) cs) ∙ sym fit.0.natural_width) in
       same_tree _ _ _ _ _ _ (ap (λ n. record { box = own; natural = n }) natural) below (wides_given rest fit.2)
 
   widths_given : (f : Forest ℕ) → AllFit (knows f) → with_widths (map width_of (roots (knows f))) (wides f) ≡ map_forest (widened_at box l.widths) f
   widths_given Empty fit = refl
   widths_given (Tree h cs rest) fit =
       let own = record (box h) { handle = h } in
-      let kids = ap (kid_widths own (known_at box l h).width) (roots_known wide_of cs) ∙ sym fit.0.widths in
+      let kids = ap (kid_widths own (known_at box l h).width) (roots_known wide_of (known_at box l) cs) ∙ sym fit.0.widths in
       same_tree _ _ _ _ _ _ refl (ap (λ ws. with_widths ws (wides cs)) kids ∙ widths_given cs fit.1) (widths_given rest fit.2)
 
   heights_given : (f : Forest ℕ) → AllFit (knows f) → heights_of box l.widths f ≡ talls box l.widths l.natural_heights f
@@ -210,7 +126,7 @@ module _ (box : ℕ → Box) (l : Layout) where
         subst (Holds (λ (p : Placed). p.tall.box.handle) scrolled_placed not_scrolled l.scrolls) (sym (solved_is f settled)) (scrolls_hold f holds)
 
     -- and so are their natural sizes
-    pub settled_wide : (f : Forest ℕ) → IsSettled width height (knows f) → HoldsNaturalWidths box l.natural_widths f
+    pub settled_wide : (f : Forest ℕ) → IsSettled width height (knows f) → Holds (λ (w : Wide). w.box.handle) (λ (w : Wide). w.natural) 0 l.natural_widths (widths_of box f)
     settled_wide f settled =
         subst (Holds (λ (w : Wide). w.box.handle) (λ (w : Wide). w.natural) 0 l.natural_widths) (sym (wides_given f settled.fit))
         (told_holds (λ h. wide_of (known_at box l h)) (λ w. w.box.handle) (λ w. w.natural) 0 l.natural_widths (λ h. refl) f)

@@ -1,5 +1,5 @@
 -- Slots that are dealt child by child.
-use Rattle.std.proofs.Common.{◌≡◌, ◌∙◌, refl, sym, ap, subst, ℕ, ◌<◌, Bool, Option, List, ◌∷◌, length, get_or, set, map}
+use Rattle.std.proofs.Common.{◌≡◌, ◌∙◌, refl, sym, ap, subst, ℕ, ◌<◌, Bool, List, ◌∷◌, length, get_or, set, map}
 use Rattle.std.specs.List.{All}
 use Rattle.std.proofs.lemmas.List.{get_or-set_same, length-set}
 use Rattle.std.proofs.lemmas.List.Elements.{All-nil, All-cons}
@@ -10,34 +10,28 @@ use Rattle.layout_defs.specs.Boxes.{Box}
 use Rattle.layout_defs.specs.Solving.{Tall, tall_box, Slot, Room, own_slot, dealt, in_order, ordered_slots, nowhere}
 use Rattle.gui_flex.specs.declared.item.FlexItem.{FlexItem}
 use Rattle.gui_flex.specs.Items.{item_of, items_of}
-use Rattle.gui_layout.specs.Kids.{tall_kid}
-use Rattle.gui_layout.specs.declared.layout_box.LayoutBox.{LayoutBox}
-use Rattle.gui_layout.specs.Views.{box_of, box_at}
-use Rattle.gui_layout.specs.Slots.{tall_at, talls, flow_item, item_slot, arranged, at_roots, IsClose, Deals}
+use Rattle.gui_layout.specs.Kids.{told_trees, Deals}
+use Rattle.gui_layout.specs.Settled.{Layout, known_at, tall_of}
+use Rattle.gui_layout.specs.Views.{box_at}
+use Rattle.gui_layout.specs.Slots.{flow_item, item_slot, arranged, at_roots, IsClose}
 use Rattle.gui_tree.proofs.Parts.{IsDistinct}
-use Rattle.gui_layout.proofs.Finds.{keeps_none, keeps_same, keeps_first, keeps_top}
-use Rattle.gui_layout.proofs.Kids.{named}
+use Rattle.gui_layout.proofs.Keeps.{keeps_none, keeps_same, keeps_first, keeps_top}
 use Rattle.gui_layout.proofs.Lists.{map-in_order}
 
-pub tall_is : (boxes : List (Option LayoutBox)) (widths naturals : List ℕ) (h width natural : ℕ) (kid : LayoutBox) → box_of h kid ≡ box_at boxes h →
-    width ≡ get_or widths h 0 → natural ≡ get_or naturals h 0 → tall_kid h kid width natural ≡ tall_at (box_at boxes) widths naturals h
-tall_is boxes widths naturals h width natural kid is is_width is_natural =
-    ap (λ (b : Box). record { box = b; width = width; natural_height = natural }) (is ∙ sym (named boxes h))
-    ∙ (ap (λ w. record { box = record (box_at boxes h) { handle = h }; width = w; natural_height = natural }) is_width
-    ∙ ap (λ n. record { box = record (box_at boxes h) { handle = h }; width = get_or widths h 0; natural_height = n }) is_natural)
+module _ (l : Layout) (room : Room) where
+  abbrev pub talls : Forest ℕ → List Tall
+  talls f = map tall_of (roots (told_trees l f))
 
-module _ (box : ℕ → Box) (widths naturals : List ℕ) (room : Room) where
-  pub slots_none : (t flow : List Slot) → Deals box widths naturals room t t Empty flow
+  pub slots_none : (t flow : List Slot) → Deals l room t t Empty flow
   slots_none t flow = record { dealt = refl; others = keeps_none nowhere t; close = All-nil (IsClose room.x room.y) }
 
-  pub slots_first : (a c : List Slot) (h : ℕ) (slot : Slot) (cs rest : Forest ℕ) (kid : Tall) (flow later : List Slot) → IsDistinct (Tree h cs rest) → h < length a → kid ≡ tall_at box widths naturals h →
-      dealt tall_box (own_slot room) (kid ∷ roots (talls box widths naturals rest)) flow ≡ slot ∷ dealt tall_box (own_slot room) (roots (talls box widths naturals rest)) later →
-      IsClose room.x room.y slot → Deals box widths naturals room (set a h slot) c rest later → Deals box widths naturals room a c (Tree h cs rest) flow
+  pub slots_first : (a c : List Slot) (h : ℕ) (slot : Slot) (cs rest : Forest ℕ) (kid : Tall) (flow later : List Slot) → IsDistinct (Tree h cs rest) → h < length a → kid ≡ tall_of (known_at (box_at l.boxes) l h) →
+      dealt tall_box (own_slot room) (kid ∷ talls rest) flow ≡ slot ∷ dealt tall_box (own_slot room) (talls rest) later → IsClose room.x room.y slot → Deals l room (set a h slot) c rest later → Deals l room a c (Tree h cs rest) flow
   slots_first a c h slot cs rest kid flow later distinct short is_kid is close deals =
       let top : get_or c h nowhere ≡ slot = deals.others.others h distinct.2 ∙ get_or-set_same a h slot nowhere short in
       let heads : at_roots c (Tree h cs rest) ≡ slot ∷ at_roots c rest = ap (λ (s : Slot). s ∷ at_roots c rest) top in
       record {
-        dealt = heads ∙ (ap (λ ss. slot ∷ ss) deals.dealt ∙ (sym is ∙ ap (λ (k : Tall). dealt tall_box (own_slot room) (k ∷ roots (talls box widths naturals rest)) flow) is_kid));
+        dealt = heads ∙ (ap (λ ss. slot ∷ ss) deals.dealt ∙ (sym is ∙ ap (λ (k : Tall). dealt tall_box (own_slot room) (k ∷ talls rest) flow) is_kid));
         others = keeps_first nowhere a (set a h slot) c h cs rest (keeps_top nowhere a a h cs slot (keeps_same nowhere a cs) (length-set a h slot)) deals.others;
         close = subst (All (IsClose room.x room.y)) (sym heads) (All-cons (IsClose room.x room.y) slot (at_roots c rest) close deals.close);
       }

@@ -1,17 +1,18 @@
 -- Children with what was found for them.
-use Rattle.std.proofs.Common.{◌≡◌, ◌∙◌, refl, sym, ap, get_or, ℕ, max, List, Option, Some, None}
-use Rattle.gui_base.specs.Forest.{Forest, roots}
+use Rattle.std.proofs.Common.{◌≡◌, ◌∙◌, refl, ap, get_or, ℕ, max, List, Option, Some, None}
 use Rattle.layout_defs.specs.declared.Course.{Course}
 use Rattle.layout_defs.specs.declared.Course.TheVariants.{Free, Across, Down}
 use Rattle.layout_defs.specs.Boxes.{Box, course_of, inset}
 use Rattle.layout_defs.specs.Solving.{Wide, wide_box, taking_part, natural_size, kids_width, natural_width}
-use Rattle.gui_layout.specs.Kids.{wide_kid}
+use Rattle.gui_layout.specs.declared.entry.Entry.{Entry}
 use Rattle.gui_layout.specs.declared.layout_box.LayoutBox.{LayoutBox}
 use Rattle.gui_layout.specs.Views.{axis_of, box_of, box_or, box_at}
 use Rattle.gui_layout.specs.declared.measuring.Run.{Run}
 use Rattle.gui_layout.specs.Rows.{Sum, across_kid, run_across, sum_of, with_gaps}
 use Rattle.gui_layout.proofs.Sums.{together, together_is}
-use Rattle.gui_layout.specs.Found.{widths_of}
+use Rattle.gui_layout.specs.Settled.{Layout, known_at}
+use Rattle.gui_layout.specs.Sizings.{kid_by}
+use Rattle.gui_layout.specs.Tables.{IsEntry}
 
 named_or : (h : ℕ) (o : Option LayoutBox) → record (box_or h o) { handle = h } ≡ box_or h o
 named_or h None = refl
@@ -21,14 +22,9 @@ named_or h (Some b) = refl
 pub named : (boxes : List (Option LayoutBox)) (h : ℕ) → record (box_at boxes h) { handle = h } ≡ box_at boxes h
 named boxes h = named_or h (get_or boxes h None)
 
--- a child as it is found
-abbrev pub kid_found : (ℕ → Box) → ℕ → Forest ℕ → Wide
-kid_found box h cs = record { box = record (box h) { handle = h }; natural = natural_width (record (box h) { handle = h }) (roots (widths_of box cs)) }
-
-pub kid_is : (boxes : List (Option LayoutBox)) (h natural : ℕ) (kid : LayoutBox) (cs : Forest ℕ) → box_of h kid ≡ box_at boxes h → natural ≡ natural_width (record (box_at boxes h) { handle = h }) (roots (widths_of (box_at boxes) cs)) →
-    wide_kid h kid natural ≡ kid_found (box_at boxes) h cs
-kid_is boxes h natural kid cs is_box is_natural =
-    ap (λ (b : Box). record { box = b; natural = natural }) (is_box ∙ sym (named boxes h)) ∙ ap (λ n. record { box = record (box_at boxes h) { handle = h }; natural = n }) is_natural
+-- a child by its entry is the child that is told
+pub kid_told : (l : Layout) (h : ℕ) (e : Entry) → IsEntry l h e → kid_by h e ≡ known_at (box_at l.boxes) l h
+kid_told l h e is = rw (is.wanted, is.natural_width, is.width, is.natural_height, is.slot, named l.boxes h) refl
 
 -- the width of those together
 widths_are : (course : Course) (box : Box) (kids : List Wide) → together wide_box (λ (b : Box). b.across) (λ (k : Wide). k.natural) (run_across course) box.across.gap kids ≡ kids_width course box kids

@@ -1,100 +1,84 @@
 -- Own heights that are set at found widths.
-use Rattle.std.proofs.Common.{◌≡◌, ◌∙◌, ◌<◌, refl, sym, ap, subst, ℕ, length, set, true, false, cond, eqb, eq-eqb, ◌||◌, ◌⊎◌, List, get_or, inl, inr}
+use Rattle.std.proofs.Common.{◌≡◌, ◌∙◌, ◌<◌, refl, sym, ap, subst, ℕ, length, set, true, false, cond, eqb, eq-eqb, ◌||◌, ◌⊎◌, List, get_or, map, inl, inr}
 use Rattle.std.specs.Prelude.{Option, Some, None}
 use Rattle.std.proofs.lemmas.Bool.{cases_Bool, eqb-true, or_cases, or_left, or_right, false≢true}
-use Rattle.gui_base.specs.Forest.{Forest, Empty, Tree, has, map_forest}
+use Rattle.std.proofs.lemmas.Simd.{map-map}
+use Rattle.gui_base.specs.Forest.{Forest, Empty, Tree, has, map_forest, roots}
 use Rattle.gui_base.proofs.Forests.{map-agree}
 use Rattle.layout_defs.specs.Boxes.{Box, inner}
-use Rattle.layout_defs.specs.Solving.{Wide, Widened, Tall, Slot, Placed, with_natural_widths, with_widths, with_natural_heights, with_slots, nowhere}
-use Rattle.layout_defs.specs.OwnHeights.{but_height, but_height_wide, but_height_widened, but_height_tall, but_height_placed, fixed_at, fixed_widened, fixed_tall}
-use Rattle.layout_defs.specs.Tables.{Holds}
-use Rattle.layout_defs.proofs.Boxes.{map-map}
-use Rattle.layout_defs.proofs.OwnHeights.{natural_widths_ask_none, widths_ask_none, natural_heights_ask_at_widths, slots_ask_none}
+use Rattle.layout_defs.specs.Solving.{nowhere, natural_width, kid_widths, natural_height, kid_slots}
+use Rattle.layout_defs.specs.OwnHeights.{but_height, but_height_wide, but_height_tall, fixed_at, fixed_tall}
+use Rattle.layout_defs.proofs.OwnHeights.{natural_width-but, kid_widths-but, natural_height-fixed, kid_slots-but}
 use Rattle.scene_defs.specs.Scene.{Scene}
 use Rattle.gui_layout.specs.declared.layout_box.LayoutBox.{LayoutBox}
-use Rattle.gui_layout.specs.Found.{HoldsNaturalWidths, HoldsWidths, boxed, widths_of}
+use Rattle.gui_layout.specs.Kids.{told_trees}
 use Rattle.gui_layout.specs.OwnHeights.{IsFixed, AreFixed, KeepsFixed}
 use Rattle.gui_layout.specs.Renewed.{KeepsRenewed}
 use Rattle.gui_layout.specs.Scenes.{scene_box}
-use Rattle.gui_layout.specs.Slots.{HoldsSlots, talls, tall_at}
-use Rattle.gui_layout.specs.Talls.{HoldsNaturalHeights, heights_of, widened_at}
+use Rattle.gui_layout.specs.Settled.{Known, Layout, known, known_at, wide_of, tall_of, width_of, slot_of, EachKids, NaturalWidthFits, WidthsFit, NaturalHeightFits, SlotsFit}
 use Rattle.gui_layout.specs.Views.{axis_of, box_of, box_or, box_at}
+use Rattle.gui_layout.proofs.Passes.{roots_known}
 use Rattle.gui_tree.proofs.Parts.{here}
 use Rattle.gui_layout.proofs.These.{value-set}
 
--- what a table holds of rows that are made of others
-module _ {A B V : Type 0} (g : A → B) (handle : B → ℕ) (value : B → V) (d : V) (table : List V) where
-  Holds-mapped : (f : Forest A) → Holds (λ a. handle (g a)) (λ a. value (g a)) d table f → Holds handle value d table (map_forest g f)
-  Holds-mapped Empty holds = tt
-  Holds-mapped (Tree row cs rest) holds = (holds.0, Holds-mapped cs holds.1, Holds-mapped rest holds.2)
+-- What follows alike for objects that look alike, by what is seen of them and of their children.
+module _ {B : Type 0} (view : Known → Known) (left right : Known → List Known → B) (lefts : (k : Known) (ks : List Known) → left (view k) (map view ks) ≡ left k ks) (rights : (k : Known) (ks : List Known) → right (view k) (map view ks) ≡ right k ks) (a b : ℕ → Known) where
+  abbrev Fit : Known → List Known → Type 0
+  Fit k ks = left k ks ≡ right k ks
 
-  Holds-made : (f : Forest A) → Holds handle value d table (map_forest g f) → Holds (λ a. handle (g a)) (λ a. value (g a)) d table f
-  Holds-made Empty holds = tt
-  Holds-made (Tree row cs rest) holds = (holds.0, Holds-made cs holds.1, Holds-made rest holds.2)
+  fit-seen : (f : Forest ℕ) → ((h : ℕ) → has f h ≡ true → view (a h) ≡ view (b h)) → EachKids Fit (map_forest a f) → EachKids Fit (map_forest b f)
+  fit-seen Empty same each = tt
+  fit-seen (Tree h cs rest) same each =
+      let below : (k : ℕ) → has cs k ≡ true → view (a k) ≡ view (b k) = λ k i. same k (or_right _ _ (or_left _ _ i)) in
+      let beside : (k : ℕ) → has rest k ≡ true → view (a k) ≡ view (b k) = λ k i. same k (or_right _ _ (or_right _ _ i)) in
+      let kids : map view (roots (map_forest a cs)) ≡ map view (roots (map_forest b cs)) =
+      sym (roots_known view a cs) ∙ (ap (λ (t : Forest Known). roots t) (map-agree (λ k. view (a k)) (λ k. view (b k)) cs below) ∙ roots_known view b cs) in
+      let carried : (g : Known → List Known → B) → ((k : Known) (ks : List Known) → g (view k) (map view ks) ≡ g k ks) → g (a h) (roots (map_forest a cs)) ≡ g (b h) (roots (map_forest b cs)) =
+      λ g sees. sym (sees (a h) (roots (map_forest a cs))) ∙ (ap (λ (k : Known). g k (map view (roots (map_forest a cs)))) (same h (here h cs rest)) ∙ (ap (g (view (b h))) kids ∙ sees (b h) (roots (map_forest b cs)))) in
+      (sym (carried left lefts) ∙ (each.0 ∙ carried right rights), fit-seen cs below each.1, fit-seen rest beside each.2)
 
--- Boxes of a forest that are the same but for their own heights.
-module _ (b c : ℕ → Box) (f : Forest ℕ) (same : (h : ℕ) → has f h ≡ true → but_height (b h) ≡ but_height (c h)) where
-  boxed-but : map_forest but_height (boxed b f) ≡ map_forest but_height (boxed c f)
-  boxed-but =
-      sym (map-map but_height (λ h. record (b h) { handle = h }) f)
-      ∙ (map-agree (λ h. but_height (record (b h) { handle = h })) (λ h. but_height (record (c h) { handle = h })) f (λ h there. ap (λ (box : Box). record box { handle = h }) (same h there))
-      ∙ map-map but_height (λ h. record (c h) { handle = h }) f)
+-- Objects fit with the boxes of a scene where they do with those that are told, from which they differ in own heights.
+module _ (box : ℕ → Box) (m l : Layout) (f : Forest ℕ) where
+  abbrev AreAlike : Type 0
+  AreAlike = (h : ℕ) → has f h ≡ true → but_height (box_at m.boxes h) ≡ but_height (box h)
 
-  widths-but : map_forest but_height_wide (widths_of b f) ≡ map_forest but_height_wide (widths_of c f)
-  widths-but = sym (natural_widths_ask_none (boxed b f)) ∙ (ap with_natural_widths boxed-but ∙ natural_widths_ask_none (boxed c f))
+  named_alike : AreAlike → (h : ℕ) → has f h ≡ true → but_height (record (box_at m.boxes h) { handle = h }) ≡ but_height (record (box h) { handle = h })
+  named_alike same h i = ap (λ (b : Box). record b { handle = h }) (same h i)
 
-  -- have the same natural widths
-  pub same_naturals : (table : List ℕ) → HoldsNaturalWidths b table f → HoldsNaturalWidths c table f
-  same_naturals table holds =
-      let handle = λ (w : Wide). w.box.handle in
-      let natural = λ (w : Wide). w.natural in
-      Holds-made but_height_wide handle natural 0 table (widths_of c f)
-      (subst (Holds handle natural 0 table) widths-but (Holds-mapped but_height_wide handle natural 0 table (widths_of b f) holds))
+  pub naturals_fit : AreAlike → m.natural_widths ≡ l.natural_widths → EachKids NaturalWidthFits (told_trees m f) → EachKids NaturalWidthFits (known box l f)
+  naturals_fit same naturals =
+      let view : Known → Known = λ k. record k { box = but_height k.box; width = 0; natural_height = 0; slot = nowhere } in
+      fit-seen view (λ k ks. k.natural_width) (λ k ks. natural_width k.box (map wide_of ks)) (λ k ks. refl)
+      (λ k ks. ap (natural_width (but_height k.box)) (map-map wide_of view ks ∙ sym (map-map but_height_wide wide_of ks)) ∙ natural_width-but k.box (map wide_of ks))
+      (known_at (box_at m.boxes) m) (known_at box l) f
+      (λ h i j. record { box = named_alike same h i j; natural_width = get_or (naturals j) h 0; width = 0; natural_height = 0; slot = nowhere })
 
-  -- have the same widths
-  pub same_widths : (ws table : List ℕ) → HoldsWidths b ws table f → HoldsWidths c ws table f
-  same_widths ws table holds =
-      let rows : map_forest but_height_widened (with_widths ws (widths_of b f)) ≡ map_forest but_height_widened (with_widths ws (widths_of c f)) =
-      sym (widths_ask_none ws (widths_of b f)) ∙ (ap (with_widths ws) widths-but ∙ widths_ask_none ws (widths_of c f)) in
-      let handle = λ (w : Widened). w.box.handle in
-      let width = λ (w : Widened). w.width in
-      Holds-made but_height_widened handle width 0 table (with_widths ws (widths_of c f))
-      (subst (Holds handle width 0 table) rows (Holds-mapped but_height_widened handle width 0 table (with_widths ws (widths_of b f)) holds))
+  pub widths_fit : AreAlike → m.natural_widths ≡ l.natural_widths → m.widths ≡ l.widths → EachKids WidthsFit (told_trees m f) → EachKids WidthsFit (known box l f)
+  widths_fit same naturals widths =
+      let view : Known → Known = λ k. record k { box = but_height k.box; natural_height = 0; slot = nowhere } in
+      fit-seen view (λ k ks. map width_of ks) (λ k ks. kid_widths k.box k.width (map wide_of ks)) (λ k ks. map-map width_of view ks)
+      (λ k ks. ap (kid_widths (but_height k.box) k.width) (map-map wide_of view ks ∙ sym (map-map but_height_wide wide_of ks)) ∙ kid_widths-but k.box k.width (map wide_of ks))
+      (known_at (box_at m.boxes) m) (known_at box l) f
+      (λ h i j. record { box = named_alike same h i j; natural_width = get_or (naturals j) h 0; width = get_or (widths j) h 0; natural_height = 0; slot = nowhere })
 
--- Boxes with own heights that are fixed at these widths.
-module _ (box : ℕ → Box) (widths : List ℕ) (boxes : List (Option LayoutBox)) (f : Forest ℕ) (fixed : AreFixed box widths boxes f) where
-  widened-fixed : map_forest (widened_at (box_at boxes) widths) f ≡ map_forest fixed_widened (map_forest (widened_at box widths) f)
-  widened-fixed =
-      map-agree (widened_at (box_at boxes) widths) (λ h. fixed_widened (widened_at box widths h)) f (λ h there. ap (λ (b : Box). record { box = record b { handle = h }; width = get_or widths h 0 }) (fixed h there))
-      ∙ map-map fixed_widened (widened_at box widths) f
+  pub heights_fit : AreFixed box m.widths m.boxes f → m.widths ≡ l.widths → m.natural_heights ≡ l.natural_heights → EachKids NaturalHeightFits (told_trees m f) → EachKids NaturalHeightFits (known box l f)
+  heights_fit fixed widths heights =
+      let view : Known → Known = λ k. record k { box = fixed_at k.width k.box; natural_width = 0; slot = nowhere } in
+      fit-seen view (λ k ks. k.natural_height) (λ k ks. natural_height k.box k.width (map tall_of ks)) (λ k ks. refl)
+      (λ k ks. ap (natural_height (fixed_at k.width k.box) k.width) (map-map tall_of view ks ∙ sym (map-map fixed_tall tall_of ks)) ∙ natural_height-fixed k.box k.width (map tall_of ks))
+      (known_at (box_at m.boxes) m) (known_at box l) f
+      (λ h i.
+      let seen : (n : ℕ) (b : Box) (w : ℕ) → Known = λ n b w. record { box = fixed_at w (record b { handle = h }); natural_width = 0; width = w; natural_height = n; slot = nowhere } in
+      ap (λ (b : Box). seen (get_or m.natural_heights h 0) b (get_or m.widths h 0)) (fixed h i)
+      ∙ (λ j. seen (get_or (heights j) h 0) (box h) (get_or (widths j) h 0)))
 
-  -- have the same natural heights
-  pub same_heights : (table : List ℕ) → HoldsNaturalHeights (box_at boxes) widths table f → HoldsNaturalHeights box widths table f
-  same_heights table holds =
-      let rows : heights_of (box_at boxes) widths f ≡ map_forest fixed_tall (heights_of box widths f) =
-      ap with_natural_heights widened-fixed ∙ natural_heights_ask_at_widths (map_forest (widened_at box widths) f) in
-      let handle = λ (t : Tall). t.box.handle in
-      let height = λ (t : Tall). t.natural_height in
-      Holds-made fixed_tall handle height 0 table (heights_of box widths f) (subst (Holds handle height 0 table) rows holds)
-
-  -- and the same slots
-  module _ (naturals : List ℕ) where
-    talls-but : map_forest but_height_tall (talls (box_at boxes) widths naturals f) ≡ map_forest but_height_tall (talls box widths naturals f)
-    talls-but =
-        sym (map-map but_height_tall (tall_at (box_at boxes) widths naturals) f)
-        ∙ (map-agree (λ h. but_height_tall (tall_at (box_at boxes) widths naturals h)) (λ h. but_height_tall (tall_at box widths naturals h)) f
-        (λ h there. ap (λ (b : Box). record { box = record (but_height b) { handle = h }; width = get_or widths h 0; natural_height = get_or naturals h 0 }) (fixed h there))
-        ∙ map-map but_height_tall (tall_at box widths naturals) f)
-
-    pub same_slots : (slots table : List Slot) → HoldsSlots (box_at boxes) widths naturals slots table f → HoldsSlots box widths naturals slots table f
-    same_slots slots table holds =
-        let old = with_slots slots (talls (box_at boxes) widths naturals f) in
-        let new = with_slots slots (talls box widths naturals f) in
-        let rows : map_forest but_height_placed old ≡ map_forest but_height_placed new =
-        sym (slots_ask_none slots (talls (box_at boxes) widths naturals f)) ∙ (ap (with_slots slots) talls-but ∙ slots_ask_none slots (talls box widths naturals f)) in
-        let handle = λ (p : Placed). p.tall.box.handle in
-        let slot = λ (p : Placed). p.slot in
-        Holds-made but_height_placed handle slot nowhere table new (subst (Holds handle slot nowhere table) rows (Holds-mapped but_height_placed handle slot nowhere table old holds))
+  pub slots_fit : AreAlike → m.widths ≡ l.widths → m.natural_heights ≡ l.natural_heights → m.slots ≡ l.slots → EachKids SlotsFit (told_trees m f) → EachKids SlotsFit (known box l f)
+  slots_fit same widths heights slots =
+      let view : Known → Known = λ k. record k { box = but_height k.box; natural_width = 0 } in
+      fit-seen view (λ k ks. map slot_of ks) (λ k ks. kid_slots (tall_of k) k.slot (map tall_of ks)) (λ k ks. map-map slot_of view ks)
+      (λ k ks. ap (kid_slots (but_height_tall (tall_of k)) k.slot) (map-map tall_of view ks ∙ sym (map-map but_height_tall tall_of ks)) ∙ kid_slots-but (tall_of k) k.slot (map tall_of ks))
+      (known_at (box_at m.boxes) m) (known_at box l) f
+      (λ h i j. record { box = named_alike same h i j; natural_width = 0; width = get_or (widths j) h 0; natural_height = get_or (heights j) h 0; slot = get_or (slots j) h nowhere })
 
 -- One object's own height.
 pub fixed_is : (box : ℕ → Box) (boxes : List (Option LayoutBox)) (h width room n : ℕ) (own : LayoutBox) → box_of h own ≡ box_at boxes h → but_height (box_at boxes h) ≡ but_height (box h) → room ≡ inner (axis_of own.across) width → n ≡ (box h).own_height room →

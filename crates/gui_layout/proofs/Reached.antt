@@ -1,5 +1,5 @@
 -- How far children reach and are moved, found tree by tree with the slots.
-use Rattle.std.proofs.Common.{◌≡◌, ◌≢◌, ◌∙◌, refl, sym, ap, ℕ, ◌<◌, ◌-◌, min, inl, inr, true, false, eqb, ◌||◌, List, [], length, get_or, set, eq-eqb, arith}
+use Rattle.std.proofs.Common.{◌≡◌, ◌≢◌, ◌∙◌, refl, sym, ap, ℕ, ◌<◌, ◌-◌, min, inl, inr, true, false, eqb, ◌||◌, List, [], length, get_or, map, set, eq-eqb, arith}
 use Rattle.std.proofs.lemmas.List.{get_or-set_same, get_or-set_other, length-set}
 use Rattle.std.proofs.lemmas.Bool.{cases_Bool, or_parts, or_left, or_right, both_ways}
 use Rattle.gui_base.specs.Forest.{Forest, Empty, Tree, has, roots}
@@ -9,8 +9,12 @@ use Rattle.layout_defs.specs.Tables.{KeepsOthers}
 use Rattle.gui_layout.specs.Slots.{tall_at, talls, at_roots}
 use Rattle.gui_layout.specs.Scrolls.{Scrolled, HoldsScrolls, not_scrolled, scrolled_by, scrolled_in}
 use Rattle.gui_tree.proofs.Parts.{IsDistinct}
-use Rattle.gui_layout.proofs.Finds.{keeps_none, keeps_first, apart}
-use Rattle.gui_layout.proofs.Stands.{Stands, stands_none, stands_first, stands_top, stands_leaf}
+use Rattle.gui_layout.specs.Kids.{told_trees}
+use Rattle.gui_layout.specs.Settled.{Layout, EachKids, SlotsFit, slot_of, tall_of}
+use Rattle.gui_layout.specs.Views.{box_at}
+use Rattle.gui_layout.proofs.Keeps.{keeps_none, keeps_first, keeps_then, apart}
+use Rattle.gui_layout.proofs.Fitting.{tall_roots}
+use Rattle.gui_layout.proofs.Passes.{Pass, slots_pass, trees_by, Lowers, lowers_none, lowers_first, lowers_top, roots_read}
 
 none-out : (w h : ℕ) → ◌≡◌ {A = Span} (record { across = 0 - w; down = 0 - h }) no_span
 none-out w h =
@@ -58,46 +62,69 @@ module _ (box : ℕ → Box) (widths naturals : List ℕ) where
         reaches-kept s t r u rest (λ k i. stand k (or_right _ _ (or_right _ _ i))) (λ k i. stay k (or_right _ _ (or_right _ _ i))) holds.2,
       )
 
-  -- all of these trees get their slots and their reaches
-  pub record Reached (old new : List Slot) (was now : List Scrolled) (f : Forest ℕ) : Type 0 where
-    pub stands : Stands box widths naturals old new f
-    pub found : HoldsScrolls box widths naturals new now f
-    pub others : KeepsOthers not_scrolled was now f
+module _ (l : Layout) where
+  abbrev box : ℕ → Box
+  box = box_at l.boxes
 
-  pub reached_none : (t : List Slot) (r : List Scrolled) → Reached t t r r Empty
-  reached_none t r = record { stands = stands_none box widths naturals t; found = tt; others = keeps_none not_scrolled r }
+  abbrev p : Pass Slot
+  p = slots_pass l
 
-  pub reached_leaf : (t : List Slot) (r : List Scrolled) (h : ℕ) → h < length r → Reached t t r (set r h not_scrolled) (Tree h Empty Empty)
-  reached_leaf t r h short = record {
-    stands = stands_leaf box widths naturals t h;
-    found = (get_or-set_same r h not_scrolled not_scrolled short ∙ sym (scrolled-none (tall_at box widths naturals h) (get_or t h nowhere)), tt, tt);
+  abbrev Told : List Slot → List Scrolled → Forest ℕ → Type 0
+  Told slots scrolls f = HoldsScrolls box l.widths l.natural_heights slots scrolls f
+
+  -- the tree of an object gets its slots and its reaches
+  pub record Reaches (old new : List Slot) (was now : List Scrolled) (h : ℕ) (cs : Forest ℕ) : Type 0 where
+    pub found : EachKids SlotsFit (trees_by p new (Tree h cs Empty))
+    pub below : KeepsOthers nowhere old new cs
+    pub scrolled : Told new now (Tree h cs Empty)
+    pub others : KeepsOthers not_scrolled was now (Tree h cs Empty)
+
+  pub reaches_leaf : (t : List Slot) (r : List Scrolled) (h : ℕ) → h < length r → Reaches t t r (set r h not_scrolled) h Empty
+  reaches_leaf t r h short = record {
+    found = (refl, tt, tt);
+    below = keeps_none nowhere t;
+    scrolled = (get_or-set_same r h not_scrolled not_scrolled short ∙ sym (scrolled-none (tall_at box l.widths l.natural_heights h) (get_or t h nowhere)), tt, tt);
     others = keeps_under not_scrolled r (set r h not_scrolled) h not_scrolled Empty (keeps_none not_scrolled (set r h not_scrolled));
   }
 
-  pub reached_first : (a b c : List Slot) (r s u : List Scrolled) (h : ℕ) (cs rest : Forest ℕ) → IsDistinct (Tree h cs rest) →
-      Reached a b r s (Tree h cs Empty) → Reached b c s u rest → Reached a c r u (Tree h cs rest)
+  -- all of these trees get theirs, but for the slots of the roots
+  pub record Reached (old new : List Slot) (was now : List Scrolled) (f : Forest ℕ) : Type 0 where
+    pub stands : Lowers p old new f
+    pub scrolled : Told new now f
+    pub others : KeepsOthers not_scrolled was now f
+
+  pub reached_none : (t : List Slot) (r : List Scrolled) → Reached t t r r Empty
+  reached_none t r = record { stands = lowers_none p t; scrolled = tt; others = keeps_none not_scrolled r }
+
+  pub reached_first : (a b c : List Slot) (r s u : List Scrolled) (h : ℕ) (cs rest : Forest ℕ) → IsDistinct (Tree h cs rest) → Reaches a b r s h cs → Reached b c s u rest → Reached a c r u (Tree h cs rest)
   reached_first a b c r s u h cs rest distinct first later =
-      let same = reaches-kept b c s u (Tree h cs Empty) (apart nowhere b c h cs rest distinct later.stands.others) (apart not_scrolled s u h cs rest distinct later.others) first.found in
+      let same = reaches-kept box l.widths l.natural_heights b c s u (Tree h cs Empty) (apart nowhere b c h cs rest distinct later.stands.finds.others) (apart not_scrolled s u h cs rest distinct later.others) first.scrolled in
       record {
-        stands = stands_first box widths naturals a b c h cs rest distinct first.stands later.stands;
-        found = (same.0, same.1, later.found);
+        stands = lowers_first p a b c h cs rest distinct first.found first.below later.stands;
+        scrolled = (same.0, same.1, later.scrolled);
         others = keeps_first not_scrolled r s u h cs rest first.others later.others;
       }
 
   -- an object whose children have their slots, and whose reach is set
-  pub reached_top : (a b c : List Slot) (r u : List Scrolled) (h : ℕ) (reach : Scrolled) (cs : Forest ℕ) → has cs h ≡ false → h < length r →
-      at_roots b cs ≡ kid_slots (tall_at box widths naturals h) (get_or a h nowhere) (roots (talls box widths naturals cs)) →
-      reach ≡ scrolled_in (tall_at box widths naturals h) (get_or a h nowhere) (roots (talls box widths naturals cs)) →
-      KeepsOthers nowhere a b cs → Reached b c (set r h reach) u cs → Reached a c r u (Tree h cs Empty)
-  reached_top a b c r u h reach cs out short kids is set_kids lower =
-      let stays : get_or c h nowhere ≡ get_or a h nowhere = lower.stands.others.others h out ∙ set_kids.others h out in
+  pub reached_top : (a b c : List Slot) (r u : List Scrolled) (h : ℕ) (cs : Forest ℕ) → has cs h ≡ false → h < length r →
+      at_roots b cs ≡ kid_slots (tall_at box l.widths l.natural_heights h) (get_or a h nowhere) (map tall_of (roots (told_trees l cs))) →
+      KeepsOthers nowhere a b cs → Reached b c (set r h (scrolled_in (tall_at box l.widths l.natural_heights h) (get_or a h nowhere) (map tall_of (roots (told_trees l cs))))) u cs → Reaches a c r u h cs
+  reached_top a b c r u h cs out short kids set_kids lower =
+      let tall = tall_at box l.widths l.natural_heights h in
+      let below = map tall_of (roots (told_trees l cs)) in
+      let reach = scrolled_in tall (get_or a h nowhere) below in
+      let set_own : get_or b h nowhere ≡ get_or a h nowhere = set_kids.others h out in
+      let stays : get_or c h nowhere ≡ get_or a h nowhere = lower.stands.finds.others.others h out ∙ set_own in
+      let fits : SlotsFit (p.by b h) (roots (trees_by p b cs)) =
+      roots_read slot_of (p.by b) cs
+      ∙ (kids ∙ (ap (λ (slot : Slot). kid_slots tall slot below) (sym set_own) ∙ ap (kid_slots tall (get_or b h nowhere)) (roots_read tall_of (p.by l.slots) cs ∙ sym (roots_read tall_of (p.by b) cs)))) in
       record {
-        stands = stands_top box widths naturals a b c h cs out kids set_kids lower.stands;
-        found = (
+        found = lowers_top p b c h cs out fits lower.stands;
+        below = keeps_then nowhere a b c cs set_kids lower.stands.finds.others;
+        scrolled = (
           lower.others.others h out
-              ∙ (get_or-set_same r h reach not_scrolled short
-              ∙ (is ∙ ap (λ (slot : Slot). scrolled_in (tall_at box widths naturals h) slot (roots (talls box widths naturals cs))) (sym stays))),
-          lower.found,
+              ∙ (get_or-set_same r h reach not_scrolled short ∙ (ap (λ (slot : Slot). scrolled_in tall slot below) (sym stays) ∙ ap (scrolled_in tall (get_or c h nowhere)) (sym (tall_roots box l cs)))),
+          lower.scrolled,
           tt,
         );
         others = keeps_under not_scrolled r u h reach cs lower.others;

@@ -1,5 +1,5 @@
 -- How far children are scrolled, once all marks are settled.
-use Rattle.std.proofs.Common.{◌≡◌, ◌∙◌, ◌<◌, refl, sym, ap, subst, ℕ, Bool, true, false, eqb, eq-eqb, ◌⊎◌, inl, inr, Some, List, ◌∷◌, map}
+use Rattle.std.proofs.Common.{◌≡◌, ◌∙◌, ◌<◌, refl, sym, ap, subst, ℕ, Bool, true, false, eqb, eq-eqb, ◌⊎◌, inl, inr, Some, List, map}
 use Rattle.std.proofs.lemmas.Bool.{cases_Bool, both_ways, eqb-true, false_from_ne_true, or_left, or_right, or_parts, false≢true}
 use Rattle.gui_base.specs.Forest.{Forest, Empty, Tree, StandsOnce, children_of, has, map_forest, parent_of, roots}
 use Rattle.gui_base.specs.declared.Handle.{Handle}
@@ -10,6 +10,7 @@ use Rattle.layout_defs.proofs.Scrolling.{still_stands_flat}
 use Rattle.scene_defs.specs.Scene.{Scene, handles_of}
 use Rattle.gui_layout.specs.declared.places.Places.{Places}
 use Rattle.gui_layout.specs.Around.{IsFlat, ReadsReaches}
+use Rattle.gui_layout.specs.Kids.{tall_kids}
 use Rattle.gui_layout.specs.Listing.{times}
 use Rattle.gui_layout.specs.Marked.{AllFitBut, is_any_root, is_root}
 use Rattle.gui_layout.specs.Raised.{Rests}
@@ -20,13 +21,14 @@ use Rattle.gui_layout.specs.Scrolls.{Scrolled, scrolled_at}
 use Rattle.gui_layout.specs.Settled.{Fits, Known, Layout, known_at, slot_of, tall_of}
 use Rattle.gui_layout.specs.SettledBut.{AreLooked, AreRightBut, AreRightButChanged, AreScrolledBut, nobody}
 use Rattle.gui_layout.specs.Settles.{known_in}
-use Rattle.gui_layout.specs.Slots.{at_roots, slot_at, talls, tall_at}
+use Rattle.gui_layout.specs.Slots.{at_roots, slot_at, tall_at}
 use Rattle.gui_layout.specs.Solved.{layout_of}
 use Rattle.gui_layout.specs.Tops.{ScrollsAt, in_trees_at, is_over}
 use Rattle.gui_layout.specs.Views.{box_at}
 use Rattle.gui_layout.proofs.Alike.{inside-alike}
 use Rattle.gui_layout.proofs.Fitting.{tall_roots}
 use Rattle.gui_layout.proofs.Marking.{left-fits, steady-is}
+use Rattle.gui_layout.proofs.Passes.{roots_read}
 use Rattle.gui_layout.proofs.Overs.{kid-over, over-is, root-in, scrolled-same}
 use Rattle.gui_tree.proofs.Parts.{distinct_once}
 
@@ -75,10 +77,6 @@ module _ (box : ℕ → Box) (l : Layout) (f : Forest ℕ) (k : ℕ) where
   abbrev kids : List Known
   kids = roots (map_forest (known_at box l) cs)
 
-  slot-roots : (g : Forest ℕ) → at_roots l.slots g ≡ map slot_of (roots (map_forest (known_at box l) g))
-  slot-roots Empty = refl
-  slot-roots (Tree h ds rest) = ap (λ (ss : List Slot). slot_at l.slots h ∷ ss) (slot-roots rest)
-
   flat-told : IsFlat f l k → but_height (box_at l.boxes k) ≡ but_height (box k) → ((j : ℕ) → is_root j cs ≡ true → but_height (box_at l.boxes j) ≡ but_height (box j)) →
       Fits (known_at box l k) kids → IsScrolledIn (known_at box l) l.scrolls f k
   flat-told flat same all fits =
@@ -86,10 +84,11 @@ module _ (box : ℕ → Box) (l : Layout) (f : Forest ℕ) (k : ℕ) where
       let slot = slot_at l.slots k in
       let room = room_of tall slot in
       let still : (box k).scrollable ≡ false = sym (ap (λ (b : Box). b.scrollable) same) ∙ flat.still in
-      let stand : at_roots l.slots cs ≡ flat_slots tall slot (map tall_of kids) = slot-roots cs ∙ (fits.slots ∙ still_stands_flat tall slot (map tall_of kids) still) in
-      let reaches : reach_in (room_of (tall_at (box_at l.boxes) l.widths l.natural_heights k) slot) (roots (talls (box_at l.boxes) l.widths l.natural_heights cs)) (at_roots l.slots cs) ≡ kid_reach tall slot (map tall_of kids) =
-      inside-alike (box_at l.boxes) box l.widths l.natural_heights k slot cs (at_roots l.slots cs) same all
-      ∙ (ap (λ (ts : List Tall). reach_in room ts (at_roots l.slots cs)) (tall_roots box l cs) ∙ ap (λ (ss : List Slot). reach_in room (map tall_of kids) ss) stand) in
+      let stand : at_roots l.slots cs ≡ flat_slots tall slot (map tall_of kids) = sym (roots_read slot_of (known_at box l) cs) ∙ (fits.slots ∙ still_stands_flat tall slot (map tall_of kids) still) in
+      let reaches : reach_in (room_of (tall_at (box_at l.boxes) l.widths l.natural_heights k) slot) (tall_kids l f k) (at_roots l.slots cs) ≡ kid_reach tall slot (map tall_of kids) =
+      ap (λ (ts : List Tall). reach_in (room_of (tall_at (box_at l.boxes) l.widths l.natural_heights k) slot) ts (at_roots l.slots cs)) (sym (tall_roots (box_at l.boxes) l cs))
+      ∙ (inside-alike (box_at l.boxes) box l.widths l.natural_heights k slot cs (at_roots l.slots cs) same all
+      ∙ (ap (λ (ts : List Tall). reach_in room ts (at_roots l.slots cs)) (tall_roots box l cs) ∙ ap (λ (ss : List Slot). reach_in room (map tall_of kids) ss) stand)) in
       flat.read
       ∙ (ap (λ (r : Span). both r no_span) reaches ∙ ap (both (kid_reach tall slot (map tall_of kids))) (sym (offset-still tall.box (kid_reach tall slot (map tall_of kids)) still)))
 

@@ -12,7 +12,7 @@ use Rattle.gui_layout.specs.Scrolls.{HoldsScrolls, not_scrolled, scrolled_at, sc
 use Rattle.gui_layout.proofs.Fitting.{tall_roots}
 use Rattle.gui_layout.specs.Settled.{Layout, Known, tall_of, known_at, known, IsSettled}
 use Rattle.gui_tree.proofs.Parts.{IsDistinct}
-use Rattle.gui_layout.proofs.Finds.{keeps_none, keeps_first, elsewhere, widths-handles}
+use Rattle.gui_layout.proofs.Keeps.{keeps_none, keeps_first, elsewhere}
 
 abbrev wide_handle : Wide → ℕ
 wide_handle w = w.box.handle
@@ -25,6 +25,11 @@ tall_handle t = t.box.handle
 
 abbrev pub placed_handle : Placed → ℕ
 placed_handle p = p.tall.box.handle
+
+-- a forest's handles are those of its boxes
+pub widths-handles : (box : ℕ → Box) (f : Forest ℕ) → map_forest wide_handle (widths_of box f) ≡ f
+widths-handles box Empty = refl
+widths-handles box (Tree h cs rest) = rw (widths-handles box cs, widths-handles box rest) refl
 
 -- each pass keeps the handles
 handles_widened : (ws : List ℕ) (f : Forest Wide) → map_forest widened_handle (with_widths ws f) ≡ map_forest wide_handle f

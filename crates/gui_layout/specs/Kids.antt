@@ -1,41 +1,35 @@
 -- The children of an object, as the passes see them.
-use Rattle.std.specs.Prelude.{ℕ, List}
+use Rattle.std.specs.Prelude.{◌≡◌, ℕ, List, map}
+use Rattle.std.specs.List.{All}
 use Rattle.gui_base.specs.Forest.{Forest, roots, children_of}
-use Rattle.layout_defs.specs.Solving.{Wide, Tall, no_span, reach_in, room_of}
-use Rattle.gui_layout.specs.declared.layout_box.LayoutBox.{LayoutBox}
-use Rattle.gui_layout.specs.Found.{HoldsNaturalWidths, widths_of}
+use Rattle.layout_defs.specs.Solving.{Wide, Tall, Slot, Room, tall_box, dealt, own_slot, nowhere, no_span, reach_in, room_of}
+use Rattle.layout_defs.specs.Tables.{KeepsOthers}
 use Rattle.gui_layout.specs.Scrolls.{Scrolled}
-use Rattle.gui_layout.specs.Slots.{at_roots, slot_at, tall_at, talls}
-use Rattle.gui_layout.specs.Settled.{Layout}
-use Rattle.gui_layout.specs.Talls.{HoldsNaturalHeights, heights_of}
-use Rattle.gui_layout.specs.Views.{box_of, box_at}
+use Rattle.gui_layout.specs.Slots.{IsClose, at_roots, slot_at, tall_at}
+use Rattle.gui_layout.specs.Settled.{Layout, Known, known, wide_of, tall_of}
+use Rattle.gui_layout.specs.Views.{box_at}
 
--- a child as it is read
-abbrev pub wide_kid : ℕ → LayoutBox → ℕ → Wide
-wide_kid h kid natural = record { box = box_of h kid; natural = natural }
+-- what is told of the objects of these trees
+abbrev pub told_trees : Layout → Forest ℕ → Forest Known
+told_trees l f = known (box_at l.boxes) l f
 
-abbrev pub tall_kid : ℕ → LayoutBox → ℕ → ℕ → Tall
-tall_kid h kid width natural = record { box = box_of h kid; width = width; natural_height = natural }
+-- and of the children of h
+abbrev pub told_kids : Layout → Forest ℕ → ℕ → List Known
+told_kids l f h = roots (told_trees l (children_of f h))
 
--- the children of h with their natural widths
+-- those with their natural widths
 abbrev pub wide_kids : Layout → Forest ℕ → ℕ → List Wide
-wide_kids l f h = roots (widths_of (box_at l.boxes) (children_of f h))
-
--- those with their widths, and the natural heights that follow
-abbrev pub high_kids : Layout → Forest ℕ → ℕ → List Tall
-high_kids l f h = roots (heights_of (box_at l.boxes) l.widths (children_of f h))
+wide_kids l f h = map wide_of (told_kids l f h)
 
 -- those with their widths and natural heights
 abbrev pub tall_kids : Layout → Forest ℕ → ℕ → List Tall
-tall_kids l f h = roots (talls (box_at l.boxes) l.widths l.natural_heights (children_of f h))
+tall_kids l f h = map tall_of (told_kids l f h)
 
--- the natural width of each object below h is told
-abbrev pub BelowHaveWidths : Layout → Forest ℕ → ℕ → Type 0
-BelowHaveWidths l f h = HoldsNaturalWidths (box_at l.boxes) l.natural_widths (children_of f h)
-
--- the natural height of each object below h is told
-abbrev pub BelowHaveHeights : Layout → Forest ℕ → ℕ → Type 0
-BelowHaveHeights l f h = HoldsNaturalHeights (box_at l.boxes) l.widths l.natural_heights (children_of f h)
+-- the slots of the roots of these trees are dealt, and nothing else changes but what lies below them
+pub record Deals (l : Layout) (room : Room) (old new : List Slot) (f : Forest ℕ) (flow : List Slot) : Type 0 where
+  pub dealt : at_roots new f ≡ dealt tall_box (own_slot room) (map tall_of (roots (told_trees l f))) flow
+  pub others : KeepsOthers nowhere old new f
+  pub close : All (IsClose room.x room.y) (at_roots new f)
 
 -- how far the children of h reach out of its content area from where they stand, where it moves none
 abbrev pub flat_scrolled : Layout → Forest ℕ → ℕ → Scrolled

@@ -6,7 +6,6 @@ pub mod Painted
 pub mod Reaches
 pub mod Slots
 pub mod Scrolls
-pub mod Talls
 pub mod Tables
 pub mod Listing
 pub mod Scenes

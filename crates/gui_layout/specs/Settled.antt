@@ -32,12 +32,30 @@ width_of k = k.width
 abbrev pub slot_of : Known → Slot
 slot_of k = k.slot
 
+-- its natural width is the one that follows from its children, and so on
+abbrev pub NaturalWidthFits : Known → List Known → Type 0
+NaturalWidthFits k kids = k.natural_width ≡ natural_width k.box (map wide_of kids)
+
+abbrev pub WidthsFit : Known → List Known → Type 0
+WidthsFit k kids = map width_of kids ≡ kid_widths k.box k.width (map wide_of kids)
+
+abbrev pub NaturalHeightFits : Known → List Known → Type 0
+NaturalHeightFits k kids = k.natural_height ≡ natural_height k.box k.width (map tall_of kids)
+
+abbrev pub SlotsFit : Known → List Known → Type 0
+SlotsFit k kids = map slot_of kids ≡ kid_slots (tall_of k) k.slot (map tall_of kids)
+
 -- its natural sizes are those that follow from its children, and theirs follow from it
 pub record Fits (k : Known) (kids : List Known) : Type 0 where
-  pub natural_width : k.natural_width ≡ natural_width k.box (map wide_of kids)
-  pub widths : map width_of kids ≡ kid_widths k.box k.width (map wide_of kids)
-  pub natural_height : k.natural_height ≡ natural_height k.box k.width (map tall_of kids)
-  pub slots : map slot_of kids ≡ kid_slots (tall_of k) k.slot (map tall_of kids)
+  pub natural_width : NaturalWidthFits k kids
+  pub widths : WidthsFit k kids
+  pub natural_height : NaturalHeightFits k kids
+  pub slots : SlotsFit k kids
+
+-- of each object of these trees, with its children
+abbrev pub EachKids : (Known → List Known → Type 0) → Forest Known → Type 0
+EachKids P Empty = Unit {0}
+EachKids P (Tree k cs rest) = P k (roots cs) × EachKids P cs × EachKids P rest
 
 -- so do those of all objects of these trees
 abbrev pub AllFit : Forest Known → Type 0

@@ -1,15 +1,14 @@
 -- Children as items of a flow.
-use Rattle.std.specs.Prelude.{ℕ, List}
-use Rattle.gui_base.specs.Forest.{Forest, roots, children_of}
+use Rattle.std.specs.Prelude.{ℕ}
 use Rattle.layout_defs.specs.Boxes.{Box}
 use Rattle.layout_defs.specs.Flex.{Item}
 use Rattle.layout_defs.specs.Solving.{width_item, height_item}
 use Rattle.gui_layout.specs.declared.entry.Entry.{Entry}
 use Rattle.gui_layout.specs.declared.sizing.Sizing.{Sizing}
 use Rattle.gui_layout.specs.declared.sizing.Sizing.TheVariants.{Widths, Naturals, Sizes}
-use Rattle.gui_layout.specs.Settled.{Known, Layout, known, wide_of, tall_of}
+use Rattle.gui_layout.specs.Settled.{Known, wide_of, tall_of}
 use Rattle.gui_layout.specs.Slots.{flow_item, slot_of}
-use Rattle.gui_layout.specs.Views.{box_of, box_at}
+use Rattle.gui_layout.specs.Views.{box_of}
 
 -- a child by its entry
 abbrev pub kid_by : ℕ → Entry → Known
@@ -29,7 +28,3 @@ abbrev pub sized : Sizing → Known → Item
 sized (Widths room) k = width_item room (wide_of k)
 sized Naturals k = height_item (tall_of k)
 sized (Sizes course room) k = flow_item course room (tall_of k)
-
--- the children of h, as they are told
-abbrev pub told_kids : Layout → Forest ℕ → ℕ → List Known
-told_kids l f h = roots (known (box_at l.boxes) l (children_of f h))

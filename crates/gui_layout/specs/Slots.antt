@@ -1,15 +1,14 @@
 -- Slots of children, from the tables and from items.
-use Rattle.std.specs.Prelude.{◌≡◌, ℕ, ◌*◌, ℤ, pos, ◌≤ℤ◌, ◌+ℤ◌, ◌-ℤ◌, List, [], map, slice_index}
+use Rattle.std.specs.Prelude.{ℕ, ◌*◌, ℤ, pos, ◌≤ℤ◌, ◌+ℤ◌, ◌-ℤ◌, List, [], map, slice_index}
 use Rattle.std.specs.Prelude.{slice_index_or}
-use Rattle.std.specs.List.{All}
 use Rattle.gui_base.specs.Forest.{Forest, roots, map_forest}
 use Rattle.layout_defs.specs.declared.Course.{Course}
 use Rattle.layout_defs.specs.declared.Course.TheVariants.{Free, Across, Down}
 use Rattle.layout_defs.specs.Flex.{Item, shared, spots}
 use Rattle.layout_defs.specs.Boxes.{Box, wraps}
-use Rattle.layout_defs.specs.Solving.{Tall, Slot, Room, Placed, tall_box, own_slot, dealt, paired, height_in}
-use Rattle.layout_defs.specs.Solving.{row_slot, column_slot, nowhere, with_slots}
-use Rattle.layout_defs.specs.Tables.{Holds, KeepsOthers}
+use Rattle.layout_defs.specs.Solving.{Tall, Slot, Room, Placed, paired, height_in}
+use Rattle.layout_defs.specs.Solving.{row_slot, column_slot, nowhere}
+use Rattle.layout_defs.specs.Tables.{Holds}
 use Rattle.gui_flex.specs.declared.item.FlexItem.{FlexItem}
 use Rattle.gui_flex.specs.Items.{item_of, spot_of}
 use Rattle.gui_layout.specs.declared.position.Position.{Position}
@@ -59,12 +58,6 @@ arranged Down box room items =
     let at = spots box.places (wraps box.flow) room.height room.width box.down.gap box.across.gap all in
     paired (column_slot room) all at
 
--- a table has the slot of each object of these trees, whose roots have these slots
-abbrev pub HoldsSlots : (ℕ → Box) → List ℕ → List ℕ → List Slot → List Slot → Forest ℕ → Type 0
-HoldsSlots box widths naturals slots table f =
-    Holds (λ (p : Placed). p.tall.box.handle) (λ (p : Placed). p.slot) nowhere table
-    (with_slots slots (talls box widths naturals f))
-
 -- a slot is no further from a content area's corner than a child may stand
 pub record IsClose (x y : ℤ) (slot : Slot) : Type 0 where
   pub left : (x -ℤ pos 50000000) ≤ℤ slot.x
@@ -82,13 +75,6 @@ pub record HasRoom (slot : Slot) (levels : ℕ) : Type 0 where
 -- the entries at the roots
 abbrev pub at_roots : List Slot → Forest ℕ → List Slot
 at_roots table f = map (λ h. slice_index_or table h nowhere) (roots f)
-
--- the slots of the roots of these trees are dealt, and nothing else changes but what lies below them
-pub record Deals (box : ℕ → Box) (widths naturals : List ℕ) (room : Room) (old new : List Slot) (f : Forest ℕ)
-    (flow : List Slot) : Type 0 where
-  pub dealt : at_roots new f ≡ dealt tall_box (own_slot room) (roots (talls box widths naturals f)) flow
-  pub others : KeepsOthers nowhere old new f
-  pub close : All (IsClose room.x room.y) (at_roots new f)
 
 abbrev pub slot_at : List Slot → ℕ → Slot
 slot_at table h = slice_index_or table h nowhere

@@ -9,10 +9,10 @@ ghost use Rattle.layout_defs.specs.Solving.{tall_box, taking_part, in_order, kid
 ghost use Rattle.layout_defs.specs.Solving.{natural_height};
 ghost use Rattle.layout_defs.specs.Tables.{KeepsOthers};
 ghost use Rattle.gui_flex.specs.Items.{items_of};
-ghost use Rattle.gui_layout.specs.Kids.{high_kids, BelowHaveHeights};
+ghost use Rattle.gui_layout.specs.Kids.{tall_kids, told_trees};
 ghost use Rattle.gui_layout.specs.Views.{axis_of, box_of, box_at};
 ghost use Rattle.gui_layout.specs.Rows.{row_of, run_down, down_kid, sum_of};
-ghost use Rattle.gui_layout.specs.Talls.{HoldsNaturalHeights};
+ghost use Rattle.gui_layout.specs.Settled.{EachKids, NaturalHeightFits};
 ghost use Rattle.gui_layout.specs.Layouts.{ButNaturalHeights};
 ghost use Rattle.gui_layout.specs.Tables.{told, listing_of, AreListed, IsEntry};
 
@@ -56,12 +56,11 @@ fn row_height(
     own: &Entry,
 ) -> u32
     requires few { size tree.now.forest ≤ 4000 }
-    requires found { BelowHaveHeights (told entries.now) tree.now.forest h.0 }
     requires enough { size tree.now.forest ≤ length items.old }
     requires listed { AreListed (listing_of entries.now) (tree_at tree.now.forest h.0) }
     ensures value { result ≡ kids_height Across (box_of h.0 own.now.wanted)
         (inner (axis_of own.now.wanted.across) own.now.width.pixels)
-        (taking_part tall_box (high_kids (told entries.now) tree.now.forest h.0)) }
+        (taking_part tall_box (tall_kids (told entries.now) tree.now.forest h.0)) }
     ensures small { result ≤ 500000000 }
 {
     let count = fill_items(tree, entries, items, h, Sizing::Naturals);
@@ -85,14 +84,13 @@ fn kids_height(
     row: Row,
 ) -> u32
     requires few { size tree.now.forest ≤ 4000 }
-    requires found { BelowHaveHeights (told entries.now) tree.now.forest h.0 }
     requires enough { size tree.now.forest ≤ length items.old }
     requires row { row_of row ≡ sum_of down_kid (run_down (course_of own.now.wanted.flow))
-        (high_kids (told entries.now) tree.now.forest h.0) }
+        (tall_kids (told entries.now) tree.now.forest h.0) }
     requires listed { AreListed (listing_of entries.now) (tree_at tree.now.forest h.0) }
     ensures value { result ≡ kids_height (course_of own.now.wanted.flow) (box_of h.0 own.now.wanted)
         (inner (axis_of own.now.wanted.across) own.now.width.pixels)
-        (taking_part tall_box (high_kids (told entries.now) tree.now.forest h.0)) }
+        (taking_part tall_box (tall_kids (told entries.now) tree.now.forest h.0)) }
     ensures small { result ≤ 500000000 }
 {
     if row.count == 0 {
@@ -116,35 +114,31 @@ fn natural_height(
     row: Row,
 ) -> u16
     requires few { size tree.now.forest ≤ 4000 }
-    requires found { BelowHaveHeights (told entries.now) tree.now.forest h.0 }
     requires enough { size tree.now.forest ≤ length items.old }
     requires own { IsEntry (told entries.now) h.0 own.now }
     requires row { row_of row ≡ sum_of down_kid (run_down (course_of own.now.wanted.flow))
-        (high_kids (told entries.now) tree.now.forest h.0) }
+        (tall_kids (told entries.now) tree.now.forest h.0) }
     requires listed { AreListed (listing_of entries.now) (tree_at tree.now.forest h.0) }
     ensures value { result ≡ natural_height (box_at (told entries.now).boxes h.0)
-        (slice_index (told entries.now).widths h.0) (high_kids (told entries.now) tree.now.forest h.0) }
+        (slice_index (told entries.now).widths h.0) (tall_kids (told entries.now) tree.now.forest h.0) }
     ensures small { result ≤ 8191 }
 {
     let kids = kids_height(tree, entries, items, h, own, row);
     natural_size(&own.wanted.down, own.wanted.own_height.max(kids))
 }
 
-/// Finds the natural heights of an object and of all below it, children first. It answers that of the object.
+/// Finds the natural heights of an object and of all below it, children first.
 pub(crate) fn find_natural_heights(
     tree: &Tree,
     entries: &mut Table<Entry>,
     items: &mut [FlexItem],
     h: Handle,
-) -> u16
+)
     requires listed { AreListed (listing_of entries.old) (tree_at tree.now.forest h.0) }
     requires few { size tree.now.forest ≤ 4000 }
     requires there { has tree.now.forest h.0 ≡ true }
     requires enough { size tree.now.forest ≤ length items.old }
-    ensures value { result ≡ natural_height (box_at (told entries.old).boxes h.0)
-        (slice_index (told entries.old).widths h.0) (high_kids (told entries.old) tree.now.forest h.0) }
-    ensures found { HoldsNaturalHeights (box_at (told entries.old).boxes) (told entries.old).widths
-        (told entries.new).natural_heights (tree_at tree.now.forest h.0) }
+    ensures found { EachKids NaturalHeightFits (told_trees (told entries.new) (tree_at tree.now.forest h.0)) }
     ensures others { KeepsOthers 0 (told entries.old).natural_heights (told entries.new).natural_heights
         (tree_at tree.now.forest h.0) }
     ensures rest { ButNaturalHeights (told entries.old) (told entries.new) }
@@ -153,12 +147,17 @@ pub(crate) fn find_natural_heights(
     let run = run_down(course_of(entry_of(entries, h).wanted.flow));
     let mut row = no_kids();
     for child in tree.children(h) {
-        let natural = find_natural_heights(tree, entries, items, child);
+        find_natural_heights(tree, entries, items, child);
         let kid = entry_of(entries, child);
-        row = with_kid(row, run, &kid.wanted, &kid.wanted.down, natural);
+        row = with_kid(
+            row,
+            run,
+            &kid.wanted,
+            &kid.wanted.down,
+            kid.natural_height.pixels,
+        );
     }
     let own = entry_of(entries, h);
     let natural = natural_height(tree, entries, items, h, own, row);
     set_natural_height(entries, h, natural);
-    natural
 }

@@ -4,7 +4,8 @@ ghost use Rattle.gui_base.specs.Forest.{size, tree_at};
 ghost use Rattle.layout_defs.specs.Solving.{taking_part, in_order};
 ghost use Rattle.gui_flex.specs.Items.{items_of, item_of};
 ghost use Rattle.gui_layout.specs.Slots.{item_in};
-ghost use Rattle.gui_layout.specs.Sizings.{kid_by, known_box, sized, told_kids};
+ghost use Rattle.gui_layout.specs.Kids.{told_kids};
+ghost use Rattle.gui_layout.specs.Sizings.{kid_by, known_box, sized};
 ghost use Rattle.gui_layout.specs.Tables.{told, listing_of, AreListed};
 
 use crate::along::size_in;

@@ -4,10 +4,10 @@ ghost use Rattle.gui_base.specs.Forest.{has, size, tree_at};
 ghost use Rattle.layout_defs.specs.Boxes.{course_of};
 ghost use Rattle.layout_defs.specs.Solving.{Wide, natural_width};
 ghost use Rattle.layout_defs.specs.Tables.{KeepsOthers};
-ghost use Rattle.gui_layout.specs.Kids.{wide_kids};
-ghost use Rattle.gui_layout.specs.Views.{box_of, box_at};
+ghost use Rattle.gui_layout.specs.Kids.{told_trees};
+ghost use Rattle.gui_layout.specs.Views.{box_of};
 ghost use Rattle.gui_layout.specs.Rows.{row_of, run_across, across_kid, sum_of};
-ghost use Rattle.gui_layout.specs.Found.{HoldsNaturalWidths};
+ghost use Rattle.gui_layout.specs.Settled.{EachKids, NaturalWidthFits};
 ghost use Rattle.gui_layout.specs.Layouts.{ButNaturalWidths};
 ghost use Rattle.gui_layout.specs.Tables.{told, listing_of, AreListed};
 
@@ -32,15 +32,12 @@ fn natural_width(own: &LayoutBox, row: Row) -> u16
     natural_size(&own.across, own.own_width.max(kids))
 }
 
-/// Finds the natural widths of an object and of all below it, children first. It answers that of the object.
-pub(crate) fn find_natural_widths(tree: &Tree, entries: &mut Table<Entry>, h: Handle) -> u16
+/// Finds the natural widths of an object and of all below it, children first.
+pub(crate) fn find_natural_widths(tree: &Tree, entries: &mut Table<Entry>, h: Handle)
     requires listed { AreListed (listing_of entries.old) (tree_at tree.now.forest h.0) }
     requires few { size tree.now.forest ≤ 4000 }
     requires there { has tree.now.forest h.0 ≡ true }
-    ensures value { result ≡ natural_width (box_at (told entries.old).boxes h.0)
-        (wide_kids (told entries.old) tree.now.forest h.0) }
-    ensures found { HoldsNaturalWidths (box_at (told entries.old).boxes) (told entries.new).natural_widths
-        (tree_at tree.now.forest h.0) }
+    ensures found { EachKids NaturalWidthFits (told_trees (told entries.new) (tree_at tree.now.forest h.0)) }
     ensures others { KeepsOthers 0 (told entries.old).natural_widths (told entries.new).natural_widths
         (tree_at tree.now.forest h.0) }
     ensures rest { ButNaturalWidths (told entries.old) (told entries.new) }
@@ -49,12 +46,17 @@ pub(crate) fn find_natural_widths(tree: &Tree, entries: &mut Table<Entry>, h: Ha
     let run = run_across(course_of(entry_of(entries, h).wanted.flow));
     let mut row = no_kids();
     for child in tree.children(h) {
-        let natural = find_natural_widths(tree, entries, child);
+        find_natural_widths(tree, entries, child);
         let kid = entry_of(entries, child);
-        row = with_kid(row, run, &kid.wanted, &kid.wanted.across, natural);
+        row = with_kid(
+            row,
+            run,
+            &kid.wanted,
+            &kid.wanted.across,
+            kid.natural_width.pixels,
+        );
     }
     let own = entry_of(entries, h);
     let natural = natural_width(&own.wanted, row);
     set_natural_width(entries, h, natural);
-    natural
 }

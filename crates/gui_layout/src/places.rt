@@ -81,7 +81,6 @@ const HANDLES: u32 = HANDLE.high as u32 + 1;
 /// The places of the objects of a store that was opened with the same limits.
 ///
 /// Natural sizes and places under one root depend on that root's tree alone.
-#[derive(Drop)]
 pub struct Places {
     entries: Table<Entry>,
     // The objects that have entries.
@@ -95,6 +94,19 @@ pub struct Places {
     ghost list_room: { limits.objects ≤ vec_capacity listed },
     ghost found_room: { limits.objects ≤ vec_capacity found },
     ghost items_room: { limits.objects ≤ vec_len items },
+}
+
+impl Drop for Places {
+    /// Lets go of all that it holds. Who owns one calls this, where each field by itself would be dear to prove.
+    fn drop(self) {
+        let Places {
+            entries: _,
+            listed: _,
+            found: _,
+            items: _,
+            limits: _,
+        } = self;
+    }
 }
 
 /// A table with room for the entries of so many objects.

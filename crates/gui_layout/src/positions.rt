@@ -1,5 +1,5 @@
 //! Heights and places, downward.
-ghost use Rattle.std.specs.Prelude.{◌≡◌, ◌≤◌, ◌<◌, ◌+◌, ◌∷◌, [], ℕ, List, true, length, map};
+ghost use Rattle.std.specs.Prelude.{◌≡◌, ◌≤◌, ◌<◌, ◌+◌, ◌∷◌, ℕ, List, true, length, map};
 ghost use Rattle.std.specs.Prelude.{take, drop, slice_set, pos, ◌+ℤ◌, ◌≤ℤ◌};
 ghost use Rattle.std.specs.List.{All};
 ghost use Rattle.gui_base.specs.Forest.{StandsOnce, has, height, size, tree_at, children_of};
@@ -10,10 +10,12 @@ ghost use Rattle.layout_defs.specs.Solving.{Tall, tall_box, taking_part, dealt, 
 ghost use Rattle.layout_defs.specs.Solving.{own_slot, row_slot, column_slot, flow_slots, kid_slots, room_of};
 ghost use Rattle.layout_defs.specs.Tables.{KeepsOthers};
 ghost use Rattle.gui_flex.specs.Items.{items_of, item_of, spot_of, spots_of, placings_of};
-ghost use Rattle.gui_layout.specs.Kids.{tall_kid, tall_kids};
+ghost use Rattle.gui_layout.specs.Kids.{Deals, tall_kids, told_trees};
+ghost use Rattle.gui_layout.specs.Settled.{EachKids, SlotsFit, tall_of};
+ghost use Rattle.gui_layout.specs.Sizings.{kid_by};
 ghost use Rattle.gui_layout.specs.Views.{box_of, box_at};
 ghost use Rattle.gui_layout.specs.Slots.{slot_of, room_in, arranged, item_slot};
-ghost use Rattle.gui_layout.specs.Slots.{IsClose, HasRoom, HoldsSlots, Deals, IsAtCorner, IsBelow, tall_at};
+ghost use Rattle.gui_layout.specs.Slots.{IsClose, HasRoom, IsAtCorner, IsBelow, tall_at};
 ghost use Rattle.gui_layout.specs.Slots.{slot_at, at_roots};
 ghost use Rattle.gui_layout.specs.Layouts.{ButPlaces, ButSlots};
 ghost use Rattle.gui_layout.specs.Scrolls.{HoldsScrolls, moves_of, not_scrolled, scrolled_in};
@@ -38,16 +40,16 @@ use gui_pool::Table;
 use gui_tree::Tree;
 use layout_defs::Course;
 
-/// A child's place without flex, by its box and its sizes.
-pub(crate) fn own_position(kid: &LayoutBox, inside: Inside, width: u16, natural: u16) -> Position
-    ensures value { (h : ℕ) → slot_of result
-        ≡ own_slot (room_in inside) (tall_kid h kid.now width natural) }
+/// A child's place without flex, by its entry.
+pub(crate) fn own_position(kid: &Entry, inside: Inside) -> Position
+    ensures value { (h : ℕ) → slot_of result ≡ own_slot (room_in inside) (tall_of (kid_by h kid.now)) }
     ensures close { IsClose inside.x inside.y (slot_of result) }
 {
-    let height = size_in(&kid.down, inside.height, natural);
+    let own = &kid.wanted;
+    let height = size_in(&own.down, inside.height, kid.natural_height.pixels);
     Position {
-        x: own_at(&kid.across, inside.x, inside.width, width),
-        y: own_at(&kid.down, inside.y, inside.height, height),
+        x: own_at(&own.across, inside.x, inside.width, kid.width.pixels),
+        y: own_at(&own.down, inside.y, inside.height, height),
         height,
     }
 }
@@ -76,55 +78,79 @@ fn column_position(item: &FlexItem, inside: Inside) -> Position
     }
 }
 
+/// A content area, and how the children flow that stand in it.
+#[derive(Clone, Copy)]
+struct FlowArea {
+    course: Course,
+    inside: Inside,
+}
+
 /// The place of an item.
-fn item_position(course: Course, item: &FlexItem, inside: Inside) -> Position
-    ensures value { slot_of result ≡ item_slot course (room_in inside) item.now }
-    ensures close { IsClose inside.x inside.y (slot_of result) }
+fn item_position(area: FlowArea, item: &FlexItem) -> Position
+    ensures value { slot_of result ≡ item_slot area.course (room_in area.inside) item.now }
+    ensures close { IsClose area.inside.x area.inside.y (slot_of result) }
 {
-    match course {
-        Course::Down => column_position(item, inside),
-        _ => row_position(item, inside),
+    match area.course {
+        Course::Down => column_position(item, area.inside),
+        _ => row_position(item, area.inside),
     }
 }
 
-/// Shares what is free among the items.
-fn share_all(items: &mut [FlexItem], wrap: bool, extent: u16, gap: u16)
-    requires few { length items.old ≤ 4000 }
-    requires extent { extent ≤ 8191 }
-    requires gap { gap ≤ 1000 }
-    ensures items { items_of items.new ≡ shared wrap extent gap (items_of items.old) }
-{
-    share(items, wrap, i32::from(extent), i32::from(gap));
+/// A content area along one of its axes: how long it is, and the gap between what stands in it.
+#[derive(Clone, Copy)]
+struct Line {
+    extent: u16,
+    gap: u16,
+    ghost extent_fits: { extent ≤ 8191 },
+    ghost gap_fits: { gap ≤ 1000 },
 }
 
-/// Places the items.
-fn place_all(
-    items: &mut [FlexItem],
-    wrap: bool,
-    places: FlexPlaces,
-    extent: u16,
-    cross_extent: u16,
-    gap: u16,
-    track_gap: u16,
-)
+/// Shares what is free among the items.
+fn share_all(items: &mut [FlexItem], wrap: bool, main: Line)
     requires few { length items.old ≤ 4000 }
-    requires extent { extent ≤ 8191 }
-    requires cross_extent { cross_extent ≤ 8191 }
-    requires gap { gap ≤ 1000 }
-    requires track_gap { track_gap ≤ 1000 }
-    ensures spots { spots_of items.new
-        ≡ spots (placings_of places) wrap extent cross_extent gap track_gap (items_of items.old) }
+    ensures items { items_of items.new ≡ shared wrap main.extent main.gap (items_of items.old) }
+{
+    share(items, wrap, i32::from(main.extent), i32::from(main.gap));
+}
+
+/// Places the items, along their flow and across it.
+fn place_all(items: &mut [FlexItem], wrap: bool, places: FlexPlaces, main: Line, cross: Line)
+    requires few { length items.old ≤ 4000 }
+    ensures spots { spots_of items.new ≡ spots (placings_of places) wrap main.extent cross.extent
+        main.gap cross.gap (items_of items.old) }
     ensures items { items_of items.new ≡ items_of items.old }
 {
     place(
         items,
         wrap,
         places,
-        i32::from(extent),
-        i32::from(cross_extent),
-        i32::from(gap),
-        i32::from(track_gap),
+        i32::from(main.extent),
+        i32::from(cross.extent),
+        i32::from(main.gap),
+        i32::from(cross.gap),
     );
+}
+
+/// A content area across.
+fn line_across(own: &LayoutBox, inside: Inside) -> Line
+    ensures extent { result.extent ≡ inside.width }
+    ensures gap { result.gap ≡ own.now.across.gap }
+{
+    Line {
+        extent: inside.width,
+        gap: own.across.gap,
+    }
+}
+
+/// A content area down.
+fn line_down(own: &LayoutBox, inside: Inside) -> Line
+    ensures extent { result.extent ≡ inside.height }
+    ensures gap { result.gap ≡ own.now.down.gap }
+{
+    Line {
+        extent: inside.height,
+        gap: own.down.gap,
+    }
 }
 
 /// Places the items of a row, in the order of its flow.
@@ -137,10 +163,8 @@ fn place_row(items: &mut [FlexItem], own: &LayoutBox, inside: Inside)
         items,
         wraps(own.flow),
         own.places,
-        inside.width,
-        inside.height,
-        own.across.gap,
-        own.down.gap,
+        line_across(own, inside),
+        line_down(own, inside),
     );
 }
 
@@ -150,56 +174,35 @@ fn place_column(items: &mut [FlexItem], own: &LayoutBox, inside: Inside)
     ensures items { (h : ℕ) → map (item_slot Down (room_in inside)) items.new
         ≡ arranged Down (box_of h own.now) (room_in inside) (items_of items.old) }
 {
-    share_all(items, wraps(own.flow), inside.height, own.down.gap);
+    let down = line_down(own, inside);
+    share_all(items, wraps(own.flow), down);
     place_all(
         items,
         wraps(own.flow),
         own.places,
-        inside.height,
-        inside.width,
-        own.down.gap,
-        own.across.gap,
+        down,
+        line_across(own, inside),
     );
 }
 
-/// The place of a child by itself, by its entry.
-fn kid_position(kid: &Entry, inside: Inside) -> Position
-    ensures value { (h : ℕ) → slot_of result ≡ own_slot (room_in inside)
-        (tall_kid h kid.now.wanted kid.now.width.pixels kid.now.natural_height.pixels) }
-    ensures close { IsClose inside.x inside.y (slot_of result) }
-{
-    own_position(
-        &kid.wanted,
-        inside,
-        kid.width.pixels,
-        kid.natural_height.pixels,
-    )
-}
-
 /// The place that a child is dealt, and how many items are dealt then.
-fn dealt_position(
-    kid: &Entry,
-    course: Course,
-    inside: Inside,
-    items: &[FlexItem],
-    i: usize,
-) -> (Position, usize)
+fn dealt_position(kid: &Entry, area: FlowArea, items: &[FlexItem], i: usize) -> (Position, usize)
     requires within { i ≤ length items.now }
-    ensures value { (h : ℕ) (kids : List Tall) → dealt tall_box (own_slot (room_in inside))
-        (tall_kid h kid.now.wanted kid.now.width.pixels kid.now.natural_height.pixels ∷ kids)
-        (map (item_slot course (room_in inside)) (drop i items.now))
-        ≡ slot_of result.0 ∷ dealt tall_box (own_slot (room_in inside)) kids
-        (map (item_slot course (room_in inside)) (drop result.1 items.now)) }
-    ensures close { IsClose inside.x inside.y (slot_of result.0) }
+    ensures value { (h : ℕ) (kids : List Tall) → dealt tall_box (own_slot (room_in area.inside))
+        (tall_of (kid_by h kid.now) ∷ kids)
+        (map (item_slot area.course (room_in area.inside)) (drop i items.now))
+        ≡ slot_of result.0 ∷ dealt tall_box (own_slot (room_in area.inside)) kids
+        (map (item_slot area.course (room_in area.inside)) (drop result.1 items.now)) }
+    ensures close { IsClose area.inside.x area.inside.y (slot_of result.0) }
     ensures within { result.1 ≤ length items.now }
 {
     if kid.wanted.hidden {
-        return (kid_position(kid, inside), i);
+        return (own_position(kid, area.inside), i);
     }
     if i == items.len() {
-        return (kid_position(kid, inside), i);
+        return (own_position(kid, area.inside), i);
     }
-    (item_position(course, &items[i], inside), i + 1)
+    (item_position(area, &items[i]), i + 1)
 }
 
 /// Makes the items the children that take part in a flow, each with its place, first to last. It answers how
@@ -251,19 +254,18 @@ fn deal_positions(
     entries: &mut Table<Entry>,
     items: &[FlexItem],
     h: Handle,
-    course: Course,
-    inside: Inside,
+    area: FlowArea,
 )
     requires listed { AreListed (listing_of entries.old) (tree_at tree.now.forest h.0) }
-    ensures deals { Deals (box_at (told entries.old).boxes) (told entries.old).widths
-        (told entries.old).natural_heights (room_in inside) (told entries.old).slots (told entries.new).slots
-        (children_of tree.now.forest h.0) (map (item_slot course (room_in inside)) items.now) }
+    ensures deals { Deals (told entries.old) (room_in area.inside) (told entries.old).slots
+        (told entries.new).slots (children_of tree.now.forest h.0)
+        (map (item_slot area.course (room_in area.inside)) items.now) }
     ensures rest { ButSlots (told entries.old) (told entries.new) }
     ensures listed { listing_of entries.new ≡ listing_of entries.old }
 {
     let mut i = 0;
     for child in tree.children(h) {
-        let (position, later) = dealt_position(entry_of(entries, child), course, inside, items, i);
+        let (position, later) = dealt_position(entry_of(entries, child), area, items, i);
         set_position(entries, child, position);
         i = later;
     }
@@ -292,24 +294,23 @@ fn move_kids(
     entries: &mut Table<Entry>,
     items: &[FlexItem],
     h: Handle,
-    course: Course,
-    inside: Inside,
+    area: FlowArea,
     offset: Offset,
 )
     requires listed { AreListed (listing_of entries.old) (tree_at tree.now.forest h.0) }
-    requires left { pos 0 ≤ℤ (inside.x +ℤ pos 940000000) }
-    requires top { pos 0 ≤ℤ (inside.y +ℤ pos 940000000) }
+    requires left { pos 0 ≤ℤ (area.inside.x +ℤ pos 940000000) }
+    requires top { pos 0 ≤ℤ (area.inside.y +ℤ pos 940000000) }
     requires flat { at_roots (told entries.old).slots (children_of tree.now.forest h.0)
-        ≡ dealt tall_box (own_slot (room_in inside)) (tall_kids (told entries.old) tree.now.forest h.0)
-        (map (item_slot course (room_in inside)) items.now) }
-    requires close { All (IsClose inside.x inside.y)
+        ≡ dealt tall_box (own_slot (room_in area.inside)) (tall_kids (told entries.old) tree.now.forest h.0)
+        (map (item_slot area.course (room_in area.inside)) items.now) }
+    requires close { All (IsClose area.inside.x area.inside.y)
         (at_roots (told entries.old).slots (children_of tree.now.forest h.0)) }
     ensures moved { at_roots (told entries.new).slots (children_of tree.now.forest h.0)
         ≡ map (moved (moves_of offset)) (at_roots (told entries.old).slots (children_of tree.now.forest h.0)) }
     ensures others { KeepsOthers nowhere (told entries.old).slots (told entries.new).slots
         (children_of tree.now.forest h.0) }
-    ensures close { All (IsClose (moved_room (moves_of offset) (room_in inside)).x
-        (moved_room (moves_of offset) (room_in inside)).y)
+    ensures close { All (IsClose (moved_room (moves_of offset) (room_in area.inside)).x
+        (moved_room (moves_of offset) (room_in area.inside)).y)
         (at_roots (told entries.new).slots (children_of tree.now.forest h.0)) }
     ensures rest { ButSlots (told entries.old) (told entries.new) }
     ensures listed { listing_of entries.new ≡ listing_of entries.old }
@@ -317,14 +318,11 @@ fn move_kids(
     if is_none(offset) {
         return;
     }
-    deal_positions(
-        tree,
-        entries,
-        items,
-        h,
-        course,
-        moved_inside(inside, offset),
-    );
+    let moved = FlowArea {
+        course: area.course,
+        inside: moved_inside(area.inside, offset),
+    };
+    deal_positions(tree, entries, items, h, moved);
 }
 
 /// Sets the places of the children of an object whose own place is set, and how far they reach and are moved. It
@@ -357,11 +355,12 @@ fn set_kid_positions(tree: &Tree, entries: &mut Table<Entry>, items: &mut [FlexI
     let course = course_of(own.wanted.flow);
     let count = place_flow(tree, entries, items, h, &own.wanted, inside);
     let placed = &items[..count];
-    deal_positions(tree, entries, placed, h, course, inside);
+    let area = FlowArea { course, inside };
+    deal_positions(tree, entries, placed, h, area);
     let reach = reach_of(tree, entries, h);
     let scrolled = scrolled_by(&entry_of(entries, h).wanted, reach);
     set_scrolled(entries, h, scrolled);
-    move_kids(tree, entries, placed, h, course, inside, scrolled.offset);
+    move_kids(tree, entries, placed, h, area, scrolled.offset);
 }
 
 /// Finds the heights and places of all that lies below an object whose own place is set, parents first, and how
@@ -378,11 +377,9 @@ pub(crate) fn find_places(
     requires there { has tree.now.forest h.0 ≡ true }
     requires enough { size tree.now.forest ≤ length items.old }
     requires room { HasRoom (slot_at (told entries.old).slots h.0) (height (tree_at tree.now.forest h.0)) }
-    ensures found { HoldsSlots (box_at (told entries.old).boxes) (told entries.old).widths
-        (told entries.old).natural_heights (slot_at (told entries.old).slots h.0 ∷ [])
-        (told entries.new).slots (tree_at tree.now.forest h.0) }
+    ensures found { EachKids SlotsFit (told_trees (told entries.new) (tree_at tree.now.forest h.0)) }
     ensures others { KeepsOthers nowhere (told entries.old).slots (told entries.new).slots
-        (tree_at tree.now.forest h.0) }
+        (children_of tree.now.forest h.0) }
     ensures scrolled { HoldsScrolls (box_at (told entries.old).boxes) (told entries.old).widths
         (told entries.old).natural_heights (told entries.new).slots (told entries.new).scrolls
         (tree_at tree.now.forest h.0) }

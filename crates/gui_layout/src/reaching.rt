@@ -5,7 +5,9 @@ ghost use Rattle.gui_base.specs.Forest.{children_of, has, tree_at};
 ghost use Rattle.layout_defs.specs.Scrolling.{moved_room};
 ghost use Rattle.layout_defs.specs.Solving.{end_across, end_down, no_span, offset_of, reach_in, room_of};
 ghost use Rattle.gui_layout.specs.Around.{IsFlat, ReadsReaches};
-ghost use Rattle.gui_layout.specs.Kids.{tall_kid, tall_kids};
+ghost use Rattle.gui_layout.specs.Kids.{tall_kids};
+ghost use Rattle.gui_layout.specs.Settled.{tall_of};
+ghost use Rattle.gui_layout.specs.Sizings.{kid_by};
 ghost use Rattle.gui_layout.specs.Reaches.{IsInner, IsPlaced};
 ghost use Rattle.gui_layout.specs.Scrolls.{at_corner, moves_of, scrolled_at, scrolled_by, scrolled_of, span_of};
 ghost use Rattle.gui_layout.specs.Slots.{at_roots, room_in, slot_at, slot_of, tall_at};
@@ -70,10 +72,10 @@ fn farther(kid: &Entry, x: i32, y: i32, ends: Reach) -> Reach
     requires bottom { y ≤ℤ pos 999001100 }
     ensures across { (h : ℕ) → result.across ≡ (if kid.now.wanted.hidden then ends.across
         else max ends.across (end_across (at_corner x y)
-        (tall_kid h kid.now.wanted kid.now.width.pixels kid.now.natural_height.pixels) (slot_of kid.now.position))) }
+        (tall_of (kid_by h kid.now)) (slot_of kid.now.position))) }
     ensures down { (h : ℕ) → result.down ≡ (if kid.now.wanted.hidden then ends.down
         else max ends.down (end_down (at_corner x y)
-        (tall_kid h kid.now.wanted kid.now.width.pixels kid.now.natural_height.pixels) (slot_of kid.now.position))) }
+        (tall_of (kid_by h kid.now)) (slot_of kid.now.position))) }
 {
     if kid.wanted.hidden {
         return ends;

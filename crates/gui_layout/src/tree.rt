@@ -55,7 +55,7 @@ pub(crate) fn solve_tree(
 {
     find_natural_widths(tree, entries, h);
     let own = entry_of(entries, h);
-    let width = framed_width(frame, &own.wanted, own.natural_width.pixels);
+    let width = framed_width(frame, own);
     set_width(entries, h, width);
     find_widths(tree, entries, items, h);
     set_own_heights(tree, entries, store, h);

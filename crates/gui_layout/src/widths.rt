@@ -1,5 +1,5 @@
 //! Widths, downward.
-ghost use Rattle.std.specs.Prelude.{◌≡◌, ◌≤◌, ◌<◌, ◌+◌, ◌∷◌, [], ℕ, List, true, length, map, take, drop};
+ghost use Rattle.std.specs.Prelude.{◌≡◌, ◌≤◌, ◌<◌, ◌+◌, ◌∷◌, ℕ, List, true, length, map, take, drop};
 ghost use Rattle.std.specs.Prelude.{slice_index};
 ghost use Rattle.gui_base.specs.Forest.{has, roots, size, tree_at, children_of};
 ghost use Rattle.layout_defs.specs.Flex.{shared};
@@ -8,9 +8,10 @@ ghost use Rattle.layout_defs.specs.Solving.{Wide, wide_box, in_order, dealt, wid
 ghost use Rattle.layout_defs.specs.Solving.{main_sizes, kid_widths, kid_widths_by};
 ghost use Rattle.layout_defs.specs.Tables.{KeepsOthers};
 ghost use Rattle.gui_flex.specs.Items.{items_of};
-ghost use Rattle.gui_layout.specs.Kids.{wide_kid, wide_kids, BelowHaveWidths};
+ghost use Rattle.gui_layout.specs.Kids.{wide_kids, told_trees};
 ghost use Rattle.gui_layout.specs.Views.{box_of, box_at};
-ghost use Rattle.gui_layout.specs.Found.{HoldsNaturalWidths, HoldsWidths};
+ghost use Rattle.gui_layout.specs.Settled.{EachKids, WidthsFit, wide_of};
+ghost use Rattle.gui_layout.specs.Sizings.{kid_by};
 ghost use Rattle.gui_layout.specs.Layouts.{ButWidths};
 ghost use Rattle.gui_layout.specs.Tables.{told, listing_of, AreListed};
 
@@ -47,7 +48,7 @@ pub(crate) fn share_in_order(items: &mut [FlexItem], flow: Flow, room: u16, gap:
 fn dealt_width(kid: &Entry, room: u16, items: &[FlexItem], i: usize) -> (u16, usize)
     requires within { i ≤ length items.now }
     ensures value { (h : ℕ) (kids : List Wide) → dealt wide_box (width_in room)
-        (wide_kid h kid.now.wanted kid.now.natural_width.pixels ∷ kids)
+        (wide_of (kid_by h kid.now) ∷ kids)
         (main_sizes (items_of (drop i items.now)))
         ≡ result.0 ∷ dealt wide_box (width_in room) kids (main_sizes (items_of (drop result.1 items.now))) }
     ensures small { result.0 ≤ 8191 }
@@ -66,7 +67,6 @@ fn dealt_width(kid: &Entry, room: u16, items: &[FlexItem], i: usize) -> (u16, us
 /// other.
 fn deal_widths(tree: &Tree, entries: &mut Table<Entry>, items: &[FlexItem], h: Handle, room: u16)
     requires listed { AreListed (listing_of entries.old) (tree_at tree.now.forest h.0) }
-    requires found { BelowHaveWidths (told entries.old) tree.now.forest h.0 }
     ensures dealt { map (slice_index (told entries.new).widths) (roots (children_of tree.now.forest h.0))
         ≡ dealt wide_box (width_in room) (wide_kids (told entries.old) tree.now.forest h.0)
         (main_sizes (items_of items.now)) }
@@ -94,7 +94,6 @@ fn row_shares(
     room: u16,
 ) -> usize
     requires few { size tree.now.forest ≤ 4000 }
-    requires found { BelowHaveWidths (told entries.now) tree.now.forest h.0 }
     requires enough { size tree.now.forest ≤ length items.old }
     requires room { room ≤ 8191 }
     requires listed { AreListed (listing_of entries.now) (tree_at tree.now.forest h.0) }
@@ -119,7 +118,6 @@ fn row_shares(
 fn set_kid_widths(tree: &Tree, entries: &mut Table<Entry>, items: &mut [FlexItem], h: Handle)
     requires listed { AreListed (listing_of entries.old) (tree_at tree.now.forest h.0) }
     requires few { size tree.now.forest ≤ 4000 }
-    requires found { BelowHaveWidths (told entries.old) tree.now.forest h.0 }
     requires enough { size tree.now.forest ≤ length items.old }
     requires there { has tree.now.forest h.0 ≡ true }
     ensures kids { map (slice_index (told entries.new).widths) (roots (children_of tree.now.forest h.0))
@@ -146,14 +144,10 @@ pub(crate) fn find_widths(
     requires listed { AreListed (listing_of entries.old) (tree_at tree.now.forest h.0) }
     requires few { size tree.now.forest ≤ 4000 }
     requires there { has tree.now.forest h.0 ≡ true }
-    requires naturals_found { HoldsNaturalWidths (box_at (told entries.old).boxes)
-        (told entries.old).natural_widths (tree_at tree.now.forest h.0) }
     requires enough { size tree.now.forest ≤ length items.old }
-    ensures found { HoldsWidths (box_at (told entries.old).boxes)
-        (slice_index (told entries.old).widths h.0 ∷ [])
-        (told entries.new).widths (tree_at tree.now.forest h.0) }
+    ensures found { EachKids WidthsFit (told_trees (told entries.new) (tree_at tree.now.forest h.0)) }
     ensures others { KeepsOthers 0 (told entries.old).widths (told entries.new).widths
-        (tree_at tree.now.forest h.0) }
+        (children_of tree.now.forest h.0) }
     ensures rest { ButWidths (told entries.old) (told entries.new) }
     ensures listed { listing_of entries.new ≡ listing_of entries.old }
 {

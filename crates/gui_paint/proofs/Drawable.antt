@@ -9,7 +9,6 @@ use Rattle.gui_base.specs.Area.{Rect}
 use Rattle.gui_base.specs.Coats.{Coat}
 use Rattle.gui_color.specs.Buffer.{Buffer}
 use Rattle.text_defs.specs.Fonts.{Font, finished}
-use Rattle.text_defs.specs.Images.{Image}
 use Rattle.widget_defs.specs.declared.ItemPaint.{ItemPaint}
 use Rattle.widget_defs.specs.declared.ItemPaint.TheVariants.{Fill, Ring, Ink, Picture}
 use Rattle.widget_defs.specs.Items.{Item}
@@ -52,8 +51,8 @@ pub text_chars : (scene : Scene) (h : ℕ) → chars (text_at scene h) ≡ chars
 text_chars scene h = chars_same (object_at scene h)
 
 -- an object is painted by its items and its text
-pub paints_lettered : (old new : Buffer) (scene : Scene) (visible : Rect) (h : ℕ) (fonts : List Font) (images : List Image) (text : List ℕ) (known : List Item) → fonts ≡ scene.fonts → images ≡ scene.images → known ≡ items scene h → text ≡ chars_at scene h →
-    Paints old new (painted_coats visible (map (coat_in fonts images text) known)) → Paints old new (painted_object scene visible h)
-paints_lettered old new scene visible h fonts images text known fonts_are images_are known_are text_is paints =
-    let same : map (coat_in fonts images text) known ≡ coats scene h = rw (fonts_are, images_are, known_are, text_is) refl in
+pub paints_lettered : (old new : Buffer) (scene : Scene) (visible : Rect) (h : ℕ) (text : List ℕ) (known : List Item) → known ≡ items scene h → text ≡ chars_at scene h →
+    Paints old new (painted_coats visible (map (coat_in scene.fonts scene.images text) known)) → Paints old new (painted_object scene visible h)
+paints_lettered old new scene visible h text known known_are text_is paints =
+    let same : map (coat_in scene.fonts scene.images text) known ≡ coats scene h = rw (known_are, text_is) refl in
     subst (λ (l : List Coat). Paints old new (painted_coats visible l)) same paints

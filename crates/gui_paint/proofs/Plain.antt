@@ -47,12 +47,12 @@ plain_coats fonts images some other (item ∷ items) are =
     let are_both = both (is_plain item) (list_all is_plain items) are in
     rw (coat_plain fonts images some other item.area item.paint are_both.0, plain_coats fonts images some other items are_both.1) refl
 
-pub paints_plain : (old new : Buffer) (scene : Scene) (visible : Rect) (h : ℕ) (fonts : List Font) (images : List Image) (text : List ℕ) (known : List Item) → fonts ≡ scene.fonts → images ≡ scene.images → known ≡ items scene h → list_all is_plain known ≡ true →
-    Paints old new (painted_coats visible (map (coat_in fonts images text) known)) → Paints old new (painted_object scene visible h)
-paints_plain old new scene visible h fonts images text known fonts_are images_are known_are plain paints =
-    let same : map (coat_in fonts images text) known ≡ coats scene h =
-    plain_coats fonts images text (chars_at scene h) known plain
-    ∙ rw (fonts_are, images_are, known_are) refl in
+pub paints_plain : (old new : Buffer) (scene : Scene) (visible : Rect) (h : ℕ) (text : List ℕ) (known : List Item) → known ≡ items scene h → list_all is_plain known ≡ true →
+    Paints old new (painted_coats visible (map (coat_in scene.fonts scene.images text) known)) → Paints old new (painted_object scene visible h)
+paints_plain old new scene visible h text known known_are plain paints =
+    let same : map (coat_in scene.fonts scene.images text) known ≡ coats scene h =
+    plain_coats scene.fonts scene.images text (chars_at scene h) known plain
+    ∙ rw known_are refl in
     subst (λ (l : List Coat). Paints old new (painted_coats visible l)) same paints
 
 -- Bars have no text.
@@ -82,9 +82,9 @@ bars_plain scene (Some object) (Some area) =
 pub bars_ready : (fonts : List Font) (scene : Scene) (h : ℕ) → All (IsPaintable fonts) (bars scene h)
 bars_ready fonts scene h = plain_ready fonts (bars scene h) (bars_plain scene (object_at scene h) (place scene h))
 
-pub paints_bars : (old new : Buffer) (scene : Scene) (visible : Rect) (h : ℕ) (fonts : List Font) (images : List Image) (text : List ℕ) (items : List Item) → fonts ≡ scene.fonts → images ≡ scene.images → items ≡ bars scene h →
-    Paints old new (painted_coats visible (map (coat_in fonts images text) items)) → Paints old new (painted_bars scene visible h)
-paints_bars old new scene visible h fonts images text items fonts_are images_are items_are paints =
-    let same : map (coat_in fonts images text) items ≡ bar_coats scene h =
-    rw (fonts_are, images_are, items_are) (plain_coats scene.fonts scene.images text [] (bars scene h) (bars_plain scene (object_at scene h) (place scene h))) in
+pub paints_bars : (old new : Buffer) (scene : Scene) (visible : Rect) (h : ℕ) (text : List ℕ) (items : List Item) → items ≡ bars scene h →
+    Paints old new (painted_coats visible (map (coat_in scene.fonts scene.images text) items)) → Paints old new (painted_bars scene visible h)
+paints_bars old new scene visible h text items items_are paints =
+    let same : map (coat_in scene.fonts scene.images text) items ≡ bar_coats scene h =
+    rw items_are (plain_coats scene.fonts scene.images text [] (bars scene h) (bars_plain scene (object_at scene h) (place scene h))) in
     subst (λ (l : List Coat). Paints old new (painted_coats visible l)) same paints

@@ -16,8 +16,6 @@ use Rattle.scene_defs.specs.Items.{chars_of, coat_in, coats, items_of}
 use Rattle.scene_defs.specs.Looks.{look_of}
 use Rattle.scene_defs.proofs.Distinct.{there}
 use Rattle.scene_defs.proofs.Handles.{has-handles}
-use Rattle.text_defs.specs.Fonts.{Font}
-use Rattle.text_defs.specs.Images.{Image}
 use Rattle.widget_defs.specs.Items as widget
 use Rattle.widget_defs.specs.Items.{Item}
 use Rattle.widget_defs.specs.Looks.{Look}
@@ -61,13 +59,12 @@ coats_are scene area look (Some object) is =
     ap (λ (l : Look). map (coat_in scene.fonts scene.images l.text) (widget.items l area)) same
 
 -- its items are painted
-pub paints_object : (old new : Buffer) (scene : Scene) (visible area : Rect) (h : ℕ) (look : Look) (fonts : List Font) (images : List Image) (items : List Item) →
-    Some look ≡ option_map (look_of scene) (object_at scene h) → place scene h ≡ Some area → fonts ≡ scene.fonts → images ≡ scene.images → items ≡ widget.items look area →
-    Paints old new (painted_coats visible (map (coat_in fonts images look.text) items)) → Paints old new (painted_object scene visible h)
-paints_object old new scene visible area h look fonts images items is at fonts_are images_are items_are paints =
-    let laid = λ (f : List Font) (i : List Image) (l : List Item). map (coat_in f i look.text) l in
+pub paints_object : (old new : Buffer) (scene : Scene) (visible area : Rect) (h : ℕ) (look : Look) (items : List Item) →
+    Some look ≡ option_map (look_of scene) (object_at scene h) → place scene h ≡ Some area → items ≡ widget.items look area →
+    Paints old new (painted_coats visible (map (coat_in scene.fonts scene.images look.text) items)) → Paints old new (painted_object scene visible h)
+paints_object old new scene visible area h look items is at items_are paints =
     let by_place = λ (p : Option Rect). map (coat_in scene.fonts scene.images (chars_of (object_at scene h))) (items_of scene (object_at scene h) p) in
-    let same : laid fonts images items ≡ coats scene h = rw (fonts_are, images_are, items_are) (coats_are scene area look (object_at scene h) is ∙ ap by_place (sym at)) in
+    let same : map (coat_in scene.fonts scene.images look.text) items ≡ coats scene h = rw items_are (coats_are scene area look (object_at scene h) is ∙ ap by_place (sym at)) in
     subst (λ (l : List Coat). Paints old new (painted_coats visible l)) same paints
 
 -- the value of its font is that of its main part

@@ -13,6 +13,7 @@ ghost use Rattle.scene_defs.specs.Scene.{is_there};
 use crate::items::paint_items;
 use crate::paint::paint_object;
 use crate::shown::Shown;
+use crate::walk::SeenObject;
 use arrayvec::ArrayVec;
 use gui_base::{Area, Handle, Steps};
 use gui_color::DrawBuf;
@@ -90,6 +91,7 @@ impl<'a> Shown<'a> {
     /// Paints an object by itself over the pixels of the buffer that are in `visible`. It is there, and
     /// `known` is all that it paints: nothing of it is looked up but the bytes of its text, where it has one.
     /// `text` is room for a text.
+    // Each parameter by itself, as in the drawing calls: a caller has them from different places.
     pub fn paint_known<L: Ledger>(
         &self,
         buf: &mut DrawBuf,
@@ -109,16 +111,15 @@ impl<'a> Shown<'a> {
         let store = self.store;
         let _tree = store.tree();
         if are_plain(known) {
-            let (fonts, images) = (store.fonts(), store.images());
-            paint_items(buf, visible, known, fonts, images, "", steps);
+            paint_items(buf, visible, known, store, "", steps);
         } else if are_drawable(known, store.fonts()) {
-            let (fonts, images) = (store.fonts(), store.images());
             let letters = text_of(store, h, text);
-            paint_items(buf, visible, known, fonts, images, letters, steps);
+            paint_items(buf, visible, known, store, letters, steps);
         } else if let Some(place) = self.places.place(h) {
-            paint_object(self, buf, visible, place, h, text, steps);
+            paint_object(self, buf, SeenObject { place, visible }, h, text, steps);
         }
     }
+
     /// Paints the bars of an object over the pixels of the buffer that are in `visible`. `known` are its bars:
     /// nothing of it is looked up.
     pub fn paint_known_bars<L: Ledger>(
@@ -136,7 +137,6 @@ impl<'a> Shown<'a> {
             + bar_steps (scene_of self.now.store.now) (size_of buf.old.area) h.0 }
     {
         let _ = h;
-        let (fonts, images) = (self.store.fonts(), self.store.images());
-        paint_items(buf, visible, known, fonts, images, "", steps);
+        paint_items(buf, visible, known, self.store, "", steps);
     }
 }

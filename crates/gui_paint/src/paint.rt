@@ -1,14 +1,12 @@
 //! Painting a scene into a draw buffer.
 ghost use Rattle.std.specs.Prelude.{◌≡◌, ◌≤◌, ◌+◌, ◌*◌, true, Some, [], ◌∷◌, if◌then◌else◌, sum_by, None};
-ghost use Rattle.gui_base.specs.Area.{width_of, size_of};
+ghost use Rattle.gui_base.specs.Area.{size_of};
 ghost use Rattle.gui_base.specs.Corners.{rect_of};
 ghost use Rattle.gui_base.specs.Forest.{size, tree_by};
 ghost use Rattle.gui_color.specs.Buffer.{IsBlack};
 ghost use Rattle.gui_draw.specs.Drawing.{ShowsColors};
-ghost use Rattle.layout_defs.specs.Reach.{IsNear};
 ghost use Rattle.scene_defs.specs.Picture.{paint as paint_of};
-ghost use Rattle.scene_defs.specs.Place.{place as place_of};
-ghost use Rattle.scene_defs.specs.Scene.{is_at, is_there};
+ghost use Rattle.scene_defs.specs.Scene.{is_at};
 ghost use Rattle.scene_defs.specs.Shown.{painted as all_painted};
 ghost use Rattle.scene_defs.specs.Valid.{IsValid};
 ghost use Rattle.cover_defs.specs.Steps.{bar_steps, object_count, object_steps, slice_steps, steps_of};
@@ -65,60 +63,69 @@ fn paint<L: Ledger>(shown: &Shown, buf: &mut DrawBuf, start: Option<Handle>, ste
 {
     let clip = panel(shown);
     let screen = shown.store.active();
-    let mut text = ArrayVec::new();
-    let mut start = start;
-    paint_tree(shown, buf, clip, screen, &mut start, &mut text, steps);
-    paint_tree(shown, buf, clip, TOP_LAYER, &mut start, &mut text, steps);
-    paint_tree(shown, buf, clip, SYSTEM_LAYER, &mut start, &mut text, steps);
+    let mut progress = Progress {
+        start,
+        text: ArrayVec::new(),
+    };
+    paint_tree(shown, buf, clip, screen, &mut progress, steps);
+    paint_tree(shown, buf, clip, TOP_LAYER, &mut progress, steps);
+    paint_tree(shown, buf, clip, SYSTEM_LAYER, &mut progress, steps);
+}
+
+/// How far painting has come: the object that it begins with, or `None` once it has begun. And room for a text.
+#[derive(Drop)]
+struct Progress {
+    start: Option<Handle>,
+    text: ArrayVec<u8, 1000>,
 }
 
 /// Paints an object and all below it, and its bars over that, or of these what comes from the object on that
-/// `start` waits for. The clip is what is seen of its parent, and `text` is room for a text.
+/// painting begins with. The clip is what is seen of its parent.
 fn paint_tree<L: Ledger>(
     shown: &Shown,
     buf: &mut DrawBuf,
     clip: Area,
     h: Handle,
-    start: &mut Option<Handle>,
-    text: &mut ArrayVec<u8, 1000>,
+    progress: &mut Progress,
     steps: &mut Steps<L>,
 )
     ensures { let scene = scene_of shown.now.store.now in
-        PaintsMet scene (tree_walk scene (rect_of clip) h.0) (number_of start.old) (number_of start.new)
+        PaintsMet scene (tree_walk scene (rect_of clip) h.0)
+        (number_of progress.old.start) (number_of progress.new.start)
         buf.old buf.new (2 * size (tree_by (is_at h.0) scene.trees)) steps.old steps.new }
 {
     let tree = shown.store.tree();
     let Some(seen) = visit(shown, clip, h, steps) else {
         return;
     };
-    paint_next(shown, buf, seen, h, start, text, steps);
+    paint_next(shown, buf, seen, h, progress, steps);
     for child in tree.children(h) {
-        paint_tree(shown, buf, seen.visible, child, start, text, steps);
+        paint_tree(shown, buf, seen.visible, child, progress, steps);
     }
-    paint_next_bars(shown, buf, seen.visible, h, *start, steps);
+    paint_next_bars(shown, buf, seen.visible, h, progress.start, steps);
 }
 
-/// Paints an object by itself where it is seen, once `start` waits for none but it.
+/// Paints an object by itself where it is seen, once painting begins with it or began before.
 fn paint_next<L: Ledger>(
     shown: &Shown,
     buf: &mut DrawBuf,
     seen: SeenObject,
     h: Handle,
-    start: &mut Option<Handle>,
-    text: &mut ArrayVec<u8, 1000>,
+    progress: &mut Progress,
     steps: &mut Steps<L>,
 )
     requires valid { IsValid (scene_of shown.now.store.now) }
     requires stands { StandsAt (scene_of shown.now.store.now) h.0 (rect_of seen.place) }
     ensures { let scene = scene_of shown.now.store.now in
-        PaintsMet scene (seen_so scene (rect_of seen.visible) h.0 ∷ []) (number_of start.old) (number_of start.new)
+        PaintsMet scene (seen_so scene (rect_of seen.visible) h.0 ∷ [])
+        (number_of progress.old.start) (number_of progress.new.start)
         buf.old buf.new 0 steps.old steps.new }
 {
-    if !has_begun(start, h) {
+    if !has_begun(&mut progress.start, h) {
         return;
     }
     if !seen.visible.meet(buf.area()).is_empty() {
-        paint_object(shown, buf, seen.visible, seen.place, h, text, steps);
+        paint_object(shown, buf, seen, h, &mut progress.text, steps);
     }
 }
 
@@ -165,34 +172,22 @@ fn has_begun(start: &mut Option<Handle>, h: Handle) -> bool
 pub(crate) fn paint_object<L: Ledger>(
     shown: &Shown,
     buf: &mut DrawBuf,
-    visible: Area,
-    place: Area,
+    seen: SeenObject,
     h: Handle,
     text: &mut ArrayVec<u8, 1000>,
     steps: &mut Steps<L>,
 )
     requires valid { IsValid (scene_of shown.now.store.now) }
-    requires there { is_there (scene_of shown.now.store.now) h.0 ≡ true }
-    requires place { place_of (scene_of shown.now.store.now) h.0 ≡ Some (rect_of place) }
-    requires near { IsNear (rect_of place) }
-    requires narrow { width_of (rect_of place) ≤ 8191 }
+    requires stands { StandsAt (scene_of shown.now.store.now) h.0 (rect_of seen.place) }
     ensures painted { Paints buf.old buf.new
-        (painted_object (scene_of shown.now.store.now) (rect_of visible) h.0) }
+        (painted_object (scene_of shown.now.store.now) (rect_of seen.visible) h.0) }
     ensures steps { steps.new ≤ steps.old
         + object_steps (scene_of shown.now.store.now) (size_of buf.old.area) h.0 }
 {
     let store = shown.store;
     let look = shown.places.paint_look(store, h, text);
-    let items = items(&look, place);
-    paint_items(
-        buf,
-        visible,
-        items.as_slice(),
-        store.fonts(),
-        store.images(),
-        look.text,
-        steps,
-    );
+    let items = items(&look, seen.place);
+    paint_items(buf, seen.visible, items.as_slice(), store, look.text, steps);
 }
 
 /// Paints the bars of an object where they are seen.

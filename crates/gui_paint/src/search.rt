@@ -29,29 +29,37 @@ impl<'a> Shown<'a> {
     {
         let clip = panel(self);
         let screen = self.store.active();
-        let mut text = ArrayVec::new();
-        let mut last = None;
-        find_cover(self, clip, screen, area, &mut last, &mut text, steps);
-        find_cover(self, clip, TOP_LAYER, area, &mut last, &mut text, steps);
-        find_cover(self, clip, SYSTEM_LAYER, area, &mut last, &mut text, steps);
-        last
+        let mut search = Search {
+            last: None,
+            text: ArrayVec::new(),
+        };
+        find_cover(self, clip, screen, area, &mut search, steps);
+        find_cover(self, clip, TOP_LAYER, area, &mut search, steps);
+        find_cover(self, clip, SYSTEM_LAYER, area, &mut search, steps);
+        search.last
     }
 }
 
-/// Makes `last` the last object that covers an area among one and all below it, if one does. The clip is what
-/// is seen of its parent, and `text` is room for a text.
+/// The last object that was found, if one was, and room for a text.
+#[derive(Drop)]
+struct Search {
+    last: Option<Handle>,
+    text: ArrayVec<u8, 1000>,
+}
+
+/// Finds the last object that covers an area among one and all below it, if one does. The clip is what is seen
+/// of its parent.
 fn find_cover<L: Ledger>(
     shown: &Shown,
     clip: Area,
     h: Handle,
     part: Area,
-    last: &mut Option<Handle>,
-    text: &mut ArrayVec<u8, 1000>,
+    search: &mut Search,
     steps: &mut Steps<L>,
 )
     ensures last { let scene = scene_of shown.now.store.now in
-        number_of last.new
-        ≡ fold (remembered scene (rect_of part)) (number_of last.old) (tree_walk scene (rect_of clip) h.0) }
+        number_of search.new.last ≡ fold (remembered scene (rect_of part)) (number_of search.old.last)
+        (tree_walk scene (rect_of clip) h.0) }
     ensures steps { steps.new
         ≤ steps.old + size (tree_by (is_at h.0) (scene_of shown.now.store.now).trees) }
 {
@@ -59,29 +67,22 @@ fn find_cover<L: Ledger>(
     let Some(seen) = visit(shown, clip, h, steps) else {
         return;
     };
-    remember(shown, seen, h, part, last, text);
+    remember(shown, seen, h, part, search);
     for child in tree.children(h) {
-        find_cover(shown, seen.visible, child, part, last, text, steps);
+        find_cover(shown, seen.visible, child, part, search, steps);
     }
 }
 
-/// Makes `last` an object that is seen so, where it covers an area.
-fn remember(
-    shown: &Shown,
-    seen: SeenObject,
-    h: Handle,
-    part: Area,
-    last: &mut Option<Handle>,
-    text: &mut ArrayVec<u8, 1000>,
-)
+/// Finds an object that is seen so, where it covers an area.
+fn remember(shown: &Shown, seen: SeenObject, h: Handle, part: Area, search: &mut Search)
     requires valid { IsValid (scene_of shown.now.store.now) }
     requires stands { StandsAt (scene_of shown.now.store.now) h.0 (rect_of seen.place) }
     ensures { let scene = scene_of shown.now.store.now in
-        number_of last.new ≡ remembered scene (rect_of part) (number_of last.old)
+        number_of search.new.last ≡ remembered scene (rect_of part) (number_of search.old.last)
         (seen_so scene (rect_of seen.visible) h.0) }
 {
-    if is_cover(shown, seen, h, part, text) {
-        *last = Some(h);
+    if is_cover(shown, seen, h, part, &mut search.text) {
+        search.last = Some(h);
     }
 }
 

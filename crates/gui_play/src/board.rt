@@ -41,7 +41,6 @@ use std::sync::ledger::Ledger;
 
 /// What the rules read and change: a scene with its places, the areas that are pending, the handlers, the
 /// focus groups, the animations, the time and the input devices, and how the log goes in this step.
-#[derive(Drop)]
 pub struct Board {
     pub(crate) canvas: Canvas,
     damage: Damage<Grid>,
@@ -55,6 +54,21 @@ pub struct Board {
     ghost sized: { AreSized handlers groups anims (scene_in canvas).limits },
 }
 
+impl Drop for Board {
+    /// Lets go of all that it holds. Who owns one calls this, where each field by itself would be dear to prove.
+    fn drop(self) {
+        let Board {
+            canvas: _,
+            damage: _,
+            handlers: _,
+            groups: _,
+            anims: _,
+            inputs: _,
+            scribe: _,
+        } = self;
+    }
+}
+
 impl Board {
     ghost use Rattle.gui_play.specs.Boards.{machine_of, pending_of, stage, Quiet, IsFresh, IsOutcome};
 
@@ -65,13 +79,14 @@ impl Board {
         ensures machine { IfOk result (λ board. machine_of board ≡ first_machine (bounds_of limits.now)) }
         ensures whole { IfOk result (λ board. (pending_of board).areas ≡ (pending_of board).panel ∷ []) }
     {
+        let handlers = Handlers::open(alloc, limits.handlers)?;
+        let groups = Groups::open(alloc, limits.groups, limits.objects)?;
+        let anims = Anims::open(alloc, limits.anims)?;
+        // The canvas comes last, since a way out on which it is let go is dear to prove.
         let canvas = Canvas::open(alloc, limits)?;
         let panel = panel_area(limits);
         let grid = Grid::new(limits.block, panel);
         let damage = Damage::new(panel, grid);
-        let handlers = Handlers::open(alloc, limits.handlers)?;
-        let groups = Groups::open(alloc, limits.groups, limits.objects)?;
-        let anims = Anims::open(alloc, limits.anims)?;
         Ok(Board {
             canvas,
             damage,

@@ -28,11 +28,20 @@ pub struct Node<T> {
 /// A list of values for each bucket, numbered from 0 on, in slots that all buckets share.
 ///
 /// A contract sees the lists by bucket, how many more values fit, and the number of slots.
-#[derive(Drop)]
 pub struct Buckets<T> {
     slots: Slab<Node<T>>,
     // The first slot of each bucket.
     firsts: Vec<u32>,
+}
+
+impl<T: Drop> Drop for Buckets<T> {
+    /// Lets go of all that it holds. Who owns one calls this, where each field by itself would be dear to prove.
+    fn drop(self) {
+        let Buckets {
+            slots: _,
+            firsts: _,
+        } = self;
+    }
 }
 
 impl<T> Model for Buckets<T> {

@@ -324,7 +324,7 @@ module _ (color : ℤ → ℤ → Rgb565) (old : Stage) (h : IsSound old) where
       let rest : IsAtRest old = record { pending = was; drawn = none; coming = still } in
       subst (λ (t : Stage). PumpsAt color old t Idle) (stage_of (stage s p e) r old.pending k.refresher (k.pending ∙ same)) (record {
         step = record { pending = was; drawn = none; coming = still; same = refl };
-        keeps = record { can = h.can; sizes = refl; panel = record { told = λ t. t; frames = refl; present_faults = refl; flush_faults = omega arith }; agrees = λ t. t; sends = inl (record { sizes = omega arith; counts = omega arith }) };
+        keeps = record { can = h.can; sizes = refl; panel = record { told = λ t. t; frames = refl; present_faults = refl; flush_faults = omega arith; turn = refl }; agrees = λ t. t; sends = inl (record { sizes = omega arith; counts = omega arith }) };
         leaves = record { rest = rest; free = omega (arith, full); faults = refl; shows = shows_at_rest color old rest };
         pumping = (refl, rest_of old rest);
         counts = counts_none old r old.pending refl;

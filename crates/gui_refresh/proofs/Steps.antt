@@ -51,6 +51,7 @@ panel_more a b c h k =
       frames = k.frames ∙ h.frames;
       present_faults = k.present_faults ∙ h.present_faults;
       flush_faults = omega arith;
+      turn = k.turn ∙ h.turn;
     }
 
 pub quiet_more : (color : ℤ → ℤ → Rgb565) (a b c : Stage) → Quiet color a b → Quiet color b c → Quiet color a c
@@ -127,8 +128,8 @@ panel_is now can = rw (can.width, can.height) refl
 pub drawn_inside : (now : Stage) (buf : Buffer) → IsSound now → now.refresher.drawn ≡ Some buf → is_within (area_of now.panel) buf.area ≡ true
 drawn_inside now buf h was = subst (λ (p : Rect). is_within p buf.area ≡ true) (sym (panel_is now h.can)) (h.refresher.drawn buf was).inside
 
-keeps_panel : (p q : PanelState) (R : List Rgb565 → List Rgb565 → Type 0) → KeepsTelling p.shows q.shows R → q.frames ≡ p.frames → q.present_faults ≡ p.present_faults → p.flush_faults ≤ q.flush_faults → KeepsPanel p q
-keeps_panel p q R shows frames present later = record { told = keeps_telling-some p.shows q.shows R shows; frames = frames; present_faults = present; flush_faults = later }
+keeps_panel : (p q : PanelState) (R : List Rgb565 → List Rgb565 → Type 0) → KeepsTelling p.shows q.shows R → q.frames ≡ p.frames → q.present_faults ≡ p.present_faults → p.flush_faults ≤ q.flush_faults → q.turn ≡ p.turn → KeepsPanel p q
+keeps_panel p q R shows frames present later turn = record { told = keeps_telling-some p.shows q.shows R shows; frames = frames; present_faults = present; flush_faults = later; turn = turn }
 
 -- agreement with the panel after a step, by what the step does to what is shown
 agrees_on : (color : ℤ → ℤ → Rgb565) (p q : PanelState) (R : List Rgb565 → List Rgb565 → Type 0) (a b : List Rect) (d e f g : Option Buffer) → area_of q ≡ area_of p → KeepsTelling p.shows q.shows R →
@@ -143,7 +144,7 @@ quiet_joined color r p d e can joins =
     record {
       can = record { width = can.width; height = can.height; limit = can.limit; block = can.block; area = joins.panel ∙ can.area; started = can.started; coming = can.coming };
       sizes = refl;
-      panel = record { told = λ t. t; frames = refl; present_faults = refl; flush_faults = omega arith };
+      panel = record { told = λ t. t; frames = refl; present_faults = refl; flush_faults = omega arith; turn = refl };
       agrees = if_told p.shows _ _ (λ colors. agrees_more (area_of p) color d.areas e.areas r.drawn p.coming colors keeps.covers);
       amount = omega arith;
       counts = keeps.fewer;
@@ -176,7 +177,7 @@ module _ (color : ℤ → ℤ → Rgb565) (r : Refreshing) (p : PanelState) (d :
           coming = for_none (λ b. b.limit ≡ r.sizes.limit) q.coming gone;
         };
         sizes = refl;
-        panel = keeps_panel p q _ a.shows (ap (λ (s : PanelState). s.frames) a.is) (ap (λ (s : PanelState). s.present_faults) a.is) (omega (arith, ap (λ (s : PanelState). s.flush_faults) a.is));
+        panel = keeps_panel p q _ a.shows (ap (λ (s : PanelState). s.frames) a.is) (ap (λ (s : PanelState). s.present_faults) a.is) (omega (arith, ap (λ (s : PanelState). s.flush_faults) a.is)) (ap (λ (s : PanelState). s.turn) a.is);
         agrees = agrees_on color p q _ d.areas d.areas r.drawn p.coming r.drawn q.coming same a.shows (λ x y s k.
             subst (λ (c : Option Buffer). Agreed d.areas r.drawn c y) (sym gone)
             (agrees_arrived (area_of p) color d.areas r.drawn buf x y s (subst (λ (c : Option Buffer). Agreed d.areas r.drawn c x) a.was k)));
@@ -202,7 +203,7 @@ module _ (color : ℤ → ℤ → Rgb565) (r : Refreshing) (p : PanelState) (d :
           coming = λ b e. h.can.coming b (sym on ∙ e);
         };
         sizes = refl;
-        panel = keeps_panel p q _ shows (ap (λ (s : PanelState). s.frames) a.is) (ap (λ (s : PanelState). s.present_faults) a.is) (omega (arith, ap (λ (s : PanelState). s.flush_faults) a.is));
+        panel = keeps_panel p q _ shows (ap (λ (s : PanelState). s.frames) a.is) (ap (λ (s : PanelState). s.present_faults) a.is) (omega (arith, ap (λ (s : PanelState). s.flush_faults) a.is)) (ap (λ (s : PanelState). s.turn) a.is);
         agrees = agrees_on color p q _ d.areas d.areas r.drawn p.coming r.drawn q.coming same shows (λ x y s k.
             subst (λ (c : Option Buffer). Agreed d.areas r.drawn c y) (sym (on ∙ was))
             (agrees_waiting (area_of p) color d.areas r.drawn buf x y s (subst (λ (c : Option Buffer). Agreed d.areas r.drawn c x) was k)));
@@ -227,7 +228,7 @@ module _ (color : ℤ → ℤ → Rgb565) (r : Refreshing) (p : PanelState) (d :
           coming = for_one (λ b. b.limit ≡ r.sizes.limit) q.coming buf a.coming (h.refresher.drawn buf was).limit;
         };
         sizes = refl;
-        panel = keeps_panel p q _ s.shows (ap (λ (t : PanelState). t.frames) s.is) (ap (λ (t : PanelState). t.present_faults) s.is) (omega (arith, a.count));
+        panel = keeps_panel p q _ s.shows (ap (λ (t : PanelState). t.frames) s.is) (ap (λ (t : PanelState). t.present_faults) s.is) (omega (arith, a.count)) (ap (λ (t : PanelState). t.turn) s.is);
         agrees = agrees_on color p q _ d.areas d.areas r.drawn p.coming None q.coming same s.shows (λ x y t k.
             subst (λ (c : Option Buffer). Agreed d.areas None c y) (sym a.coming)
             (agrees_started (area_of p) color d.areas buf x y t (subst (λ (c : Option Buffer). Agreed d.areas (Some buf) c x) free (subst (λ (c : Option Buffer). Agreed d.areas c p.coming x) was k))));
@@ -247,7 +248,7 @@ module _ (color : ℤ → ℤ → Rgb565) (r : Refreshing) (p : PanelState) (d :
       (subst (λ (e : Pending). Quiet color old (stage (record r { drawn = Some k.buf; free = s.free }) p e)) (sym k.pending) (record {
         can = record { width = h.can.width; height = h.can.height; limit = h.can.limit; block = h.can.block; area = h.can.area; started = h.can.started; coming = h.can.coming };
         sizes = refl;
-        panel = record { told = λ t. t; frames = refl; present_faults = refl; flush_faults = omega arith };
+        panel = record { told = λ t. t; frames = refl; present_faults = refl; flush_faults = omega arith; turn = refl };
         agrees = if_told p.shows _ _ (λ colors t. agrees_drawn (area_of p) color d.areas left k.buf p.coming colors takes.each k.paints (subst (λ (c : Option Buffer). Agreed d.areas c p.coming colors) none t));
         amount = omega (arith, size_gone r.drawn none);
         counts = omega arith;
@@ -282,7 +283,7 @@ module _ (color : ℤ → ℤ → Rgb565) (r : Refreshing) (p : PanelState) (d :
           coming = for_none (λ b. b.limit ≡ r.sizes.limit) q.coming gone;
         };
         sizes = refl;
-        panel = keeps_panel p q _ a.shows (ap (λ (s : PanelState). s.frames) a.is) (ap (λ (s : PanelState). s.present_faults) a.is) (omega (arith, a.count));
+        panel = keeps_panel p q _ a.shows (ap (λ (s : PanelState). s.frames) a.is) (ap (λ (s : PanelState). s.present_faults) a.is) (omega (arith, a.count)) (ap (λ (s : PanelState). s.turn) a.is);
         agrees = agrees_on color p q _ d.areas e.areas r.drawn p.coming r.drawn q.coming same a.shows (λ x y s k.
             subst (λ (c : Option Buffer). Agreed e.areas r.drawn c y) (sym gone)
             (agrees_failed (area_of p) color d.areas e.areas r.drawn buf x y s adds.keeps (covers_area e buf.area adds) (subst (λ (c : Option Buffer). Agreed d.areas r.drawn c x) a.was k)));
@@ -307,7 +308,7 @@ module _ (color : ℤ → ℤ → Rgb565) (r : Refreshing) (p : PanelState) (d :
           coming = for_none (λ b. b.limit ≡ r.sizes.limit) q.coming a.coming;
         };
         sizes = refl;
-        panel = keeps_panel p q _ s.shows (ap (λ (t : PanelState). t.frames) s.is) (ap (λ (t : PanelState). t.present_faults) s.is) (omega (arith, a.count));
+        panel = keeps_panel p q _ s.shows (ap (λ (t : PanelState). t.frames) s.is) (ap (λ (t : PanelState). t.present_faults) s.is) (omega (arith, a.count)) (ap (λ (t : PanelState). t.turn) s.is);
         agrees = agrees_on color p q _ d.areas e.areas r.drawn p.coming None q.coming same s.shows (λ x y t k.
             subst (λ (c : Option Buffer). Agreed e.areas None c y) (sym a.coming)
             (agrees_unstarted (area_of p) color d.areas e.areas buf x y t adds.keeps (covers_area e buf.area adds)

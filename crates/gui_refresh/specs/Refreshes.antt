@@ -23,6 +23,7 @@ pub record KeepsPanel (old new : PanelState) : Type 0 where
   pub frames : new.frames ≡ old.frames
   pub present_faults : new.present_faults ≡ old.present_faults
   pub flush_faults : old.flush_faults ≤ new.flush_faults
+  pub turn : new.turn ≡ old.turn
 
 -- What was sent and is still to be sent is no more than what was, and a slice for each start or transfer that
 -- failed. The list grew by one area at most for each.

@@ -29,7 +29,6 @@ use std::sync::ledger::Ledger;
 
 /// Two buffers that slices of a picture are painted into, for a panel of some sizes and blocks. One may be
 /// drawn and wait while the other is in flight.
-#[derive(Drop)]
 pub struct Refresher {
     width: u32,
     height: u32,
@@ -38,6 +37,21 @@ pub struct Refresher {
     spares: Spares,
     drawn: Option<DrawBuf>,
     started: bool,
+}
+
+impl Drop for Refresher {
+    /// Lets go of all that it holds. Who owns one calls this, where each field by itself would be dear to prove.
+    fn drop(self) {
+        let Refresher {
+            width: _,
+            height: _,
+            limit: _,
+            block: _,
+            spares: _,
+            drawn: _,
+            started: _,
+        } = self;
+    }
 }
 
 impl Model for Refresher {

@@ -20,12 +20,18 @@ use std::marker::Model;
 /// A contract sees the row of each handle as a scene shows it, beside the bytes of its text, and how many
 /// chunks are free for texts. It sees no name of a text: a row keeps one, and no two rows the same, but for
 /// that of the empty text.
-#[derive(Drop)]
 pub struct RowTable {
     // By handle.
     rows: Table<Row>,
     // Those that the rows name.
     texts: Chains,
+}
+
+impl Drop for RowTable {
+    /// Lets go of all that it holds. Who owns one calls this, where each field by itself would be dear to prove.
+    fn drop(self) {
+        let RowTable { rows: _, texts: _ } = self;
+    }
 }
 
 impl Model for RowTable {

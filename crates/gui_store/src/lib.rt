@@ -10,7 +10,9 @@ mod range;
 mod setter;
 mod store;
 mod styling;
+mod subject;
 
 pub use gui_base::{Align, Flow, Kind, Length, Part, Placing, Prop};
 pub use scene_defs::{Change, Row, Text};
 pub use store::Store;
+pub use subject::subject_of;

@@ -51,7 +51,6 @@ const FIRST_SCREEN: Handle = Handle(3);
 
 /// A scene: the tree of its objects, a row and a text for each, their styles, the fonts and images, the
 /// active screen and the limits.
-#[derive(Drop)]
 pub struct Store {
     tree: Tree,
     // Those of the objects of the tree, by handle.
@@ -71,6 +70,21 @@ pub struct Store {
       active = active.0;
       limits = bounds_of limits;
     }) },
+}
+
+impl Drop for Store {
+    /// Lets go of all that it holds. Who owns one calls this, where each field by itself would be dear to prove.
+    fn drop(self) {
+        let Store {
+            tree: _,
+            rows: _,
+            styles: _,
+            fonts: _,
+            images: _,
+            active: _,
+            limits: _,
+        } = self;
+    }
 }
 
 /// Takes out the rows of these handles, and gives back the chunks of their texts.

@@ -48,7 +48,6 @@ const NO_SELECTOR: Selector = Selector {
 /// from an object, by the number of all uses of its style. A look-up
 /// takes time by the uses of the object, and by the entries of the property alone: those of the object and of
 /// the styles that it uses. Others are passed over where they share a bucket.
-#[derive(Drop)]
 pub struct Styles {
     // The styles that are there, by number.
     made: Table<()>,
@@ -56,6 +55,17 @@ pub struct Styles {
     entries: Entries,
     // By handle and by style.
     uses: Uses,
+}
+
+impl Drop for Styles {
+    /// Lets go of all that it holds. Who owns one calls this, where each field by itself would be dear to prove.
+    fn drop(self) {
+        let Styles {
+            made: _,
+            entries: _,
+            uses: _,
+        } = self;
+    }
 }
 
 impl Model for Styles {

@@ -27,6 +27,10 @@ covers_is scene part n e at =
     ∙ (ap (λ (is : List Item). if e.is_bars then false else (sees_all (visible scene e.h.0) part && list_any (hides part) is)) at.known.items
     ∙ ap (λ (one : Entry). is_cover scene part (seen_entry scene one)) (sym (at.entry (own 0))))
 
+-- bars cover nothing
+pub bars_cover_nothing : (scene : Scene) (part : Rect) (e : Entry) → e.is_bars ≡ true → false ≡ is_cover scene part (seen_entry scene e)
+bars_cover_nothing scene part e is = sym (ap (λ (b : Bool). if b then false else (sees_all (visible scene e.handle) part && list_any (hides part) (items scene e.handle))) is)
+
 -- An entry that is seen there is painted as its object, or as the bars of that.
 module _ (scene : Scene) (e : ShownEntry) (area : Rect) (seen : visible scene e.h.0 ≡ Some area) where
   pub paints_own : (old new : Buffer) → e.is_bars ≡ false → Paints old new (painted_object scene area e.h.0) → Paints old new (painted_entry scene (entry_of e))

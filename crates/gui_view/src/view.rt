@@ -82,10 +82,13 @@ fn covers_at<L: Ledger>(canvas: &Canvas, n: usize, part: Area, steps: &mut Steps
         result ≡ is_cover scene (rect_of part) (seen_entry scene (get_or (entries scene) n (own 0))) }
     ensures steps { steps.new ≤ steps.old + asked_steps (get_or (entries (scene_in canvas.now)) n (own 0)) }
 {
-    let Some(entry) = canvas.entry_at(n) else {
+    if canvas.is_bars_at(n) {
         return false;
-    };
-    covers_by(&entry, part, steps)
+    }
+    match canvas.entry_at(n) {
+        Some(entry) => covers_by(&entry, part, steps),
+        None => false,
+    }
 }
 
 /// Whether an entry covers an area, by what is known of it.

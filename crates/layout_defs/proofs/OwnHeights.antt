@@ -48,7 +48,7 @@ kids_width-but Free box kids = rw list-map-map refl
 kids_width-but Across box kids = rw list-map-map refl
 kids_width-but Down box kids = rw list-map-map refl
 
-natural_width-but : (box : Box) (kids : List Wide) → natural_width (but_height box) (map but_height_wide kids) ≡ natural_width box kids
+pub natural_width-but : (box : Box) (kids : List Wide) → natural_width (but_height box) (map but_height_wide kids) ≡ natural_width box kids
 natural_width-but box kids = rw (taking_part-map wide_box but_height_wide (λ k. refl) kids, kids_width-but (course_of box.flow) box (taking_part wide_box kids)) refl
 
 pub natural_widths_ask_none : NaturalWidthsAskNone
@@ -67,7 +67,7 @@ kid_widths_by-but Down box room kids = list-map-map (width_in room) but_height_w
 kid_widths_by-but Across box room kids =
     rw (row_widths-but box room kids) (dealt-map wide_box but_height_wide (λ k. refl) (width_in room) (λ k. refl) kids (row_widths box room kids))
 
-kid_widths-but : (box : Box) (width : ℕ) (kids : List Wide) → kid_widths (but_height box) width (map but_height_wide kids) ≡ kid_widths box width kids
+pub kid_widths-but : (box : Box) (width : ℕ) (kids : List Wide) → kid_widths (but_height box) width (map but_height_wide kids) ≡ kid_widths box width kids
 kid_widths-but box width kids = kid_widths_by-but (course_of box.flow) box (inner box.across width) kids
 
 pub widths_ask_none : WidthsAskNone
@@ -82,7 +82,7 @@ kids_height-fixed Free box width room kids = rw list-map-map refl
 kids_height-fixed Across box width room kids = rw list-map-map refl
 kids_height-fixed Down box width room kids = rw list-map-map refl
 
-natural_height-fixed : (box : Box) (width : ℕ) (kids : List Tall) → natural_height (fixed_at width box) width (map fixed_tall kids) ≡ natural_height box width kids
+pub natural_height-fixed : (box : Box) (width : ℕ) (kids : List Tall) → natural_height (fixed_at width box) width (map fixed_tall kids) ≡ natural_height box width kids
 natural_height-fixed box width kids =
     rw (taking_part-map tall_box fixed_tall (λ k. refl) kids, kids_height-fixed (course_of box.flow) box width (inner box.across width) (taking_part tall_box kids)) refl
 
@@ -108,18 +108,18 @@ flat_slots-but tall slot kids =
     rw (taking_part-map tall_box but_height_tall (λ k. refl) kids, flow_slots-but tall.box room (taking_part tall_box kids))
     (dealt-map tall_box but_height_tall (λ k. refl) (own_slot room) (λ k. refl) kids (flow_slots tall.box room (taking_part tall_box kids)))
 
-far_end-but : (end : Tall → Slot → ℕ) → ((kid : Tall) (slot : Slot) → end (but_height_tall kid) slot ≡ end kid slot) → (kids : List Tall) (slots : List Slot) → far_end end (map but_height_tall kids) slots ≡ far_end end kids slots
+pub far_end-but : (end : Tall → Slot → ℕ) → ((kid : Tall) (slot : Slot) → end (but_height_tall kid) slot ≡ end kid slot) → (kids : List Tall) (slots : List Slot) → far_end end (map but_height_tall kids) slots ≡ far_end end kids slots
 far_end-but end alike [] slots = refl
 far_end-but end alike (kid ∷ kids) [] = refl
 far_end-but end alike (kid ∷ kids) (slot ∷ slots) = rw (far_end-but end alike kids slots, alike kid slot) refl
 
-kid_reach-but : (tall : Tall) (slot : Slot) (kids : List Tall) → kid_reach (but_height_tall tall) slot (map but_height_tall kids) ≡ kid_reach tall slot kids
+pub kid_reach-but : (tall : Tall) (slot : Slot) (kids : List Tall) → kid_reach (but_height_tall tall) slot (map but_height_tall kids) ≡ kid_reach tall slot kids
 kid_reach-but tall slot kids =
     let room = room_of tall slot in
     let flat = flat_slots tall slot kids in
     rw (flat_slots-but tall slot kids, far_end-but (end_across room) (λ kid s. refl) kids flat, far_end-but (end_down room) (λ kid s. refl) kids flat) refl
 
-kid_slots-but : (tall : Tall) (slot : Slot) (kids : List Tall) → kid_slots (but_height_tall tall) slot (map but_height_tall kids) ≡ kid_slots tall slot kids
+pub kid_slots-but : (tall : Tall) (slot : Slot) (kids : List Tall) → kid_slots (but_height_tall tall) slot (map but_height_tall kids) ≡ kid_slots tall slot kids
 kid_slots-but tall slot kids =
     ap (λ reach. map (moved (offset_of tall.box reach)) (flat_slots (but_height_tall tall) slot (map but_height_tall kids))) (kid_reach-but tall slot kids)
     ∙ ap (map (moved (offset_of tall.box (kid_reach tall slot kids)))) (flat_slots-but tall slot kids)

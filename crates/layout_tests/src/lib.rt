@@ -2,6 +2,4 @@
 #![tactic(auto)]
 
 #[cfg(test)]
-mod flex;
-#[cfg(test)]
 mod places;

@@ -1,5 +1,5 @@
 //! The places of a store's objects, worked out by hand.
-ghost use Rattle.std.specs.Prelude.{◌≡◌, true, IfOk};
+ghost use Rattle.std.specs.Prelude.{◌≡◌};
 ghost use Rattle.scene_defs.specs.Valid.{IsChange};
 ghost use Rattle.gui_store.specs.Views.{scene_of};
 ghost use Rattle.gui_layout.specs.Solved.{AreSolved, limits_of};
@@ -13,52 +13,48 @@ use std::test::Fail;
 
 const SCREEN: Handle = Handle(3);
 
-/// Whether a new object is a plain one.
-fn is_plain(change: &Change) -> bool
-    ensures { result ≡ true → IsChange change.now }
-{
-    match change {
-        Change::New(_, _, kind) => *kind == Kind::Obj,
-        _ => true,
-    }
-}
-
 /// Makes the change, or tells that it is refused.
 fn make(store: &mut Store, change: &Change) -> Result<(), &'static str>
+    requires { IsChange change.now }
     ensures { (scene_of store.new).limits ≡ (scene_of store.old).limits }
 {
-    if !is_plain(change) {
-        return Err("no plain object");
-    }
     if store.apply(change).is_err() {
         return Err("refused");
     }
     Ok(())
 }
 
-/// A store after these changes.
-fn changed(alloc: Global, limits: &Limits, changes: &[Change]) -> Result<Store, &'static str> {
-    let Ok(mut store) = Store::open(alloc, limits) else {
-        return Err("no memory");
-    };
-    for change in changes {
-        make(&mut store, change)?;
-    }
-    Ok(store)
+/// Makes an object of this size.
+fn add(
+    store: &mut Store,
+    h: u16,
+    parent: Handle,
+    width: Length,
+    height: Length,
+) -> Result<(), &'static str>
+    ensures { (scene_of store.new).limits ≡ (scene_of store.old).limits }
+{
+    make(store, &Change::New(Handle(h), parent, Kind::Obj))?;
+    make(store, &Change::Size(Handle(h), width, height))
 }
 
-/// The places of its objects.
-fn solved(alloc: Global, store: &Store) -> Result<Places, &'static str>
-    ensures solved { IfOk result (λ places. AreSolved places (scene_of store.now)) }
-    ensures limits { IfOk result (λ places. limits_of places ≡ (scene_of store.now).limits) }
+/// Makes one of so many pixels.
+fn add_box(
+    store: &mut Store,
+    h: u16,
+    parent: Handle,
+    width: u16,
+    height: u16,
+) -> Result<(), &'static str>
+    ensures { (scene_of store.new).limits ≡ (scene_of store.old).limits }
 {
-    match Places::open(alloc, store.limits()) {
-        Ok(mut places) => {
-            places.solve_all(store);
-            Ok(places)
-        }
-        Err(_) => Err("no memory"),
-    }
+    add(
+        store,
+        h,
+        parent,
+        Length::Pixels(width),
+        Length::Pixels(height),
+    )
 }
 
 /// The corners of an area.
@@ -81,54 +77,85 @@ fn stand(places: &Places, wanted: &[(u16, [i32; 4])]) -> bool {
     true
 }
 
-const GROWING: [Change; 10] = [
-    Change::Flex(SCREEN, Flow::Row),
-    Change::New(Handle(10), SCREEN, Kind::Obj),
-    Change::Size(Handle(10), Length::Pixels(1), Length::Pixels(1)),
-    Change::Grow(Handle(10), 1),
-    Change::New(Handle(11), SCREEN, Kind::Obj),
-    Change::Size(Handle(11), Length::Pixels(1), Length::Pixels(1)),
-    Change::Grow(Handle(11), 1),
-    Change::New(Handle(12), SCREEN, Kind::Obj),
-    Change::Size(Handle(12), Length::Pixels(1), Length::Pixels(1)),
-    Change::Grow(Handle(12), 1),
-];
+/// Whether an object has no place.
+fn is_nowhere(places: &Places, h: u16) -> bool {
+    places.place(Handle(h)).is_none()
+}
 
-#[test]
-fn children_that_grow_share_a_row(rt: HostRuntime) -> Result<(), Fail> {
-    let store = changed(rt.alloc(), &Limits::with_sizes(10, 2, 2), &GROWING)?;
-    let places = solved(rt.alloc(), &store)?;
+/// Makes a child of the screen that grows.
+fn add_growing(store: &mut Store, h: u16) -> Result<(), &'static str>
+    ensures { (scene_of store.new).limits ≡ (scene_of store.old).limits }
+{
+    add_box(store, h, SCREEN, 1, 1)?;
+    make(store, &Change::Grow(Handle(h), 1))
+}
+
+/// Makes a row of three children that grow.
+fn make_growing(store: &mut Store) -> Result<(), &'static str>
+    ensures { (scene_of store.new).limits ≡ (scene_of store.old).limits }
+{
+    make(store, &Change::Flex(SCREEN, Flow::Row))?;
+    add_growing(store, 10)?;
+    add_growing(store, 11)?;
+    add_growing(store, 12)
+}
+
+/// Whether they share it.
+fn growing_share(store: &mut Store, places: &mut Places) -> Result<bool, &'static str>
+    requires { limits_of places.old ≡ (scene_of store.old).limits }
+{
+    make_growing(store)?;
+    places.solve_all(store);
     let wanted = [
         (3, [0, 0, 9, 1]),
         (10, [0, 0, 2, 0]),
         (11, [3, 0, 5, 0]),
         (12, [6, 0, 9, 0]),
     ];
-    assert!(rt; stand(&places, &wanted));
-    assert!(rt; places.place(Handle(13)).is_none());
-    Ok(())
+    Ok(stand(places, &wanted) && is_nowhere(places, 13))
 }
 
-const HIDDEN: [Change; 13] = [
-    Change::New(Handle(10), SCREEN, Kind::Obj),
-    Change::Size(Handle(10), Length::Content, Length::Content),
-    Change::Flex(Handle(10), Flow::Row),
-    Change::New(Handle(11), Handle(10), Kind::Obj),
-    Change::Size(Handle(11), Length::Pixels(4), Length::Pixels(2)),
-    Change::New(Handle(12), Handle(10), Kind::Obj),
-    Change::Size(Handle(12), Length::Pixels(20), Length::Pixels(20)),
-    Change::Pos(Handle(12), 5, 1),
-    Change::Flag(Handle(12), Flag::Hidden, true),
-    Change::New(Handle(13), Handle(12), Kind::Obj),
-    Change::Size(Handle(13), Length::Pixels(2), Length::Pixels(2)),
-    Change::New(Handle(14), Handle(10), Kind::Obj),
-    Change::Size(Handle(14), Length::Pixels(3), Length::Pixels(3)),
-];
+/// Makes a row that is as large as its children.
+fn add_row(store: &mut Store, h: u16) -> Result<(), &'static str>
+    ensures { (scene_of store.new).limits ≡ (scene_of store.old).limits }
+{
+    add(store, h, SCREEN, Length::Content, Length::Content)?;
+    make(store, &Change::Flex(Handle(h), Flow::Row))
+}
 
-#[test]
-fn hidden_children_take_no_part(rt: HostRuntime) -> Result<(), Fail> {
-    let store = changed(rt.alloc(), &Limits::with_sizes(64, 32, 8), &HIDDEN)?;
-    let places = solved(rt.alloc(), &store)?;
+/// Makes a hidden object of 20 by 20 pixels, which has a place of its own.
+fn add_hidden(store: &mut Store, h: u16, parent: Handle) -> Result<(), &'static str>
+    ensures { (scene_of store.new).limits ≡ (scene_of store.old).limits }
+{
+    add_box(store, h, parent, 20, 20)?;
+    make(store, &Change::Pos(Handle(h), 5, 1))?;
+    make(store, &Change::Flag(Handle(h), Flag::Hidden, true))
+}
+
+/// Makes a row of three children, the second of which is hidden and has a child.
+fn make_hiding(store: &mut Store) -> Result<(), &'static str>
+    ensures { (scene_of store.new).limits ≡ (scene_of store.old).limits }
+{
+    add_row(store, 10)?;
+    add_box(store, 11, Handle(10), 4, 2)?;
+    add_hidden(store, 12, Handle(10))?;
+    add_box(store, 13, Handle(12), 2, 2)?;
+    add_box(store, 14, Handle(10), 3, 3)
+}
+
+/// Whether nothing of an object is visible.
+fn is_unseen(store: &Store, places: &Places, h: u16) -> bool
+    requires { AreSolved places.now (scene_of store.now) }
+{
+    places.visible(store, Handle(h)).is_empty()
+}
+
+/// Whether the hidden one takes no part in the row.
+fn hidden_takes_no_part(store: &mut Store, places: &mut Places) -> Result<bool, &'static str>
+    requires { limits_of places.old ≡ (scene_of store.old).limits }
+{
+    make_hiding(store)?;
+    places.solve_all(store);
     let wanted = [
         (10, [0, 0, 6, 2]),
         (11, [0, 0, 3, 1]),
@@ -136,22 +163,25 @@ fn hidden_children_take_no_part(rt: HostRuntime) -> Result<(), Fail> {
         (13, [5, 1, 6, 2]),
         (14, [4, 0, 6, 2]),
     ];
-    assert!(rt; stand(&places, &wanted));
-    for h in [12, 13, 99] {
-        assert!(rt; places.visible(&store, Handle(h)).is_empty());
-    }
+    let unseen = is_unseen(store, places, 12)
+        && is_unseen(store, places, 13)
+        && is_unseen(store, places, 99);
+    Ok(unseen && stand(places, &wanted))
+}
+
+/// Makes two children of the screen, the first with a child, and finds their places.
+fn solve_three(store: &mut Store, places: &mut Places) -> Result<(), &'static str>
+    requires { limits_of places.old ≡ (scene_of store.old).limits }
+    ensures { limits_of places.new ≡ (scene_of store.new).limits }
+{
+    add_box(store, 10, SCREEN, 4, 4)?;
+    make(store, &Change::New(Handle(11), Handle(10), Kind::Obj))?;
+    add_box(store, 12, SCREEN, 5, 5)?;
+    places.solve_all(store);
     Ok(())
 }
 
-const REMOVED: [Change; 5] = [
-    Change::New(Handle(10), SCREEN, Kind::Obj),
-    Change::Size(Handle(10), Length::Pixels(4), Length::Pixels(4)),
-    Change::New(Handle(11), Handle(10), Kind::Obj),
-    Change::New(Handle(12), SCREEN, Kind::Obj),
-    Change::Size(Handle(12), Length::Pixels(5), Length::Pixels(5)),
-];
-
-/// Removes two objects and makes one.
+/// Removes two of the three, and makes another.
 fn remove(store: &mut Store) -> Result<(), &'static str>
     ensures { (scene_of store.new).limits ≡ (scene_of store.old).limits }
 {
@@ -159,41 +189,68 @@ fn remove(store: &mut Store) -> Result<(), &'static str>
     make(store, &Change::New(Handle(13), SCREEN, Kind::Obj))
 }
 
-/// Places that were solved again after that.
-fn solved_again(alloc: Global) -> Result<Places, &'static str> {
-    let mut store = changed(alloc, &Limits::with_sizes(16, 8, 8), &REMOVED)?;
-    let mut places = solved(alloc, &store)?;
-    remove(&mut store)?;
-    places.solve_all(&store);
-    Ok(places)
+/// Whether those that were removed have no place after all were found again.
+fn removed_have_no_place(store: &mut Store, places: &mut Places) -> Result<bool, &'static str>
+    requires { limits_of places.old ≡ (scene_of store.old).limits }
+{
+    solve_three(store, places)?;
+    remove(store)?;
+    places.solve_all(store);
+    let wanted = [(12, [0, 0, 4, 4]), (13, [0, 0, 99, 49])];
+    Ok(is_nowhere(places, 11) && stand(places, &wanted))
 }
 
-#[test]
-fn removed_objects_have_no_place(rt: HostRuntime) -> Result<(), Fail> {
-    let places = solved_again(rt.alloc())?;
-    assert!(rt; places.place(Handle(11)).is_none());
-    assert!(rt; stand(&places, &[(12, [0, 0, 4, 4]), (13, [0, 0, 99, 49])]));
-    Ok(())
-}
-
-/// Places that were settled after that, with no marks.
-fn settled_unmarked(alloc: Global) -> Result<Places, &'static str> {
-    let mut store = changed(alloc, &Limits::with_sizes(16, 8, 8), &REMOVED)?;
-    let mut places = solved(alloc, &store)?;
-    remove(&mut store)?;
+/// Settles places with no marks.
+fn settle_unmarked(alloc: Global, store: &Store, places: &mut Places) -> Result<(), &'static str>
+    requires { limits_of places.old ≡ (scene_of store.now).limits }
+{
     let Ok(mut marks) = Marks::open(alloc, 4) else {
         return Err("no memory");
     };
-    places.settle(&store, &mut marks);
-    Ok(places)
+    places.settle(store, &mut marks);
+    Ok(())
 }
 
-#[test]
-fn with_no_marks_all_places_stay(rt: HostRuntime) -> Result<(), Fail> {
-    let places = settled_unmarked(rt.alloc())?;
-    assert!(rt; stand(&places, &[(10, [0, 0, 3, 3]), (12, [0, 0, 4, 4])]));
-    assert!(rt; places.place(Handle(13)).is_none());
-    Ok(())
+/// Whether all places stay where that is done after objects were removed.
+fn unmarked_stay(
+    alloc: Global,
+    store: &mut Store,
+    places: &mut Places,
+) -> Result<bool, &'static str>
+    requires { limits_of places.old ≡ (scene_of store.old).limits }
+{
+    solve_three(store, places)?;
+    remove(store)?;
+    settle_unmarked(alloc, store, places)?;
+    let wanted = [(10, [0, 0, 3, 3]), (12, [0, 0, 4, 4])];
+    Ok(is_nowhere(places, 13) && stand(places, &wanted))
+}
+
+/// Makes an object of 20 by 20 pixels that is scrolled.
+fn add_scrolled(store: &mut Store, h: u16) -> Result<(), &'static str>
+    ensures { (scene_of store.new).limits ≡ (scene_of store.old).limits }
+{
+    add_box(store, h, SCREEN, 20, 20)?;
+    make(store, &Change::Flag(Handle(h), Flag::Scrollable, true))?;
+    make(store, &Change::Scroll(Handle(h), 7, 15))
+}
+
+/// Makes a small object beside its parent's corner.
+fn add_beside(store: &mut Store, h: u16, parent: Handle) -> Result<(), &'static str>
+    ensures { (scene_of store.new).limits ≡ (scene_of store.old).limits }
+{
+    add_box(store, h, parent, 8, 4)?;
+    make(store, &Change::Pos(Handle(h), 15, -6))
+}
+
+/// Makes a scrolled object with two children, the first with a child that is wider.
+fn make_scrolled(store: &mut Store) -> Result<(), &'static str>
+    ensures { (scene_of store.new).limits ≡ (scene_of store.old).limits }
+{
+    add_scrolled(store, 10)?;
+    add_box(store, 11, Handle(10), 10, 60)?;
+    add_box(store, 12, Handle(11), 30, 4)?;
+    add_beside(store, 13, Handle(10))
 }
 
 /// Whether the children of an object reach so far, and are moved so far.
@@ -201,35 +258,91 @@ fn scrolls(places: &Places, h: u16, reach: (u32, u32), offset: (u32, u32)) -> bo
     places.reach(Handle(h)) == Some(reach) && places.offset(Handle(h)) == Some(offset)
 }
 
-const SCROLLED: [Change; 11] = [
-    Change::New(Handle(10), SCREEN, Kind::Obj),
-    Change::Size(Handle(10), Length::Pixels(20), Length::Pixels(20)),
-    Change::Flag(Handle(10), Flag::Scrollable, true),
-    Change::Scroll(Handle(10), 7, 15),
-    Change::New(Handle(11), Handle(10), Kind::Obj),
-    Change::Size(Handle(11), Length::Pixels(10), Length::Pixels(60)),
-    Change::New(Handle(12), Handle(11), Kind::Obj),
-    Change::Size(Handle(12), Length::Pixels(30), Length::Pixels(4)),
-    Change::New(Handle(13), Handle(10), Kind::Obj),
-    Change::Size(Handle(13), Length::Pixels(8), Length::Pixels(4)),
-    Change::Pos(Handle(13), 15, -6),
-];
-
-#[test]
-fn a_scrolled_parent_moves_its_children(rt: HostRuntime) -> Result<(), Fail> {
-    let store = changed(rt.alloc(), &Limits::with_sizes(20, 20, 8), &SCROLLED)?;
-    let places = solved(rt.alloc(), &store)?;
+/// Whether the scrolled one moves its children. What is not scrollable reaches too, and moves nothing.
+fn scrolled_moves_children(store: &mut Store, places: &mut Places) -> Result<bool, &'static str>
+    requires { limits_of places.old ≡ (scene_of store.old).limits }
+{
+    make_scrolled(store)?;
+    places.solve_all(store);
     let wanted = [
         (10, [0, 0, 19, 19]),
         (11, [-3, -15, 6, 44]),
         (12, [-3, -15, 26, -12]),
         (13, [12, -21, 19, -18]),
     ];
-    assert!(rt; stand(&places, &wanted));
-    assert!(rt; scrolls(&places, 10, (3, 40), (3, 15)));
-    // what is not scrollable reaches too, and moves nothing
-    assert!(rt; scrolls(&places, 11, (20, 0), (0, 0)));
-    assert!(rt; scrolls(&places, 12, (0, 0), (0, 0)));
-    assert!(rt; places.reach(Handle(99)).is_none() && places.offset(Handle(99)).is_none());
+    let moved = scrolls(places, 10, (3, 40), (3, 15))
+        && scrolls(places, 11, (20, 0), (0, 0))
+        && scrolls(places, 12, (0, 0), (0, 0));
+    let none = places.reach(Handle(99)).is_none() && places.offset(Handle(99)).is_none();
+    Ok(moved && none && stand(places, &wanted))
+}
+
+/// What is tried with a store and its places.
+#[derive(Clone, Copy)]
+enum Case {
+    Growing,
+    Hiding,
+    Removed,
+    Unmarked,
+    Scrolled,
+}
+
+/// Whether all is as it should be in a case.
+fn holds(
+    alloc: Global,
+    store: &mut Store,
+    places: &mut Places,
+    case: Case,
+) -> Result<bool, &'static str>
+    requires { limits_of places.old ≡ (scene_of store.old).limits }
+{
+    match case {
+        Case::Growing => growing_share(store, places),
+        Case::Hiding => hidden_takes_no_part(store, places),
+        Case::Removed => removed_have_no_place(store, places),
+        Case::Unmarked => unmarked_stay(alloc, store, places),
+        Case::Scrolled => scrolled_moves_children(store, places),
+    }
+}
+
+/// The same on a panel of this size. No other function owns a store or places, and this one has one way out for
+/// both, since to let them go takes most of a proof's time.
+fn holds_on(alloc: Global, limits: &Limits, case: Case) -> Result<bool, &'static str> {
+    match Store::open(alloc, limits) {
+        Ok(mut store) => match Places::open(alloc, limits) {
+            Ok(mut places) => holds(alloc, &mut store, &mut places, case),
+            Err(_) => Err("no memory"),
+        },
+        Err(_) => Err("no memory"),
+    }
+}
+
+#[test]
+fn children_that_grow_share_a_row(rt: HostRuntime) -> Result<(), Fail> {
+    assert!(rt; holds_on(rt.alloc(), &Limits::with_sizes(10, 2, 2), Case::Growing)?);
+    Ok(())
+}
+
+#[test]
+fn hidden_children_take_no_part(rt: HostRuntime) -> Result<(), Fail> {
+    assert!(rt; holds_on(rt.alloc(), &Limits::with_sizes(64, 32, 8), Case::Hiding)?);
+    Ok(())
+}
+
+#[test]
+fn removed_objects_have_no_place(rt: HostRuntime) -> Result<(), Fail> {
+    assert!(rt; holds_on(rt.alloc(), &Limits::with_sizes(16, 8, 8), Case::Removed)?);
+    Ok(())
+}
+
+#[test]
+fn with_no_marks_all_places_stay(rt: HostRuntime) -> Result<(), Fail> {
+    assert!(rt; holds_on(rt.alloc(), &Limits::with_sizes(16, 8, 8), Case::Unmarked)?);
+    Ok(())
+}
+
+#[test]
+fn a_scrolled_parent_moves_its_children(rt: HostRuntime) -> Result<(), Fail> {
+    assert!(rt; holds_on(rt.alloc(), &Limits::with_sizes(20, 20, 8), Case::Scrolled)?);
     Ok(())
 }

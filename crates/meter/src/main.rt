@@ -75,8 +75,8 @@ fn run(rt: &HostRuntime) -> Result<(), Fault> {
     let alloc = rt.alloc();
     // No handler says anything, so the log needs no room.
     let mut log = MemSink::with_capacity(alloc, 0, Vec::new(alloc))?;
-    let mut gui = Gui::open(alloc, &Limits::with_sizes(64, 24, 8))?;
     let mut panel = opened_panel(alloc, StdSink::new(rt.stdout()))?;
+    let mut gui = Gui::open(alloc, &Limits::with_sizes(64, 24, 8))?;
     show_numbers(rt, &mut gui, &mut log, &mut panel)
 }
 

@@ -4,6 +4,7 @@ pub mod Feeding
 pub mod Opening
 pub mod Picturing
 pub mod Polling
+pub mod Quarters
 pub mod Remembering
 pub mod Rows
 pub mod Sizing

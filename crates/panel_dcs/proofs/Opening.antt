@@ -110,12 +110,12 @@ opened_is t limit old mid new coming row can none o f =
     }
 
 module _ {Frames Link : Type 0} (frames : Frames → SinkState) (bus : Link → BusState) where
-  pub dcs_opens : (old now : DcsState Frames Link) (mid : BusState) (link : Link) (t : Turned) (limit : ℕ) (block : BlockSize) → old ≡ now → old.coming ≡ None → Opens (bus old.bus) mid (columns_of t) (pages_of t) → Feeds mid (bus link) opening_bytes → (bus link).faults ≡ mid.faults →
+  pub dcs_opens : (old now : DcsState Frames Link) (mid : BusState) (link : Link) (t : Turned) (limit : ℕ) (block : BlockSize) → old ≡ now → old.turned.turn ≡ t.turn → old.coming ≡ None → Opens (bus old.bus) mid (columns_of t) (pages_of t) → Feeds mid (bus link) opening_bytes → (bus link).faults ≡ mid.faults →
       panel.Opens (dcs_state frames bus now) (dcs_state frames bus (record old { bus = link; turned = t; limit = limit; block = block })) t.width t.height limit block
-  dcs_opens old now mid link t limit block same none o f kept =
+  dcs_opens old now mid link t limit block same stays none o f kept =
       subst (λ (d : DcsState Frames Link). panel.Opens (dcs_state frames bus d) (dcs_state frames bus (record old { bus = link; turned = t; limit = limit; block = block })) t.width t.height limit block) same
       (record {
-        is = ap (λ (n : ℕ). let p : PanelState = record (dcs_state frames bus (record old { bus = link; turned = t; limit = limit; block = block })) { flush_faults = n } in p) (kept ∙ ap (λ (s : BusState). s.faults) o.is) ∙ rw none refl;
+        is = ap (λ (n : ℕ). let p : PanelState = record (dcs_state frames bus (record old { bus = link; turned = t; limit = limit; block = block })) { flush_faults = n } in p) (kept ∙ ap (λ (s : BusState). s.faults) o.is) ∙ rw (none, stays) refl;
         shows = told_len old.turned t (bus old.bus).chip (bus link).chip (open_tells (bus old.bus) mid (bus link) _ _ _ o f);
       })
 

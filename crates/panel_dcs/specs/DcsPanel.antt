@@ -17,7 +17,7 @@ use Rattle.gui_edge.specs.declared.panel.Polled.TheVariants.{Ready, NotYet, Fail
 use Rattle.panel_dcs.specs.Controller.{Chip}
 use Rattle.panel_dcs.specs.Polls.{Sides, rows_of, next_row, IsSending}
 use Rattle.panel_dcs.specs.declared.turn.Turn.{Turn}
-use Rattle.panel_dcs.specs.Turning.{Turned, columns_of, pages_of, turned_area, shown, device}
+use Rattle.panel_dcs.specs.Turning.{Turned, quarters_of, columns_of, pages_of, turned_area, shown, device}
 
 pub record DcsState (Frames Link : Type 0) : Type 0 where
   pub frames : Frames
@@ -76,6 +76,7 @@ dcs_state frames bus panel = record {
   height = panel.turned.height;
   limit = panel.limit;
   block = panel.block;
+  turn = quarters_of panel.turned.turn;
   shows = option_map (λ chip. shown panel.turned chip.memory) (bus panel.bus).chip;
   frames = (frames panel.frames).held;
   coming = panel.coming;

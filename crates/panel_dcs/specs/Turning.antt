@@ -15,6 +15,13 @@ use Rattle.panel_dcs.specs.declared.turn.Turn.TheVariants.{Upright, Quarter, Hal
 abbrev pub quarters : ℕ → Turn
 quarters n = if n == 0 then Upright else if n == 1 then Quarter else if n == 2 then Half else ThreeQuarters
 
+-- the number of a turn
+abbrev pub quarters_of : Turn → ℕ
+quarters_of Upright = 0
+quarters_of Quarter = 1
+quarters_of Half = 2
+quarters_of ThreeQuarters = 3
+
 -- a panel of these sizes
 pub record Turned : Type 0 where
   pub turn : Turn

@@ -125,36 +125,29 @@ impl Sight {
         let block = block_of(width, height, area);
         let mut news = no_pixel();
         for line in 0..block.lines {
-            news = self.join_news(
-                news,
-                width,
-                colors,
-                block.left,
-                block.columns,
-                block.top + line,
-            );
+            news = self.join_news(news, width, colors, block, block.top + line);
         }
         news
     }
 
-    /// An area with the pixels that are news of a line, from a column on.
+    /// An area with the pixels of a line that are news, in the columns of a block.
     fn join_news(
         &self,
         mut news: Area,
         width: u16,
         colors: &[Rgb565],
-        left: u16,
-        columns: u16,
+        block: Block,
         line: u16,
     ) -> Area
         requires known { length self.now.sent ≡ length colors.now }
-        requires wide { left + columns ≤ width }
+        requires wide { block.left + block.columns ≤ width }
         requires high { line * width + width ≤ length colors.now }
         ensures { rect_of result ≡
-            with_untold width self.now colors.now (line * width + left) columns (rect_of news) }
+            with_untold width self.now colors.now (line * width + block.left) block.columns (rect_of news) }
     {
+        let left = block.left;
         let first = usize::from(line) * usize::from(width) + usize::from(left);
-        for column in 0..columns {
+        for column in 0..block.columns {
             let place = first + usize::from(column);
             if !self.was_told(place, colors[place]) {
                 let (x, y) = (i32::from(left + column), i32::from(line));

@@ -67,38 +67,7 @@ new_goes o ids n p kind r i d = record {
 
 goes : (o : Forest Node) (ids : List ℕ) (c : Change) → is_in_range c ≡ true → AreAll o ids → is_other ids c ≡ true → Went o ids c
 goes o ids (change.New n p kind) r i d = new_goes o ids n p kind r i d
-goes o ids (change.Size a0 a1 a2) r i d = record { new = refl; all = i }
-goes o ids (change.Pos a0 a1 a2) r i d = record { new = refl; all = i }
-goes o ids (change.Flag a0 a1 a2) r i d = record { new = refl; all = i }
-goes o ids (change.Text a0 a1) r i d = record { new = refl; all = i }
-goes o ids (change.Local a0 a1 a2 a3) r i d = record { new = refl; all = i }
-goes o ids (change.Align a0 a1 a2 a3) r i d = record { new = refl; all = i }
-goes o ids (change.Flex a0 a1) r i d = record { new = refl; all = i }
-goes o ids (change.Places a0 a1 a2 a3) r i d = record { new = refl; all = i }
-goes o ids (change.Scroll a0 a1 a2) r i d = record { new = refl; all = i }
-goes o ids (change.Grow a0 a1) r i d = record { new = refl; all = i }
-goes o ids (change.State a0 a1 a2) r i d = record { new = refl; all = i }
-goes o ids (change.Value a0 a1) r i d = record { new = refl; all = i }
-goes o ids (change.Range a0 a1 a2) r i d = record { new = refl; all = i }
-goes o ids (change.Source a0 a1) r i d = record { new = refl; all = i }
-goes o ids (change.Screen a0) r i d = record { new = refl; all = i }
-goes o ids (change.Delete a0) r i d = record { new = refl; all = i }
-goes o ids (change.Parent a0 a1) r i d = record { new = refl; all = i }
-goes o ids (change.Index a0 a1) r i d = record { new = refl; all = i }
-goes o ids (change.Front a0) r i d = record { new = refl; all = i }
-goes o ids (change.Back a0) r i d = record { new = refl; all = i }
-goes o ids (change.Load a0) r i d = record { new = refl; all = i }
-goes o ids (change.Style a0) r i d = record { new = refl; all = i }
-goes o ids (change.Set a0 a1 a2) r i d = record { new = refl; all = i }
-goes o ids (change.Unset a0 a1) r i d = record { new = refl; all = i }
-goes o ids (change.Use a0 a1 a2) r i d = record { new = refl; all = i }
-goes o ids (change.Unuse a0 a1 a2) r i d = record { new = refl; all = i }
-goes o ids (change.Unlocal a0 a1 a2) r i d = record { new = refl; all = i }
-goes o ids (change.Font a0 a1 a2) r i d = record { new = refl; all = i }
-goes o ids (change.Glyph a0 a1 a2 a3) r i d = record { new = refl; all = i }
-goes o ids (change.EndFont a0) r i d = record { new = refl; all = i }
-goes o ids (change.Image a0 a1 a2 a3) r i d = record { new = refl; all = i }
-goes o ids (change.ImageRow a0 a1 a2) r i d = record { new = refl; all = i }
+goes o ids c r i d = record { new = refl; all = i }
 
 all_go : (o : Forest Node) (ids : List ℕ) (cs : List Change) → list_all is_in_range cs ≡ true → AreAll o ids → are_other ids cs ≡ true → all_new o cs ≡ true
 all_go o ids [] r i d = refl

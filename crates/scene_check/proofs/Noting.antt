@@ -41,34 +41,7 @@ quiet ids h kind (change.Pos g x y) e = record { kept = refl; other = refl }
 quiet ids h kind (change.Flag g flag on) e = record { kept = refl; other = refl }
 quiet ids h kind (change.Text g text) e = record { kept = refl; other = refl }
 quiet ids h kind (change.Local g selector prop value) e = record { kept = refl; other = refl }
-quiet ids h kind (change.New n p other) e = cc
-quiet ids h kind (change.Align a0 a1 a2 a3) e = cc
-quiet ids h kind (change.Flex a0 a1) e = cc
-quiet ids h kind (change.Places a0 a1 a2 a3) e = cc
-quiet ids h kind (change.Scroll a0 a1 a2) e = cc
-quiet ids h kind (change.Grow a0 a1) e = cc
-quiet ids h kind (change.State a0 a1 a2) e = cc
-quiet ids h kind (change.Value a0 a1) e = cc
-quiet ids h kind (change.Range a0 a1 a2) e = cc
-quiet ids h kind (change.Source a0 a1) e = cc
-quiet ids h kind (change.Screen a0) e = cc
-quiet ids h kind (change.Delete a0) e = cc
-quiet ids h kind (change.Parent a0 a1) e = cc
-quiet ids h kind (change.Index a0 a1) e = cc
-quiet ids h kind (change.Front a0) e = cc
-quiet ids h kind (change.Back a0) e = cc
-quiet ids h kind (change.Load a0) e = cc
-quiet ids h kind (change.Style a0) e = cc
-quiet ids h kind (change.Set a0 a1 a2) e = cc
-quiet ids h kind (change.Unset a0 a1) e = cc
-quiet ids h kind (change.Use a0 a1 a2) e = cc
-quiet ids h kind (change.Unuse a0 a1 a2) e = cc
-quiet ids h kind (change.Unlocal a0 a1 a2) e = cc
-quiet ids h kind (change.Font a0 a1 a2) e = cc
-quiet ids h kind (change.Glyph a0 a1 a2 a3) e = cc
-quiet ids h kind (change.EndFont a0) e = cc
-quiet ids h kind (change.Image a0 a1 a2 a3) e = cc
-quiet ids h kind (change.ImageRow a0 a1 a2) e = cc
+quiet ids h kind c e = cc
 
 pub record AllQuiet (ids : List ℕ) (cs : List Change) : Type 0 where
   pub kept : all_ids ids cs ≡ ids

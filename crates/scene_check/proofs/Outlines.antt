@@ -134,33 +134,7 @@ steps scene (change.Pos h x y) r t = place_steps scene h x y r t
 steps scene (change.Flag h flag on) r t = flag_steps scene h flag on r t
 steps scene (change.Text h text) r t = text_steps scene h text r t
 steps scene (change.Local h selector prop value) r t = local_steps scene h selector prop value r t
-steps scene (change.Align h align x y) r t = cc
-steps scene (change.Flex h flow) r t = cc
-steps scene (change.Places h main cross track) r t = cc
-steps scene (change.Scroll h x y) r t = cc
-steps scene (change.Grow h n) r t = cc
-steps scene (change.State h s on) r t = cc
-steps scene (change.Value h n) r t = cc
-steps scene (change.Range h low high) r t = cc
-steps scene (change.Source h i) r t = cc
-steps scene (change.Screen n) r t = cc
-steps scene (change.Delete h) r t = cc
-steps scene (change.Parent h p) r t = cc
-steps scene (change.Index h n) r t = cc
-steps scene (change.Front h) r t = cc
-steps scene (change.Back h) r t = cc
-steps scene (change.Load h) r t = cc
-steps scene (change.Style s) r t = cc
-steps scene (change.Set s prop value) r t = cc
-steps scene (change.Unset s prop) r t = cc
-steps scene (change.Use h s sel) r t = cc
-steps scene (change.Unuse h s sel) r t = cc
-steps scene (change.Unlocal h sel prop) r t = cc
-steps scene (change.Font f height advance) r t = cc
-steps scene (change.Glyph f code shape bytes) r t = cc
-steps scene (change.EndFont f) r t = cc
-steps scene (change.Image i format w h) r t = cc
-steps scene (change.ImageRow i y bytes) r t = cc
+steps scene change r t = cc
 
 -- Changes one after another.
 

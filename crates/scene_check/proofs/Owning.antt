@@ -157,24 +157,7 @@ font_zero d word n e f =
 
 own_font : (p : Prop) (d : Data) (word : Word) (n : ℤ) → value_word p d ≡ Some word → Says (value_for p) word n → (not (same_prop p prop.TextFont) || int_eq n (pos 0)) ≡ true
 own_font prop.TextFont d word n e f = rw (font_zero d word n e f) refl
-own_font prop.BgColor d word n e f = refl
-own_font prop.BgOpa d word n e f = refl
-own_font prop.BorderColor d word n e f = refl
-own_font prop.BorderOpa d word n e f = refl
-own_font prop.BorderWidth d word n e f = refl
-own_font prop.PadTop d word n e f = refl
-own_font prop.PadBottom d word n e f = refl
-own_font prop.PadLeft d word n e f = refl
-own_font prop.PadRight d word n e f = refl
-own_font prop.PadRow d word n e f = refl
-own_font prop.PadColumn d word n e f = refl
-own_font prop.ImgRecolor d word n e f = refl
-own_font prop.ImgOpa d word n e f = refl
-own_font prop.TextColor d word n e f = refl
-own_font prop.TextOpa d word n e f = refl
-own_font prop.TextAlign d word n e f = refl
-own_font prop.TextLetterSpace d word n e f = refl
-own_font prop.TextLineSpace d word n e f = refl
+own_font p d word n e f = refl
 
 -- Values of lists of two.
 

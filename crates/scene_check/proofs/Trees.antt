@@ -71,33 +71,7 @@ kept_once o (change.Pos g x y) k h e = record { there = e; depth = refl }
 kept_once o (change.Flag g flag on) k h e = record { there = e; depth = refl }
 kept_once o (change.Text g text) k h e = record { there = e; depth = refl }
 kept_once o (change.Local g selector prop value) k h e = record { there = e; depth = refl }
-kept_once o (change.Align g align x y) k is e = cc
-kept_once o (change.Flex g flow) k is e = cc
-kept_once o (change.Places g main cross track) k is e = cc
-kept_once o (change.Scroll g x y) k is e = cc
-kept_once o (change.Grow g n) k is e = cc
-kept_once o (change.State g s on) k is e = cc
-kept_once o (change.Value g n) k is e = cc
-kept_once o (change.Range g low high) k is e = cc
-kept_once o (change.Source g i) k is e = cc
-kept_once o (change.Screen n) k is e = cc
-kept_once o (change.Delete g) k is e = cc
-kept_once o (change.Parent g p) k is e = cc
-kept_once o (change.Index g n) k is e = cc
-kept_once o (change.Front g) k is e = cc
-kept_once o (change.Back g) k is e = cc
-kept_once o (change.Load g) k is e = cc
-kept_once o (change.Style s) k is e = cc
-kept_once o (change.Set s prop value) k is e = cc
-kept_once o (change.Unset s prop) k is e = cc
-kept_once o (change.Use g s sel) k is e = cc
-kept_once o (change.Unuse g s sel) k is e = cc
-kept_once o (change.Unlocal g sel prop) k is e = cc
-kept_once o (change.Font f height advance) k is e = cc
-kept_once o (change.Glyph f code shape bytes) k is e = cc
-kept_once o (change.EndFont f) k is e = cc
-kept_once o (change.Image i format w g) k is e = cc
-kept_once o (change.ImageRow i y bytes) k is e = cc
+kept_once o c k is e = cc
 
 kept : (o : Forest Node) (cs : List Change) (k : ℕ) → all_there o cs ≡ true → has_node o k ≡ true → Kept o (outlined o cs) k
 kept o [] k h e = record { there = e; depth = refl }
@@ -131,34 +105,7 @@ owned o h kind (change.Text g text) k t e =
 owned o h kind (change.Local g selector prop value) k t e =
     let two = both_hold (g.0 == h) _ e in
     record { there = rw (named_there o g.0 h two.0 k) two.1; same = refl }
-owned o h kind (change.New n p other) k t e = cc
-owned o h kind (change.Align a0 a1 a2 a3) k t e = cc
-owned o h kind (change.Flex a0 a1) k t e = cc
-owned o h kind (change.Places a0 a1 a2 a3) k t e = cc
-owned o h kind (change.Scroll a0 a1 a2) k t e = cc
-owned o h kind (change.Grow a0 a1) k t e = cc
-owned o h kind (change.State a0 a1 a2) k t e = cc
-owned o h kind (change.Value a0 a1) k t e = cc
-owned o h kind (change.Range a0 a1 a2) k t e = cc
-owned o h kind (change.Source a0 a1) k t e = cc
-owned o h kind (change.Screen a0) k t e = cc
-owned o h kind (change.Delete a0) k t e = cc
-owned o h kind (change.Parent a0 a1) k t e = cc
-owned o h kind (change.Index a0 a1) k t e = cc
-owned o h kind (change.Front a0) k t e = cc
-owned o h kind (change.Back a0) k t e = cc
-owned o h kind (change.Load a0) k t e = cc
-owned o h kind (change.Style a0) k t e = cc
-owned o h kind (change.Set a0 a1 a2) k t e = cc
-owned o h kind (change.Unset a0 a1) k t e = cc
-owned o h kind (change.Use a0 a1 a2) k t e = cc
-owned o h kind (change.Unuse a0 a1 a2) k t e = cc
-owned o h kind (change.Unlocal a0 a1 a2) k t e = cc
-owned o h kind (change.Font a0 a1 a2) k t e = cc
-owned o h kind (change.Glyph a0 a1 a2 a3) k t e = cc
-owned o h kind (change.EndFont a0) k t e = cc
-owned o h kind (change.Image a0 a1 a2 a3) k t e = cc
-owned o h kind (change.ImageRow a0 a1 a2) k t e = cc
+owned o h kind c k t e = cc
 
 record AllOwned (o : Forest Node) (cs : List Change) : Type 0 where
   there : all_there o cs ≡ true

@@ -34,6 +34,10 @@ pub fn run_dcs<S: Source, L: Sink, F: Sink, B: Bus>(
     // Where no word says a turn, nothing else is answered.
     ensures turn { turn_in (map (λ w. w.now) words.now) ≡ None → result.0 ≡ Status.Usage }
 
+    // The panel is turned as the first word says.
+    ensures turned { result.1.state.turned.turn
+        ≡ quarters (quarters_or_none (turn_in (map (λ w. w.now) words.now))) }
+
     // Where no byte is read, what was handed in stays as it is, and not only what is told of it.
     ensures unread { IfUnstarted result.0 (source.new ≡ source.old) }
     ensures unwritten { IfUnstarted result.0 (log.new ≡ log.old) }

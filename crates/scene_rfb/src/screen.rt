@@ -54,8 +54,9 @@ impl Screen {
     pub fn open(alloc: Global, limits: &Limits) -> Result<Screen, NoMemory>
         ensures { IfOk result (λ screen. ⟦<Screen as Viewed>⟧.machine screen ≡ first_machine (bounds_of limits.now)) }
     {
-        let gui = Gui::open(alloc, limits)?;
+        // The machine comes last, since a way out on which it is let go is dear to prove.
         let panel = opened_panel(alloc, limits)?;
+        let gui = Gui::open(alloc, limits)?;
         Ok(Screen { gui, panel })
     }
 }

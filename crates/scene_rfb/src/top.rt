@@ -23,8 +23,8 @@ fn open(alloc: Global, settings: &Settings) -> Result<(Screen, Talk), NoMemory>
     ensures ms { IfOk result (λ it. it.1.ms ≡ settings.now.ms) }
 {
     let limits = settings.limits;
-    let screen = Screen::open(alloc, &limits)?;
     let sight = Sight::open(alloc, (limits.width * limits.height) as usize)?;
+    let screen = Screen::open(alloc, &limits)?;
     let talk = Talk::new(
         settings.ms,
         limits.width as u16,

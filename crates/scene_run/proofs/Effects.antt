@@ -1,5 +1,5 @@
 -- How effects go on, and what a line does before a write fails.
-use Rattle.std.proofs.Common.{◌≡◌, ◌≤◌, ℕ, List, [], ◌∷◌, ◌++◌, arith, rules, refl, inl, inr, append-nil, Option, Ok, Err}
+use Rattle.std.proofs.Common.{◌≡◌, ◌∙◌, ◌≤◌, ℕ, List, [], ◌∷◌, ◌++◌, arith, rules, refl, inl, inr, append-nil, Option, Ok, Err}
 use Rattle.std.specs.Io.KnownBytes.{Appends}
 use Rattle.std.proofs.KnownBytes.{Appends-trans, Appends-nil}
 use Rattle.std.proofs.lemmas.Grind.{flat_map-append}
@@ -15,12 +15,20 @@ use Rattle.run_defs.proofs.Runs.{fault_count-append}
 use Rattle.gui_edge.specs.Causes.{Rose}
 use Rattle.gui_edge.specs.Panel.{PanelState}
 use Rattle.gui_edge.specs.Sink.{SinkState, AppendsPrefix}
-use Rattle.scene_run.specs.Effects.{Output, output, Effects, Breaks, BreakCause, WriteFailed}
+use Rattle.scene_run.specs.Effects.{Output, output, PanelKeeps, Effects, Breaks, BreakCause, WriteFailed}
 use Rattle.scene_run.specs.Making.{panel_alone}
 
 -- nothing is a prefix of anything
 pub AppendsPrefix-nothing : (a : Option (List ℕ)) (bytes : List ℕ) → AppendsPrefix a a bytes
 AppendsPrefix-nothing a bytes = record { prefix = []; rest = bytes; whole = refl; grows = Appends-nil a }
+
+keeps_more : {a b c : PanelState} → PanelKeeps a b → PanelKeeps b c → PanelKeeps a c
+keeps_more h k = record {
+  told = λ t. k.told (h.told t);
+  flush_faults = omega (arith, h.flush_faults, k.flush_faults);
+  present_faults = omega (arith, h.present_faults, k.present_faults);
+  turn = k.turn ∙ h.turn;
+}
 
 pub Effects-more : (a b c : Output) (seen : Option Scene) (ts us : List Told) → Effects a b seen ts → Effects b c (last_done seen ts) us → Effects a c seen (ts ++ us)
 Effects-more a b c seen ts us h k = record {
@@ -28,7 +36,7 @@ Effects-more a b c seen ts us h k = record {
     frames = λ t. rw (filter_map-append done_scene ts us, flat_map-append frame_file (done_scenes ts) (done_scenes us)) (Appends-trans _ _ _ _ _ (h.panel.frames t) (k.panel.frames (h.panel.keeps.told t)));
     shown = rw (fold-append (λ (earlier : Option Scene) (t : Told). done_scene t) seen ts us) k.panel.shown;
     faults = omega (arith, fault_count-append ts us, h.panel.faults, k.panel.faults);
-    keeps = search rules;
+    keeps = keeps_more h.panel.keeps k.panel.keeps;
   };
   log = rw (flat_map-append log_lines ts us) (Appends-trans _ _ _ _ _ h.log k.log);
   log_faults = search rules;
@@ -44,6 +52,7 @@ breaks_reply a b p n lines reply prefix rose = record {
   frames = λ t. AppendsPrefix-nothing p.frames [];
   shown = tt;
   faults = omega arith;
+  turn = refl;
   cause = rose;
 }
 
@@ -55,7 +64,7 @@ reply_effects a b p seen n lines reply grows later = record {
     frames = λ t. Appends-nil p.frames;
     shown = tt;
     faults = omega arith;
-    keeps = record { told = λ t. t; flush_faults = omega arith; present_faults = omega arith };
+    keeps = record { told = λ t. t; flush_faults = omega arith; present_faults = omega arith; turn = refl };
   };
   log = rw (append-nil (log_lines (Replied n lines reply))) grows;
   log_faults = later;

@@ -17,6 +17,7 @@ use Rattle.scene_run.specs.Effects.{SinceOpening, WriteFailed}
 use Rattle.scene_run.specs.Headline.{Outside, outside, RunsAs, Headline, IfUnstarted}
 use Rattle.scene_run.specs.Running.{IsStill}
 use Rattle.scene_run.specs.Top.{RunsScene}
+use Rattle.scene_run.proofs.Turned.{runs_turn}
 use Rattle.scene_run.specs.declared.status.Status.{Status}
 use Rattle.scene_run.specs.declared.status.Status.TheVariants.{Usage, ReadFault, WriteFault, PanelFault, NoMemory}
 
@@ -63,6 +64,7 @@ runs_usage words old none closed = record {
   unwritten = refl;
   unsent = not_asked old.output.panel closed;
   unopened = λ e. refl;
+  turn = refl;
   read_fault = λ e. cc;
   write_fault = λ e. cc;
   panel_fault = λ e. cc;
@@ -78,6 +80,7 @@ runs_no_memory words source log old new closed = record {
   unwritten = refl;
   unsent = closed;
   unopened = λ e. cc;
+  turn = ap (λ (p : PanelState). p.turn) closed.is;
   read_fault = λ e. cc;
   write_fault = λ e. cc;
   panel_fault = λ e. cc;
@@ -94,6 +97,7 @@ runs_panel_fault words limits source log old new some closed rose = record {
   unwritten = refl;
   unsent = closed;
   unopened = λ e. cc;
+  turn = ap (λ (p : PanelState). p.turn) closed.is;
   read_fault = λ e. cc;
   write_fault = λ e. cc;
   panel_fault = λ e. rose;
@@ -117,6 +121,7 @@ runs_started words limits first old new status some begins runs started read_fau
   unwritten = unless_started status _ started;
   unsent = unless_started status _ started;
   unopened = λ e. absurd (rw e at started);
+  turn = runs_turn limits.make first old new status runs;
   read_fault = read_fault;
   write_fault = write_fault;
   panel_fault = λ e. absurd (rw e at started);

@@ -8,3 +8,4 @@ pub mod Headlines
 pub mod MadeRuns
 pub mod Owing
 pub mod Pumping
+pub mod Turned

@@ -29,6 +29,7 @@ pump_effects number answer seen old new scene p = record {
     told = p.sends.keeps.told;
     flush_faults = p.sends.keeps.flush_faults;
     present_faults = omega (arith, p.sends.keeps.present_faults);
+    turn = p.sends.keeps.turn;
   };
 }
 

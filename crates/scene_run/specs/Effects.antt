@@ -31,11 +31,12 @@ pub record Output : Type 0 where
 abbrev pub output : SinkState → PanelState → Output
 output log panel = record { log = log; panel = panel }
 
--- a panel goes on telling what it shows, and its counts do not fall
+-- a panel goes on telling what it shows, its counts do not fall, and it stays turned as it was
 pub record PanelKeeps (old new : PanelState) : Type 0 where
   pub told : IsSome old.shows → IsSome new.shows
   pub flush_faults : old.flush_faults ≤ new.flush_faults
   pub present_faults : old.present_faults ≤ new.present_faults
+  pub turn : new.turn ≡ old.turn
 
 -- What the panel got of these told lines. `seen` is the scene that it showed before, where that is known.
 pub record PanelEffects (old new : PanelState) (seen : Option Scene) (ts : List Told) : Type 0 where
@@ -96,6 +97,8 @@ pub record Breaks (old new : Output) (e : Entry) : Type 0 where
   pub shown : IfSome (last_done None (told (e ∷ []) last)) (ShowsScene new.panel)
   -- it faulted only where a start or a transfer failed
   pub faults : old.panel.flush_faults + fault_count (told (e ∷ []) last) ≤ new.panel.flush_faults
+  -- the panel stays turned as it was
+  pub turn : new.panel.turn ≡ old.panel.turn
   -- what failed
   pub cause : BreakCause old new e last
 
@@ -178,4 +181,5 @@ pub record FrameBroke (old new : PanelState) (scene : Scene) : Type 0 where
   pub frames : IsSome old.shows → AppendsPrefix old.frames new.frames (frame_file scene)
   pub faults : old.flush_faults ≤ new.flush_faults
   pub grew : GrewBy old new
+  pub turn : new.turn ≡ old.turn
   pub cause : Rose old.present_faults new.present_faults

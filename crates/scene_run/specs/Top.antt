@@ -26,6 +26,8 @@ pub record RunsScene (words : Option Bounds) (old new : Outside) (status : Statu
   pub unsent : IfUnstarted status (StaysClosed old.output.panel new.output.panel)
   -- where the words are at fault the panel is not even asked
   pub unopened : status ≡ Usage → new.output.panel ≡ old.output.panel
+  -- the panel stays turned as it was
+  pub turn : new.output.panel.turn ≡ old.output.panel.turn
   -- a read fault is answered only where the source's count of faults rose
   pub read_fault : status ≡ ReadFault → Rose old.source.faults new.source.faults
   -- a write fault is answered only where the log's count rose, or the panel's of frames not presented

@@ -13,23 +13,23 @@ use Rattle.gui_change.proofs.Still.{entries-stay, kept, order-stays, others-seen
 use Rattle.gui_change.proofs.edits.see_same.Goals as goal
 
 pub settle_moved-requires-clause-was : goal.settle_moved-requires-clause-was
-settle_moved-requires-clause-was c = kept c.args.places.now c.args.look.now (scene_of c.args.store.now) c.args.change.now c.args.concerned c.requires.was.removed c.requires.was.seen
+settle_moved-requires-clause-was c = kept c.args.places.now c.args.look.now (scene_of c.args.made.now.store.now) c.args.made.now.change.now c.args.made.now.concerned c.requires.was.removed c.requires.was.seen
 
-pub see_changed-requires-clause-solved : goal.see_changed-requires-clause-solved
-see_changed-requires-clause-solved c = c.settle_moved.ensures.settles.settled.solved
+pub invariant_of-after-clause-solved : goal.invariant_of-after-clause-solved
+invariant_of-after-clause-solved c = c.settle_moved.ensures.settles.settled.solved
 
 pub see_changed-requires-clause-order : goal.see_changed-requires-clause-order
 see_changed-requires-clause-order c =
     c.requires.was.seen.shows.order
-    ∙ sym (order-stays c.args.places.now c.args.look.now (scene_of c.args.store.now) c.args.change.now c.args.concerned c.requires.was.removed c.requires.was.seen)
+    ∙ sym (order-stays c.args.places.now c.args.look.now (scene_of c.args.made.now.store.now) c.args.made.now.change.now c.args.made.now.concerned c.requires.was.removed c.requires.was.seen)
 
-pub see_changed-requires-clause-reached : goal.see_changed-requires-clause-reached
-see_changed-requires-clause-reached c = c.settle_moved.ensures.settles.settled.reached
+pub invariant_of-after-clause-reached : goal.invariant_of-after-clause-reached
+invariant_of-after-clause-reached c = c.settle_moved.ensures.settles.settled.reached
 
 pub see_changed-requires-clause-entries : goal.see_changed-requires-clause-entries
 see_changed-requires-clause-entries c =
     c.requires.was.seen.shows.entries
-    ∙ sym (entries-stay c.args.places.now c.args.look.now (scene_of c.args.store.now) c.args.change.now c.args.concerned c.requires.was.removed c.requires.was.seen)
+    ∙ sym (entries-stay c.args.places.now c.args.look.now (scene_of c.args.made.now.store.now) c.args.made.now.change.now c.args.made.now.concerned c.requires.was.removed c.requires.was.seen)
 
 pub see_changed-requires-clause-entries_room : goal.see_changed-requires-clause-entries_room
 see_changed-requires-clause-entries_room c = c.requires.was.seen.shows.entries_room
@@ -38,19 +38,19 @@ pub see_changed-requires-clause-others : goal.see_changed-requires-clause-others
 see_changed-requires-clause-others c k s found out off =
     let old = c.args.places.now in
     let look = c.args.look.now in
-    let scene = scene_of c.args.store.now in
+    let scene = scene_of c.args.made.now.store.now in
     let was = c.requires.was in
     let settles = c.settle_moved.ensures.settles in
-    others-seen old look scene c.args.change.now c.args.concerned was.removed was.seen c.settle_moved.new.places (solved_in c.settle_moved.new.marks) settles.settled settles.stays
-    (c.settle_moved.ensures.boxes (kept old look scene c.args.change.now c.args.concerned was.removed was.seen)) c.settle_moved.ensures.scrolls k s found
+    others-seen old look scene c.args.made.now.change.now c.args.made.now.concerned was.removed was.seen c.settle_moved.new.places (solved_in c.settle_moved.new.marks) settles.settled settles.stays
+    (c.settle_moved.ensures.boxes (kept old look scene c.args.made.now.change.now c.args.made.now.concerned was.removed was.seen)) c.settle_moved.ensures.scrolls k s found
     (subst (λ (us : List Handle). in_trees_at (handles_of scene.trees) us k ≡ false) c.solved.ensures out) off
 
 pub returns-clause-debt : goal.returns-clause-debt
 returns-clause-debt c before shows =
-    let scene = scene_of c.args.store.now in
+    let scene = scene_of c.args.made.now.store.now in
     let look = c.args.look.now in
     let was = c.requires.was in
-    let ordered = order-stays c.args.places.now look scene c.args.change.now c.args.concerned was.removed was.seen in
+    let ordered = order-stays c.args.places.now look scene c.args.made.now.change.now c.args.made.now.concerned was.removed was.seen in
     let same : order scene ≡ order before = ordered ∙ (sym was.seen.shows.order ∙ shows.order) in
     let still = λ (h : ℕ) (i : is_among (order before) h ≡ true). subst (λ (hs : List ℕ). is_among hs h ≡ true) (sym same) i in
-    subst (OwesAll c.args.damage.now c.see_changed.new.damage) (again_is_debt scene.limits.objects (option_map number_of c.args.named) look before scene shows still) c.see_changed.ensures.debt
+    subst (OwesAll c.args.damage.now c.see_changed.new.damage) (again_is_debt scene.limits.objects (option_map number_of c.args.made.now.named) look before scene shows still) c.see_changed.ensures.debt

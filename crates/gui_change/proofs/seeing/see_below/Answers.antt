@@ -10,19 +10,19 @@ use Rattle.gui_change.proofs.seeing.see_below.Goals as goal
 
 pub returns-then-not-has-clause-sees : goal.returns-then-not-has-clause-sees
 returns-then-not-has-clause-sees c =
-    let scene = scene_of c.args.store.now in
+    let scene = scene_of c.args.after.now.store.now in
     let gone : is_there scene c.args.h.0 ≡ false = ap (λ (f : Forest ℕ). has f c.args.h.0) (sym c.tree.ensures.forest) ∙ (sym c.has.ensures ∙ c.if-not-has.true) in
     hidden-again scene (option_map number_of c.args.named) c.args.table.now c.requires.shown c.args.h.0 c.requires.named c.args.damage.now
     (gone-unknown scene c.tree.ensures.valid c.args.h.0 c.args.table.now c.requires.shown gone)
 
 pub returns-then-not-has-clause-all : goal.returns-then-not-has-clause-all
 returns-then-not-has-clause-all c =
-    let scene = scene_of c.args.store.now in
+    let scene = scene_of c.args.after.now.store.now in
     let gone : is_there scene c.args.h.0 ≡ false = ap (λ (f : Forest ℕ). has f c.args.h.0) (sym c.tree.ensures.forest) ∙ (sym c.has.ensures ∙ c.if-not-has.true) in
     gone-below scene c.tree.ensures.valid c.args.h.0 c.args.table.now c.requires.shown gone
 
 pub returns-clause-all : goal.returns-clause-all
 returns-clause-all c k below =
-    let scene = scene_of c.args.store.now in
+    let scene = scene_of c.args.after.now.store.now in
     let there : is_there scene c.args.h.0 ≡ true = ap (λ (f : Forest ℕ). has f c.args.h.0) (sym c.tree.ensures.forest) ∙ (sym c.has.ensures ∙ c.if-not-has.false) in
     c.see_tree.ensures.all k (below-tree scene c.tree.ensures.valid c.args.h.0 there k below)

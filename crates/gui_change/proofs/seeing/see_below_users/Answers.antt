@@ -10,11 +10,11 @@ use Rattle.gui_change.proofs.SeenBelow.{user-below}
 use Rattle.gui_change.proofs.seeing.see_below_users.Goals as goal
 
 pub see_below-requires-clause-shown : goal.see_below-requires-clause-shown
-see_below-requires-clause-shown c = shown-still (scene_of c.args.store.now) c.args.table.now c.loop-h.table c.loop-h.invariant.sees.listing c.requires.shown
+see_below-requires-clause-shown c = shown-still (scene_of c.args.after.now.store.now) c.args.table.now c.loop-h.table c.loop-h.invariant.sees.listing c.requires.shown
 
 pub loop-h-preserved-then-is_below_other : goal.loop-h-preserved-then-is_below_other
 loop-h-preserved-then-is_below_other c =
-    let scene = scene_of c.args.store.now in
+    let scene = scene_of c.args.after.now.store.now in
     let h = c.in-Some.h.now.0 in
     let other : is_below_other scene c.args.style h ≡ true = sym c.is_below_other.ensures ∙ c.if-is_below_other.true in
     record {
@@ -29,7 +29,7 @@ loop-h-preserved-then-is_below_other c =
 
 pub loop-h-preserved : goal.loop-h-preserved
 loop-h-preserved c =
-    let scene = scene_of c.args.store.now in
+    let scene = scene_of c.args.after.now.store.now in
     let h = c.in-Some.h.now.0 in
     record {
       room = c.see_below.ensures.room;
@@ -43,4 +43,4 @@ loop-h-preserved c =
 
 pub returns-clause-all : goal.returns-clause-all
 returns-clause-all c k =
-    user-below (scene_of c.args.store.now) c.args.style c.tree-tree.ensures.valid.trees.once k (λ u uses top below. c.loop-h.invariant.done u k uses top below (ap (list_any (is_handle u)) c.in_default.ensures.0))
+    user-below (scene_of c.args.after.now.store.now) c.args.style c.tree-tree.ensures.valid.trees.once k (λ u uses top below. c.loop-h.invariant.done u k uses top below (ap (list_any (is_handle u)) c.in_default.ensures.0))

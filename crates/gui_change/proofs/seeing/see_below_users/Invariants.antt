@@ -8,7 +8,7 @@ use Rattle.gui_change.proofs.seeing.see_below_users.Given as goal
 
 abbrev pub invariant-loop-h : goal.invariant-loop-h
 invariant-loop-h l =
-    let scene = scene_of l.store in
+    let scene = scene_of l.after.store.now in
     record {
       room : IsRoom scene.limits.objects l.listed;
       sees : SeesAgain None scene l.fn.table l.table l.fn.damage l.damage;

@@ -11,4 +11,4 @@ pub returns-clause-own : goal.returns-clause-own
 returns-clause-own c k is =
     let h = c.in-Some.h in
     let named : is_named (option_map number_of (Some h)) k ≡ true = subst (λ (o : Option Handle). is_named (option_map number_of o) k ≡ true) c.in-Some.is is in
-    subst (IsSeenIn c.see_one.new.table (scene_of c.args.store.now)) (eqb-true h.0 k named) c.see_one.ensures.own
+    subst (IsSeenIn c.see_one.new.table (scene_of c.args.after.now.store.now)) (eqb-true h.0 k named) c.see_one.ensures.own

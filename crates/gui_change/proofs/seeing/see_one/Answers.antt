@@ -18,7 +18,7 @@ known c = ap is_some (sym c.get.ensures) ∙ (copied-some c.get.result ∙ c.is_
 pub returns-then-is_none-clause-sees : goal.returns-then-is_none-clause-sees
 returns-then-is_none-clause-sees c =
     let d = (goal.at.returns-then-is_none-clause-sees c).After-is_none in
-    hidden-again (scene_of c.args.store.now) (option_map number_of c.args.named) c.args.table.now c.requires.shown c.args.h.0 c.requires.named c.args.damage.now (known d ∙ ap not c.if-is_none.true)
+    hidden-again (scene_of c.args.after.now.store.now) (option_map number_of c.args.named) c.args.table.now c.requires.shown c.args.h.0 c.requires.named c.args.damage.now (known d ∙ ap not c.if-is_none.true)
 
 is-shown : (c : After-is_none) → c.is_none.result ≡ false → is_some (value_at c.args.table.now c.args.h.0) ≡ true
 is-shown c some = known c ∙ ap not some
@@ -26,7 +26,7 @@ is-shown c some = known c ∙ ap not some
 pub see_all_again-requires-clause-there : goal.see_all_again-requires-clause-there
 see_all_again-requires-clause-there c k listed =
     let d = (goal.at.see_all_again-requires-clause-there c).After-is_none in
-    let scene = scene_of c.args.store.now in
+    let scene = scene_of c.args.after.now.store.now in
     let h = c.args.h.0 in
     let there : is_there scene h ≡ true = shown_there scene c.tree-tree.ensures.valid h (sym (shown-has scene c.args.table.now c.requires.shown h) ∙ is-shown d c.if-is_none.false) in
     elim (cases_Bool (eqb h k)) [
@@ -37,7 +37,7 @@ see_all_again-requires-clause-there c k listed =
 pub returns-clause-sees : goal.returns-clause-sees
 returns-clause-sees c =
     let d = (goal.at.returns-clause-sees c).After-is_none in
-    let scene = scene_of c.args.store.now in
+    let scene = scene_of c.args.after.now.store.now in
     let h = c.args.h.0 in
     let one = c.args.h ∷ [] in
     listed-again scene c.tree-tree.ensures.valid (option_map number_of c.args.named) c.args.table.now c.see_all_again.new.table one c.requires.shown

@@ -6,26 +6,17 @@ use Rattle.gui_change.specs.Handles.{number_of}
 use Rattle.gui_change.specs.declared.concerned.Concerned.{Concerned}
 use Rattle.gui_change.proofs.SeenAgain.{shown-still, then-again}
 use Rattle.gui_change.proofs.seeing.see_own.Goals as goal
-use Rattle.gui_change.proofs.seeing.see_own.Goals.{in_default-via-in-Below+else-is_named, in_default-via-in_default}
 
 pub see_concerned-requires-clause-shown : goal.see_concerned-requires-clause-shown
-see_concerned-requires-clause-shown c = shown-still (scene_of c.args.store.now) c.args.table.now c.see_named.new.table c.see_named.ensures.sees.listing c.requires.shown
+see_concerned-requires-clause-shown c = shown-still (scene_of c.args.after.now.store.now) c.args.table.now c.see_named.new.table c.see_named.ensures.sees.listing c.requires.shown
 
 pub returns-in-Below-clause-all : goal.returns-in-Below-clause-all
-returns-in-Below-clause-all c k may = c.see_below.ensures.all k (subst (λ (w : Concerned). may_be (scene_of c.args.store.now) w k ≡ true) c.in-Below.is may)
+returns-in-Below-clause-all c k may = c.see_below.ensures.all k (subst (λ (w : Concerned). may_be (scene_of c.args.after.now.store.now) w k ≡ true) c.in-Below.is may)
 
 pub returns-in_default-clause-sees : goal.returns-in_default-clause-sees
 returns-in_default-clause-sees c =
-    then-again (option_map number_of c.args.named) (scene_of c.args.store.now) c.args.table.now c.see_named.new.table c.see_concerned.new.table c.args.damage.now c.see_named.new.damage c.see_concerned.new.damage
+    then-again (option_map number_of c.args.named) (scene_of c.args.after.now.store.now) c.args.table.now c.see_named.new.table c.see_concerned.new.table c.args.damage.now c.see_named.new.damage c.see_concerned.new.damage
     c.see_named.ensures.sees c.see_concerned.ensures.sees
 
 pub returns-in_default-clause-all : goal.returns-in_default-clause-all
-returns-in_default-clause-all c k may =
-    elim c.in_default.branch [
-      | in_default-via-in-Below+else-is_named w ↦
-          let same : c.args.concerned ≡ c.in_default.concerned = cc in
-          c.see_concerned.ensures.all k (subst (λ (m : Concerned). may_be (scene_of c.args.store.now) m k ≡ true) same may)
-      | in_default-via-in_default w ↦
-          let same : c.args.concerned ≡ c.in_default.concerned = cc in
-          c.see_concerned.ensures.all k (subst (λ (m : Concerned). may_be (scene_of c.args.store.now) m k ≡ true) same may)
-    ]
+returns-in_default-clause-all c k may = c.see_concerned.ensures.all k may

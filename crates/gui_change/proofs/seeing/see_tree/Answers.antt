@@ -24,22 +24,22 @@ use Rattle.gui_change.proofs.seeing.see_tree.Goals as goal
 use Rattle.gui_change.proofs.seeing.see_tree.Goals.{After-is_none, After-as_slice}
 
 -- whether something is known of the object tells whether it is shown
-is_known : (c : After-is_none) → has (handles_of (shown_trees (scene_of c.args.store.now))) c.args.top.0 ≡ not c.is_none.result
+is_known : (c : After-is_none) → has (handles_of (shown_trees (scene_of c.args.after.now.store.now))) c.args.top.0 ≡ not c.is_none.result
 is_known c =
-    sym (shown-has (scene_of c.args.store.now) c.args.table.now c.requires.shown c.args.top.0)
+    sym (shown-has (scene_of c.args.after.now.store.now) c.args.table.now c.requires.shown c.args.top.0)
     ∙ (ap is_some (sym c.get.ensures) ∙ (copied-some c.get.result ∙ c.is_none.ensures))
 
 pub returns-then-is_none-clause-sees : goal.returns-then-is_none-clause-sees
 returns-then-is_none-clause-sees c =
     let d = (goal.at.returns-then-is_none-clause-sees c).After-is_none in
-    let scene = scene_of c.args.store.now in
+    let scene = scene_of c.args.after.now.store.now in
     let none = shown-has scene c.args.table.now c.requires.shown c.args.top.0 ∙ (is_known d ∙ ap not c.if-is_none.true) in
     hidden-again scene (option_map number_of c.args.named) c.args.table.now c.requires.shown c.args.top.0 c.requires.named c.args.damage.now none
 
 pub returns-then-is_none-clause-all : goal.returns-then-is_none-clause-all
 returns-then-is_none-clause-all c k inside =
     let d = (goal.at.returns-then-is_none-clause-all c).After-is_none in
-    let scene = scene_of c.args.store.now in
+    let scene = scene_of c.args.after.now.store.now in
     let shown = handles_of (shown_trees scene) in
     let out : has shown c.args.top.0 ≡ false = is_known d ∙ ap not c.if-is_none.true in
     let hidden : has shown k ≡ false =
@@ -48,7 +48,7 @@ returns-then-is_none-clause-all c k inside =
 
 pub list_tree-requires-clause-room : goal.list_tree-requires-clause-room
 list_tree-requires-clause-room c =
-    let scene = scene_of c.args.store.now in
+    let scene = scene_of c.args.after.now.store.now in
     let valid = c.tree-tree.ensures.valid in
     let f = handles_of scene.trees in
     let u = c.args.top.0 in
@@ -62,19 +62,19 @@ list_tree-requires-clause-room c =
     rw c.tree-tree.ensures.forest (omega arith)
 
 -- the listed objects are those of the tree
-listed : (c : After-as_slice) → numbers c.as_slice.result.now ≡ preorder (tree_at (handles_of (scene_of c.args.store.now).trees) c.args.top.0)
+listed : (c : After-as_slice) → numbers c.as_slice.result.now ≡ preorder (tree_at (handles_of (scene_of c.args.after.now.store.now).trees) c.args.top.0)
 listed c =
     ap numbers c.as_slice.ensures.value
     ∙ (c.list_tree.ensures.listed
     ∙ (ap (λ (hs : List Handle). numbers hs ++ preorder (tree_at c.tree-tree.result.now.forest c.args.top.0)) c.requires.room.empty
     ∙ ap (λ (f : Forest ℕ). preorder (tree_at f c.args.top.0)) c.tree-tree.ensures.forest))
 
-inside : (c : After-as_slice) (k : ℕ) → 0 < times c.as_slice.result.now k → has (tree_at (handles_of (scene_of c.args.store.now).trees) c.args.top.0) k ≡ true
-inside c k some = has-times c.as_slice.result.now (tree_at (handles_of (scene_of c.args.store.now).trees) c.args.top.0) (listed c) k some
+inside : (c : After-as_slice) (k : ℕ) → 0 < times c.as_slice.result.now k → has (tree_at (handles_of (scene_of c.args.after.now.store.now).trees) c.args.top.0) k ≡ true
+inside c k some = has-times c.as_slice.result.now (tree_at (handles_of (scene_of c.args.after.now.store.now).trees) c.args.top.0) (listed c) k some
 
 once : (c : After-as_slice) (k : ℕ) → times c.as_slice.result.now k ≤ 1
 once c k =
-    let f = handles_of (scene_of c.args.store.now).trees in
+    let f = handles_of (scene_of c.args.after.now.store.now).trees in
     let u = c.args.top.0 in
     let is = times_is c.as_slice.result.now (tree_at f u) (listed c) k in
     let part = count-tree u k f in
@@ -84,7 +84,7 @@ once c k =
 -- what is not listed is not named
 unnamed : (c : After-as_slice) (k : ℕ) → times c.as_slice.result.now k ≡ 0 → is_named (option_map number_of c.args.named) k ≡ false
 unnamed c k off = c.requires.named k (false_from_ne_true (eqb c.args.top.0 k) (λ is.
-    let f = handles_of (scene_of c.args.store.now).trees in
+    let f = handles_of (scene_of c.args.after.now.store.now).trees in
     let u = c.args.top.0 in
     let own = own_tree f u c.requires.there in
     let there : has (tree_at f u) k ≡ true = subst (λ (j : ℕ). has (tree_at f u) j ≡ true) (eqb-true u k is) own in
@@ -95,13 +95,13 @@ unnamed c k off = c.requires.named k (false_from_ne_true (eqb c.args.top.0 k) (�
 -- the tree is shown
 some : (c : After-as_slice) → AreKnown c.args.table.now c.as_slice.result.now
 some c k more =
-    let scene = scene_of c.args.store.now in
+    let scene = scene_of c.args.after.now.store.now in
     let shown = is_known (goal.at.After-as_slice c).After-is_none ∙ ap not c.if-is_none.false in
     shown-has scene c.args.table.now c.requires.shown k ∙ shown-below scene c.tree-tree.ensures.valid c.args.top.0 k shown (inside c k more)
 
 pub see_all_again-requires-clause-there : goal.see_all_again-requires-clause-there
 see_all_again-requires-clause-there c k more =
-    tree-in c.args.top.0 k (handles_of (scene_of c.args.store.now).trees) (inside (goal.at.see_all_again-requires-clause-there c).After-as_slice k more)
+    tree-in c.args.top.0 k (handles_of (scene_of c.args.after.now.store.now).trees) (inside (goal.at.see_all_again-requires-clause-there c).After-as_slice k more)
 
 pub see_all_again-requires-clause-once : goal.see_all_again-requires-clause-once
 see_all_again-requires-clause-once c = once (goal.at.see_all_again-requires-clause-once c).After-as_slice
@@ -112,13 +112,13 @@ see_all_again-requires-clause-some c = some (goal.at.see_all_again-requires-clau
 pub returns-clause-sees : goal.returns-clause-sees
 returns-clause-sees c =
     let d = (goal.at.returns-clause-sees c).After-as_slice in
-    listed-again (scene_of c.args.store.now) c.tree-tree.ensures.valid (option_map number_of c.args.named) c.args.table.now c.see_all_again.new.table c.as_slice.result.now c.requires.shown (some d) (once d) (unnamed d)
+    listed-again (scene_of c.args.after.now.store.now) c.tree-tree.ensures.valid (option_map number_of c.args.named) c.args.table.now c.see_all_again.new.table c.as_slice.result.now c.requires.shown (some d) (once d) (unnamed d)
     c.see_all_again.ensures.listing c.see_all_again.ensures.seen c.see_all_again.ensures.rest c.args.damage.now c.see_all_again.new.damage c.see_all_again.ensures.debt
 
 pub returns-clause-all : goal.returns-clause-all
 returns-clause-all c k in-tree s known =
     let d = (goal.at.returns-clause-all c).After-as_slice in
-    let t = tree_at (handles_of (scene_of c.args.store.now).trees) c.args.top.0 in
+    let t = tree_at (handles_of (scene_of c.args.after.now.store.now).trees) c.args.top.0 in
     let is = times_is c.as_slice.result.now t (listed d) k in
     let more = count-has t k in-tree in
     c.see_all_again.ensures.seen k s (omega (arith, is, more)) known

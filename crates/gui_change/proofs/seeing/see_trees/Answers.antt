@@ -13,14 +13,14 @@ use Rattle.gui_change.proofs.Renewing.{next_of}
 use Rattle.gui_change.proofs.seeing.see_trees.Goals as goal
 
 pub see_tree-requires-clause-shown : goal.see_tree-requires-clause-shown
-see_tree-requires-clause-shown c = shown-still (scene_of c.args.store.now) c.args.table.now c.loop-top.table c.loop-top.invariant.sees.listing c.requires.shown
+see_tree-requires-clause-shown c = shown-still (scene_of c.args.after.now.store.now) c.args.table.now c.loop-top.table c.loop-top.invariant.sees.listing c.requires.shown
 
 pub see_tree-requires-clause-there : goal.see_tree-requires-clause-there
 see_tree-requires-clause-there c = c.requires.tops (get_or c.args.tops.now c.loop-top.top-index nobody).0 (times-item c.args.tops.now c.loop-top.top-index c.loop-top-test.true)
 
 pub loop-top-preserved : goal.loop-top-preserved
 loop-top-preserved c =
-    let scene = scene_of c.args.store.now in
+    let scene = scene_of c.args.after.now.store.now in
     let f = handles_of scene.trees in
     let tops = c.args.tops.now in
     let i = c.loop-top.top-index in
@@ -38,4 +38,4 @@ loop-top-preserved c =
 
 pub returns-clause-all : goal.returns-clause-all
 returns-clause-all c k all =
-    c.loop-top.invariant.done k all (ap (λ (hs : List Handle). in_trees_at (handles_of (scene_of c.args.store.now).trees) hs k) (drop_all c.loop-top.top-index c.args.tops.now c.loop-top-test.false))
+    c.loop-top.invariant.done k all (ap (λ (hs : List Handle). in_trees_at (handles_of (scene_of c.args.after.now.store.now).trees) hs k) (drop_all c.loop-top.top-index c.args.tops.now c.loop-top-test.false))

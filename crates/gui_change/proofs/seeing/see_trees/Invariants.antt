@@ -7,7 +7,7 @@ use Rattle.gui_change.proofs.seeing.see_trees.Given as goal
 
 abbrev pub invariant-loop-top : goal.invariant-loop-top
 invariant-loop-top l =
-    let scene = scene_of l.store in
+    let scene = scene_of l.after.store.now in
     let f = handles_of scene.trees in
     record {
       room : IsRoom scene.limits.objects l.listed;

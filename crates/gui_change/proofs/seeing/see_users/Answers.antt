@@ -8,11 +8,11 @@ use Rattle.gui_change.proofs.SeenAgain.{shown-still, then-again}
 use Rattle.gui_change.proofs.seeing.see_users.Goals as goal
 
 pub see_one-requires-clause-shown : goal.see_one-requires-clause-shown
-see_one-requires-clause-shown c = shown-still (scene_of c.args.store.now) c.args.table.now c.loop-h.table c.loop-h.invariant.sees.listing c.requires.shown
+see_one-requires-clause-shown c = shown-still (scene_of c.args.after.now.store.now) c.args.table.now c.loop-h.table c.loop-h.invariant.sees.listing c.requires.shown
 
 pub loop-h-preserved : goal.loop-h-preserved
 loop-h-preserved c =
-    let scene = scene_of c.args.store.now in
+    let scene = scene_of c.args.after.now.store.now in
     let h = c.in-Some.h.now.0 in
     record {
       sees = then-again None scene c.args.table.now c.loop-h.table c.see_one.new.table c.args.damage.now c.loop-h.damage c.see_one.new.damage c.loop-h.invariant.sees c.see_one.ensures.sees;

@@ -7,7 +7,7 @@ use Rattle.gui_change.proofs.seeing.see_users.Given as goal
 
 abbrev pub invariant-loop-h : goal.invariant-loop-h
 invariant-loop-h l =
-    let scene = scene_of l.store in
+    let scene = scene_of l.after.store.now in
     record {
       sees : SeesAgain None scene l.fn.table l.table l.fn.damage l.damage;
       done : (k : ℕ) → uses_style scene.book k l.style ≡ true → list_any (is_handle k) l.users ≡ false → IsSeenIn l.table scene k;

@@ -1,17 +1,8 @@
-use Rattle.gui_draw.proofs.Common.{sym, subst, arith, Rect, rect_of, HasLine}
-use Rattle.gui_draw.proofs.Lines.{part_start, part_more, part_all, has_line}
+use Rattle.gui_draw.proofs.Common.{rect_of}
+use Rattle.gui_draw.proofs.Lines.{filled}
 use Rattle.gui_draw.proofs.fills.fill_part.Goals as goal
 
-pub loop-line-init : goal.loop-line-init
-loop-line-init g c = part_start c.args.buf.now (rect_of c.args.part) _ c.args.steps.now
-
-pub fill_line-requires : goal.fill_line-requires
-fill_line-requires g c =
-    subst (λ (area : Rect). HasLine area (rect_of c.args.part) c.loop-line.line) (sym c.loop-line.invariant.area_stays)
-    (has_line c.args.buf.now.area (rect_of c.args.part) c.loop-line.line c.requires (omega (arith, c.height-line-end.ensures)))
-
-pub loop-line-preserved : goal.loop-line-preserved
-loop-line-preserved g c = part_more _ _ _ (rect_of c.args.part) c.loop-line.line _ _ _ _ c.loop-line.invariant c.fill_line.ensures
-
 pub returns : goal.returns
-returns g c = part_all _ _ (rect_of c.args.part) c.loop-line.line _ _ _ (omega (arith, c.height-line-end.ensures)) c.loop-line.invariant
+returns g c =
+    filled c.args.buf.now c.fill.new.self (rect_of c.args.part) c.args.fg c.args.opa c.args.steps.now c.tick_lines.new.steps c.requires
+    c.fill.ensures.area c.fill.ensures.limit c.fill.ensures.pixels c.tick_lines.ensures

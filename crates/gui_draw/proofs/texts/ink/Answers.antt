@@ -1,4 +1,4 @@
-use Rattle.gui_draw.proofs.Common.{◌≡◌, ◌∙◌, ap, pos, ℤ, Some, rect_of, width_of, chars, face_in, arith, ints, w32, to_z}
+use Rattle.gui_draw.proofs.Common.{◌≡◌, ◌∙◌, refl, ap, pos, ℤ, Some, rect_of, width_of, chars, face_in, arith, ints, w32, to_z}
 use Rattle.gui_base.specs.Area.{nat_of}
 use Rattle.text_defs.specs.Lines.{lines}
 use Rattle.gui_font.specs.LinesLeft.{runs_left, setting_of}
@@ -36,7 +36,7 @@ returns-in-Some g c =
     let whole = c.width-whole.ensures in
     let wide = c.requires.wide in
     let cast : to_z w32 c.width-whole.result ≡ pos (width_of (rect_of c.args.area)) = omega (arith, ints) in
-    text_drawn _ _ (rect_of c.args.clip) (rect_of c.args.area) (rect_of c.in-Some.part) face c.args.look (chars c.args.text.now) c.args.fg c.args.opa _ _ (setting_of c.lines-lines.result) (runs_left c.lines-lines.result) c.width-whole.result _ _ c.in-Some.ensures
+    text_drawn _ _ (rect_of c.args.clip) (rect_of c.args.area) (rect_of c.in-Some.part) face c.args.look (chars c.args.text.now) c.args.fg c.args.opa _ _ (setting_of c.lines-lines.result) (runs_left c.lines-lines.result) _ _ _ c.in-Some.ensures
     (c.lines-lines.ensures.setting ∙ ap (λ (z : ℤ). setting face c.args.look (Some (nat_of z))) cast)
     (c.lines-lines.ensures.runs ∙ ap (λ (z : ℤ). lines (setting face c.args.look (Some (nat_of z))) (chars c.args.text.now)) cast)
-    c.width-whole.ensures c.corner_of.ensures.x c.corner_of.ensures.y c.ink_lines.ensures
+    refl refl refl c.ink_lines.ensures

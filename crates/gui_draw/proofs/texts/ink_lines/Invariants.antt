@@ -6,7 +6,7 @@ use Rattle.gui_draw.proofs.texts.ink_lines.Given as goal
 abbrev pub invariant-lines : goal.invariant-lines
 invariant-lines g l = record {
   same : setting_of l.lines ≡ setting_of l.fn.lines;
-  lining : Lining (setting_of l.fn.lines) l.look.align ((face_in l.fonts l.look.font).height + l.look.line) l.whole (runs_left l.fn.lines) (rect_of l.part) l.fg l.opa l.initial.buf l.buf l.initial.steps l.steps l.fn.start.x l.fn.start.y (runs_left l.lines) l.at.x l.at.y;
+  lining : Lining (setting_of l.fn.lines) l.lettering.look.align ((face_in l.lettering.fonts.now l.lettering.look.font).height + l.lettering.look.line) l.whole (runs_left l.fn.lines) (rect_of l.brush.part) l.brush.fg l.brush.opa l.initial.buf l.buf l.initial.steps l.steps l.initial.at.x l.initial.at.y (runs_left l.lines) l.at.x l.at.y;
 }
 
 abbrev pub decreases-lines : goal.decreases-lines

@@ -14,8 +14,8 @@ pub loop-first-preserved : goal.loop-first-preserved
 loop-first-preserved c =
     let inv = c.loop-first.invariant in
     let wrap = c.args.wrap in
-    let extent = c.args.extent in
-    let gap = c.args.gap in
+    let extent = c.args.extents.extent in
+    let gap = c.args.extents.gap in
     let xs = c.loop-first.items in
     let ys = c.place_track.new.track in
     let a = c.loop-first.first in
@@ -36,8 +36,8 @@ loop-first-preserved c =
     let thick : c.thickness-before.result ≡ thickness (items_of (take n (drop a xs))) =
     c.thickness-before.ensures.value
     ∙ ap (λ (l : List FlexItem). thickness (items_of l)) (c.split_at-in-loop-first-2.ensures.front ∙ ap (take n) c.split_at-in-loop-first.ensures.back) in
-    let free_is = c.saturating_sub-free.ensures ∙ ap (λ m. c.args.cross_extent - (c.measure-count.result.1 + c.args.track_gap * m)) c.saturating_sub.ensures in
-    let at = c.stand-at.ensures.value ∙ track_at_is c.args.places.track c.args.cross_extent c.args.track_gap all t c.loop-first.before c.measure-count.result.0 c.measure-count.result.1 c.saturating_sub-free.result c.spread-far.result inv.before c.measure-count.ensures.count c.measure-count.ensures.sum free_is c.spread-far.ensures.value in
+    let free_is = c.saturating_sub-free.ensures ∙ ap (λ m. c.args.extents.cross_extent - (c.measure-count.result.1 + c.args.extents.track_gap * m)) c.saturating_sub.ensures in
+    let at = c.stand-at.ensures.value ∙ track_at_is c.args.places.track c.args.extents.cross_extent c.args.extents.track_gap all t c.loop-first.before c.measure-count.result.0 c.measure-count.result.1 c.saturating_sub-free.result c.spread-far.result inv.before c.measure-count.ensures.count c.measure-count.ensures.sum free_is c.spread-far.ensures.value in
     record {
       within = search (rules, overwrites);
       same = put_as_before item_of xs ys a (a + n - a) c.place_track.ensures.items ∙ inv.same;
@@ -45,7 +45,7 @@ loop-first-preserved c =
       before = ap (λ m. c.loop-first.before + m) thick ∙ (ap (λ m. m + thickness (items_of (take n (drop a xs)))) inv.before ∙ (sym (sum_by_push thickness (take t all) (items_of (take n (drop a xs)))) ∙ ap (sum_by thickness) (sym one.before)));
       small = let s = inv.small in let b = c.thickness-before.ensures.small in omega arith;
       done =
-          spots_step wrap extent gap (spots_in (placings_of c.args.places) extent c.args.cross_extent gap c.args.track_gap all) xs ys _ a n (a + n - a) t is_count within long refl now
+          spots_step wrap extent gap (spots_in (placings_of c.args.places) extent c.args.extents.cross_extent gap c.args.extents.track_gap all) xs ys _ a n (a + n - a) t is_count within long refl now
           (c.place_track.ensures.spots ∙ ap (λ m. track_spots (placings_of c.args.places) extent gap m (items_of (take (a + n - a) (drop a xs)))) at)
           ∙ inv.done;
     }

@@ -1,13 +1,12 @@
 use Rattle.std.proofs.Common.{◌∙◌, ap, sym}
-use Rattle.gui_base.specs.Forest.{roots, children_of}
 use Rattle.layout_defs.specs.declared.Course.{Course}
 use Rattle.layout_defs.specs.Boxes.{course_of, inner}
 use Rattle.layout_defs.specs.Solving.{tall_box, taking_part, kids_height}
 use Rattle.gui_layout.specs.declared.measuring.Run.{Run}
 use Rattle.gui_layout.specs.Tables.{told}
-use Rattle.gui_layout.specs.Views.{axis_of, box_of, box_at}
+use Rattle.gui_layout.specs.Kids.{tall_kids}
+use Rattle.gui_layout.specs.Views.{axis_of, box_of}
 use Rattle.gui_layout.specs.Rows.{row_of, run_down, down_kid, sum_of, with_gaps}
-use Rattle.gui_layout.specs.Talls.{heights_of}
 use Rattle.gui_layout.proofs.Columns.{column_is, none_is}
 use Rattle.gui_layout.proofs.heights.kids_height.Goals as goal
 
@@ -15,7 +14,7 @@ pub returns-then-row-eq0-clause-value : goal.returns-then-row-eq0-clause-value
 returns-then-row-eq0-clause-value c =
     let own = c.args.own.now.wanted in
     let room = inner (axis_of own.across) c.args.own.now.width.pixels in
-    let kids = roots (heights_of (box_at (told c.args.entries.now).boxes) (told c.args.entries.now).widths (children_of c.args.tree.now.forest c.args.h.0)) in
+    let kids = tall_kids (told c.args.entries.now) c.args.tree.now.forest c.args.h.0 in
     sym (none_is (course_of own.flow) (box_of c.args.h.0 own) room kids (row_of c.args.row) c.requires.row c.if-row-eq0.true)
 
 pub returns-in_default : goal.returns-in_default
@@ -23,7 +22,7 @@ returns-in_default c =
     let own = c.args.own.now.wanted in
     let box = box_of c.args.h.0 own in
     let room = inner (axis_of own.across) c.args.own.now.width.pixels in
-    let kids = roots (heights_of (box_at (told c.args.entries.now).boxes) (told c.args.entries.now).widths (children_of c.args.tree.now.forest c.args.h.0)) in
+    let kids = tall_kids (told c.args.entries.now) c.args.tree.now.forest c.args.h.0 in
     let row = c.requires.row ∙ ap (λ (course : Course). sum_of down_kid (run_down course) kids) (sym c.course_of-course.ensures) in
     record {
       value =

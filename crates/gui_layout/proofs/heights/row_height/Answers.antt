@@ -1,9 +1,12 @@
 use Rattle.std.proofs.Common.{◌∙◌, refl}
+use Rattle.layout_defs.specs.Solving.{height_item, tall_box}
+use Rattle.gui_layout.specs.Kids.{told_kids}
+use Rattle.gui_layout.specs.Settled.{tall_of}
 use Rattle.gui_layout.specs.Tables.{told}
-use Rattle.gui_layout.proofs.Filled.{naturals_filled}
+use Rattle.gui_layout.proofs.Lists.{part_mapped}
 use Rattle.gui_layout.proofs.heights.row_height.Goals as goal
 
 pub returns-clause-value : goal.returns-clause-value
 returns-clause-value c =
-    let filled = c.fill_items-count.ensures.items ∙ naturals_filled (told c.args.entries.now) c.args.tree.now.forest c.args.h.0 c.requires.found in
+    let filled = c.fill_items-count.ensures.items ∙ part_mapped tall_of tall_box height_item (told_kids (told c.args.entries.now) c.args.tree.now.forest c.args.h.0) in
     c.tracks_height.ensures.value ∙ rw (filled, c.inner-room.ensures.value) refl

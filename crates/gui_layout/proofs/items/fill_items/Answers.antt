@@ -6,9 +6,10 @@ use Rattle.gui_tree.proofs.Below.{begins_below, steps_below}
 use Rattle.gui_layout.specs.Tables.{told}
 use Rattle.gui_layout.specs.Views.{box_at}
 use Rattle.gui_layout.specs.Settled.{Known, known}
-use Rattle.gui_layout.specs.Sizings.{known_box, sized, told_kids}
+use Rattle.gui_layout.specs.Kids.{told_kids}
+use Rattle.gui_layout.specs.Sizings.{known_box, sized}
 use Rattle.gui_layout.proofs.Lists.{part_taken_by}
-use Rattle.gui_layout.proofs.Filled.{kid_told}
+use Rattle.gui_layout.proofs.Kids.{kid_told}
 use Rattle.gui_layout.proofs.items.fill_items.Goals as goal
 
 pub loop-child-init : goal.loop-child-init

@@ -6,7 +6,8 @@ use Rattle.gui_tree.proofs.Below.{IsBelow}
 use Rattle.gui_layout.specs.Tables.{told}
 use Rattle.gui_layout.specs.Views.{box_at}
 use Rattle.gui_layout.specs.Settled.{known}
-use Rattle.gui_layout.specs.Sizings.{known_box, sized, told_kids}
+use Rattle.gui_layout.specs.Kids.{told_kids}
+use Rattle.gui_layout.specs.Sizings.{known_box, sized}
 use Rattle.gui_layout.proofs.items.fill_items.Given as goal
 
 abbrev pub invariant-loop-child : goal.invariant-loop-child

@@ -5,7 +5,6 @@ use Rattle.layout_defs.specs.Solving.{Slot}
 use Rattle.gui_tree.proofs.Below.{IsBelow as IsWalkBelow}
 use Rattle.gui_layout.specs.Tables.{told, listing_of}
 use Rattle.gui_layout.specs.Layouts.{ButPlaces}
-use Rattle.gui_layout.specs.Views.{box_at}
 use Rattle.gui_layout.specs.Slots.{slot_at, at_roots, IsBelow}
 use Rattle.gui_layout.specs.Scrolls.{Scrolled}
 use Rattle.gui_layout.proofs.Reached.{Reached}
@@ -21,11 +20,10 @@ invariant-loop-child l =
     let was = told l.fn.entries in
     let now = told l.entries in
     let begun = told l.initial.entries in
-    let box = box_at was.boxes in
     record {
       below : IsWalkBelow f l.fn.h.0 l.child-iterator;
       listed : listing_of l.entries ≡ listing_of l.fn.entries;
       rest : ButPlaces was now;
       near : All (IsBelow (slot_at was.slots l.fn.h.0)) (at_roots now.slots trees);
-      later : (u : List Slot) (v : List Scrolled) → Reached box was.widths was.natural_heights now.slots u now.scrolls v trees → Reached box was.widths was.natural_heights begun.slots u begun.scrolls v (children_of f l.fn.h.0);
+      later : (u : List Slot) (v : List Scrolled) → Reached was now.slots u now.scrolls v trees → Reached was begun.slots u begun.scrolls v (children_of f l.fn.h.0);
     }

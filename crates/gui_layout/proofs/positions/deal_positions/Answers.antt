@@ -1,27 +1,29 @@
-use Rattle.std.proofs.Common.{◌∙◌, sym, ap, subst, ℕ, List, map, set, get_or, refl, drop, arith}
-use Rattle.gui_base.specs.Forest.{Forest, roots}
+use Rattle.std.proofs.Common.{◌∙◌, sym, ap, subst, ℕ, List, map, set, refl, drop, arith}
+use Rattle.gui_base.specs.Forest.{Forest}
 use Rattle.layout_defs.specs.Solving.{Slot}
 use Rattle.gui_tree.proofs.Below.{begins_below, steps_below}
 use Rattle.gui_layout.proofs.Listed.{told_short}
 use Rattle.gui_layout.specs.Tables.{Listing, IsListed, listing_of, slot_or, told}
-use Rattle.gui_layout.specs.Settled.{Layout}
+use Rattle.gui_layout.specs.Settled.{Layout, known_at, tall_of}
 use Rattle.gui_layout.specs.Views.{box_at}
-use Rattle.gui_layout.specs.Slots.{talls, slot_of, room_in, item_slot, Deals}
-use Rattle.gui_layout.proofs.Flows.{tall_is, slots_none, slots_first}
+use Rattle.gui_layout.specs.Kids.{Deals}
+use Rattle.gui_layout.specs.Slots.{slot_of, room_in, item_slot}
+use Rattle.gui_layout.proofs.Flows.{slots_none, slots_first, talls}
+use Rattle.gui_layout.proofs.Kids.{kid_told}
 use Rattle.gui_layout.proofs.positions.deal_positions.Goals as goal
 use Rattle.gui_layout.proofs.positions.deal_positions.Goals.{In-Some}
 
 pub loop-child-init : goal.loop-child-init
 loop-child-init c =
     let was = told c.args.entries.now in
-    let room = room_in c.args.inside in
+    let room = room_in c.args.area.inside in
     let begins = begins_below c.args.tree.now.forest c.args.h.0 _ (c.into_iter-child-iterator.ensures.into_iter_gives ∙ c.children-child-items.ensures.walk) in
     record {
       below = begins.is;
       listed = refl;
       rest = refl;
       within = omega arith;
-      later = λ (u : List Slot) rest. subst (λ (t : Forest ℕ). Deals (box_at was.boxes) was.widths was.natural_heights room was.slots u t (map (item_slot c.args.course room) c.args.items.now)) begins.all rest;
+      later = λ (u : List Slot) rest. subst (λ (t : Forest ℕ). Deals was room was.slots u t (map (item_slot c.args.area.course room) c.args.items.now)) begins.all rest;
     }
 
 still : (c : In-Some) → IsListed (listing_of c.loop-child.entries) c.in-Some.child.0
@@ -39,11 +41,8 @@ pub loop-child-preserved : goal.loop-child-preserved
 loop-child-preserved c =
     let inv = c.loop-child.invariant in
     let was = told c.args.entries.now in
-    let box = box_at was.boxes in
-    let w = was.widths in
-    let n = was.natural_heights in
-    let room = room_in c.args.inside in
-    let made = item_slot c.args.course room in
+    let room = room_in c.args.area.inside in
+    let made = item_slot c.args.area.course room in
     let trees = c.next.new.self.left in
     let g = steps_below c.args.tree.now.forest c.args.h.0 _ _ _ inv.below c.in-Some.ensures.steps in
     let h = c.in-Some.child.0 in
@@ -52,8 +51,7 @@ loop-child-preserved c =
     let flow = map made (drop c.loop-child.i c.args.items.now) in
     let later = map made (drop c.dealt_position-later.result.1 c.args.items.now) in
     let short = told_short slot_or c.loop-child.entries h (still (goal.at.loop-child-preserved c).In-Some) in
-    let entry = c.entry_of.ensures.told in
-    let kid = tall_is was.boxes w n h _ _ c.entry_of.result.now.wanted (entry.wanted ∙ ap (λ (l : Layout). box_at l.boxes h) inv.rest) (entry.width ∙ ap (λ (l : Layout). get_or l.widths h 0) inv.rest) (entry.natural_height ∙ ap (λ (l : Layout). get_or l.natural_heights h 0) inv.rest) in
+    let kid = ap tall_of (kid_told (told c.loop-child.entries) h c.entry_of.result.now c.entry_of.ensures.told ∙ ap (λ (l : Layout). known_at (box_at l.boxes) l h) inv.rest) in
     record {
       below = g.is;
       listed = c.set_position.ensures.listed ∙ inv.listed;
@@ -64,16 +62,16 @@ loop-child-preserved c =
       within = c.dealt_position-later.ensures.within;
       later = λ (u : List Slot) rest.
           inv.later u
-          (subst (λ (t : Forest ℕ). Deals box w n room a u t flow) (sym g.left)
-          (slots_first box w n room a u h (slot_of p) g.children trees _ flow later g.once short kid
-          (c.dealt_position-later.ensures.value h (roots (talls box w n trees))) c.dealt_position-later.ensures.close
-          (subst (λ (t : List Slot). Deals box w n room t u trees later) (ap (λ (l : Layout). l.slots) c.set_position.ensures.set) rest)));
+          (subst (λ (t : Forest ℕ). Deals was room a u t flow) (sym g.left)
+          (slots_first was room a u h (slot_of p) g.children trees _ flow later g.once short kid
+          (c.dealt_position-later.ensures.value h (talls was room trees)) c.dealt_position-later.ensures.close
+          (subst (λ (t : List Slot). Deals was room t u trees later) (ap (λ (l : Layout). l.slots) c.set_position.ensures.set) rest)));
     }
 
 pub returns-clause-deals : goal.returns-clause-deals
 returns-clause-deals c =
     let was = told c.args.entries.now in
-    let room = room_in c.args.inside in
+    let room = room_in c.args.area.inside in
     let t = (told c.loop-child.entries).slots in
-    let flow = map (item_slot c.args.course room) (drop c.loop-child.i c.args.items.now) in
-    c.loop-child.invariant.later t (rw c.in-None.ensures.steps.0 (slots_none (box_at was.boxes) was.widths was.natural_heights room t flow))
+    let flow = map (item_slot c.args.area.course room) (drop c.loop-child.i c.args.items.now) in
+    c.loop-child.invariant.later t (rw c.in-None.ensures.steps.0 (slots_none was room t flow))

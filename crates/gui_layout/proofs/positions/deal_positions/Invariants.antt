@@ -4,22 +4,21 @@ use Rattle.layout_defs.specs.Solving.{Slot}
 use Rattle.gui_tree.proofs.Below.{IsBelow}
 use Rattle.gui_layout.specs.Tables.{told, listing_of}
 use Rattle.gui_layout.specs.Layouts.{ButSlots}
-use Rattle.gui_layout.specs.Views.{box_at}
-use Rattle.gui_layout.specs.Slots.{room_in, item_slot, Deals}
+use Rattle.gui_layout.specs.Kids.{Deals}
+use Rattle.gui_layout.specs.Slots.{room_in, item_slot}
 use Rattle.gui_layout.proofs.positions.deal_positions.Given as goal
 
 abbrev pub invariant-loop-child : goal.invariant-loop-child
 invariant-loop-child l =
     let f = l.tree.forest in
     let was = told l.fn.entries in
-    let box = box_at was.boxes in
-    let room = room_in l.inside in
+    let room = room_in l.area.inside in
     record {
       below : IsBelow f l.fn.h.0 l.child-iterator;
       listed : listing_of l.entries ≡ listing_of l.fn.entries;
       rest : ButSlots was (told l.entries);
       within : l.i ≤ length l.items;
       later : (u : List Slot) →
-          Deals box was.widths was.natural_heights room (told l.entries).slots u l.child-iterator.left (map (item_slot l.course room) (drop l.i l.items)) →
-          Deals box was.widths was.natural_heights room was.slots u (children_of f l.fn.h.0) (map (item_slot l.course room) l.items);
+          Deals was room (told l.entries).slots u l.child-iterator.left (map (item_slot l.area.course room) (drop l.i l.items)) →
+          Deals was room was.slots u (children_of f l.fn.h.0) (map (item_slot l.area.course room) l.items);
     }

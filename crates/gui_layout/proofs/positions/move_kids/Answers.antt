@@ -8,7 +8,7 @@ use Rattle.gui_layout.specs.Kids.{tall_kids}
 use Rattle.gui_layout.specs.Scrolls.{moves_of}
 use Rattle.gui_layout.specs.Slots.{at_roots, room_in, item_slot, IsClose}
 use Rattle.gui_layout.specs.Tables.{told}
-use Rattle.gui_layout.proofs.Finds.{keeps_same}
+use Rattle.gui_layout.proofs.Keeps.{keeps_same}
 use Rattle.gui_layout.proofs.Moving.{items-moved, room-still, slot-still}
 use Rattle.gui_layout.proofs.positions.move_kids.Goals as goal
 use Rattle.gui_layout.proofs.positions.move_kids.Goals.{Then-is_none}
@@ -26,7 +26,7 @@ pub returns-then-is_none-clause-close : goal.returns-then-is_none-clause-close
 returns-then-is_none-clause-close c =
     let d = (goal.at.returns-then-is_none-clause-close c).Then-is_none in
     let ss = at_roots (told c.args.entries.now).slots (children_of c.args.tree.now.forest c.args.h.0) in
-    subst (λ (r : Room). All (IsClose r.x r.y) ss) (sym (room-still (moves_of c.args.offset) (still d) (room_in c.args.inside))) c.requires.close
+    subst (λ (r : Room). All (IsClose r.x r.y) ss) (sym (room-still (moves_of c.args.offset) (still d) (room_in c.args.area.inside))) c.requires.close
 
 pub returns-then-is_none-clause-others : goal.returns-then-is_none-clause-others
 returns-then-is_none-clause-others c = keeps_same nowhere (told c.args.entries.now).slots (children_of c.args.tree.now.forest c.args.h.0)
@@ -34,8 +34,8 @@ returns-then-is_none-clause-others c = keeps_same nowhere (told c.args.entries.n
 pub returns-clause-moved : goal.returns-clause-moved
 returns-clause-moved c =
     let items = c.args.items.now in
-    let course = c.args.course in
-    let room = room_in c.args.inside in
+    let course = c.args.area.course in
+    let room = room_in c.args.area.inside in
     let offset = moves_of c.args.offset in
     let later = moved_room offset room in
     let kids = tall_kids (told c.args.entries.now) c.args.tree.now.forest c.args.h.0 in

@@ -1,4 +1,4 @@
-use Rattle.std.proofs.Common.{◌≡◌, ◌∙◌, ℕ, sym, ap, subst, refl, get_or, map, set, take, false, List, arith}
+use Rattle.std.proofs.Common.{◌≡◌, ◌∙◌, ℕ, sym, ap, subst, map, set, take, false, List, arith}
 use Rattle.std.specs.List.{All}
 use Rattle.std.proofs.lemmas.Int.{ints}
 use Rattle.std.proofs.lemmas.List.Elements.{All-weaker}
@@ -8,20 +8,21 @@ use Rattle.layout_defs.specs.Scrolling.{moved_room}
 use Rattle.layout_defs.specs.Solving.{Tall, Slot, Room, nowhere, tall_box, own_slot, dealt, taking_part, flow_slots, flat_slots, kid_reach, moved, reach_in, room_of}
 use Rattle.layout_defs.specs.Tables.{KeepsOthers}
 use Rattle.layout_defs.specs.declared.Course.{Course}
-use Rattle.gui_layout.specs.Kids.{tall_kid, tall_kids}
+use Rattle.gui_layout.specs.Kids.{tall_kids}
 use Rattle.gui_layout.specs.Scrolls.{Scrolled, moves_of, scrolled_by, scrolled_in, scrolled_of, span_of}
-use Rattle.gui_layout.specs.Settled.{Layout}
+use Rattle.gui_layout.specs.Settled.{Known, Layout, known_at, tall_of}
+use Rattle.gui_layout.specs.Sizings.{kid_by}
 use Rattle.gui_layout.specs.Tables.{Listing, AreListed, IsListed, listing_of, told}
 use Rattle.gui_layout.specs.Views.{box_at, box_of}
-use Rattle.gui_layout.specs.Slots.{slot_of, slot_at, at_roots, room_in, item_slot, tall_at, IsAtCorner, IsBelow, IsClose, HasRoom}
-use Rattle.gui_layout.proofs.Finds.{keeps_then}
-use Rattle.gui_layout.proofs.Flows.{tall_is}
-use Rattle.gui_layout.proofs.Kids.{named}
+use Rattle.gui_layout.specs.Slots.{slot_at, at_roots, room_in, item_slot, tall_at, IsAtCorner, IsBelow, IsClose, HasRoom}
+use Rattle.gui_layout.proofs.Keeps.{keeps_then}
+use Rattle.gui_layout.proofs.Kids.{kid_told, named}
 use Rattle.gui_layout.proofs.Moving.{moved_below}
+use Rattle.gui_layout.proofs.Passes.{roots_read}
 use Rattle.gui_tree.proofs.Below.{own_tree, whole_tree}
 use Rattle.gui_layout.proofs.Stands.{flat_slots_are}
 use Rattle.gui_layout.proofs.positions.set_kid_positions.Goals as goal
-use Rattle.gui_layout.proofs.positions.set_kid_positions.Goals.{After-deal_positions, After-scrolled_by-scrolled, After-set_scrolled, After-move_kids}
+use Rattle.gui_layout.proofs.positions.set_kid_positions.Goals.{After-deal_positions, After-scrolled_by-scrolled, After-set_scrolled}
 
 own_is : (c : After-deal_positions) → IsListed (listing_of c.args.entries.now) c.args.h.0
 own_is c = c.requires.listed c.args.h.0 (own_tree c.args.tree.now.forest c.args.h.0 c.requires.there)
@@ -52,22 +53,19 @@ module _ (c : After-deal_positions) where
   abbrev room : Room
   room = room_in c.inside_of-inside.result
 
-  by_own : (P : Tall → Slot → Type 0) → P (tall_kid h c.entry_of-own.result.now.wanted c.entry_of-own.result.now.width.pixels (get_or l.natural_heights h 0)) (slot_of c.entry_of-own.result.now.position) → P tall slot
-  by_own P is =
-      let own = c.entry_of-own.result.now in
-      let entry = c.entry_of-own.ensures.told in
-      subst (λ (s : Slot). P tall s) entry.slot (subst (λ (t : Tall). P t (slot_of own.position)) (tall_is l.boxes l.widths l.natural_heights h _ _ own.wanted entry.wanted entry.width refl) is)
+  -- where the children stand does not matter to their sizes
+  same_kids : (ss : List Slot) (rs : List Scrolled) → tall_kids (record l { slots = ss; scrolls = rs }) f h ≡ kids
+  same_kids ss rs = roots_read tall_of (known_at (box_at l.boxes) (record l { slots = ss })) (children_of f h) ∙ sym (roots_read tall_of (known_at (box_at l.boxes) l) (children_of f h))
 
   stand : at_roots flat.slots (children_of f h) ≡ flat_slots tall slot kids
   stand =
-      let own = c.entry_of-own.result.now.wanted in
+      let own = kid_by h c.entry_of-own.result.now in
       let items = take c.place_flow-count.result c.place_flow-count.new.items in
-      let own_tall = tall_kid h own c.entry_of-own.result.now.width.pixels (get_or l.natural_heights h 0) in
-      let flow : map (item_slot c.course_of-course.result room) items ≡ flow_slots own_tall.box room (taking_part tall_box kids) =
+      let flow : map (item_slot c.course_of-course.result room) items ≡ flow_slots own.box room (taking_part tall_box kids) =
       ap (λ (course : Course). map (item_slot course room) items) c.course_of-course.ensures ∙ c.place_flow-count.ensures.slots in
-      by_own (λ t s. at_roots flat.slots (children_of f h) ≡ flat_slots t s kids)
-      (flat_slots_are own_tall (slot_of c.entry_of-own.result.now.position) room kids (map (item_slot c.course_of-course.result room) items) (at_roots flat.slots (children_of f h))
-      (c.inside_of-inside.ensures.value h (get_or l.natural_heights h 0)) c.deal_positions.ensures.deals.dealt flow)
+      subst (λ (k : Known). at_roots flat.slots (children_of f h) ≡ flat_slots (tall_of k) k.slot kids) (kid_told l h c.entry_of-own.result.now c.entry_of-own.ensures.told)
+      (flat_slots_are (tall_of own) own.slot room kids (map (item_slot c.course_of-course.result room) items) (at_roots flat.slots (children_of f h)) (c.inside_of-inside.ensures.value h own.natural_height)
+      c.deal_positions.ensures.deals.dealt flow)
 
   own_out : has (children_of f h) h ≡ false
   own_out = (whole_tree f h c.requires.once c.requires.there).out
@@ -110,7 +108,8 @@ module _ (c : After-scrolled_by-scrolled) where
       let at = at_roots (flat d).slots (children_of g i) in
       c.reach_of-reach.ensures
       ∙ (ap (λ (m : Layout). reach_in (room_of (tall_at (box_at m.boxes) m.widths m.natural_heights i) (slot_at (flat d).slots i)) (tall_kids m g i) at) c.deal_positions.ensures.rest
-      ∙ (ap (λ (s : Slot). reach_in (room_of (tall d) s) (kids d) at) (stays d) ∙ ap (λ (ss : List Slot). reach_in (room_of (tall d) (slot d)) (kids d) ss) (stand d)))
+      ∙ (ap (λ (ts : List Tall). reach_in (room_of (tall d) (slot_at (flat d).slots i)) ts at) (same_kids d (flat d).slots (told c.args.entries.now).scrolls)
+      ∙ (ap (λ (s : Slot). reach_in (room_of (tall d) s) (kids d) at) (stays d) ∙ ap (λ (ss : List Slot). reach_in (room_of (tall d) (slot d)) (kids d) ss) (stand d))))
 
   is_scrolled : scrolled_of c.scrolled_by-scrolled.result ≡ scrolled_in (tall d) (slot d) (kids d)
   is_scrolled =
@@ -161,7 +160,9 @@ move_kids-requires-clause-flat c =
     let g = c.args.tree.now.forest in
     let items = map (item_slot c.course_of-course.result (room d)) (take c.place_flow-count.result c.place_flow-count.new.items) in
     ap (λ (ss : List Slot). at_roots ss (children_of g i)) (same_slots e)
-    ∙ (c.deal_positions.ensures.deals.dealt ∙ ap (λ (m : Layout). dealt tall_box (own_slot (room d)) (tall_kids m g i) items) (sym (told_now e)))
+    ∙ (c.deal_positions.ensures.deals.dealt
+    ∙ (ap (λ (ts : List Tall). dealt tall_box (own_slot (room d)) ts items) (sym (same_kids d (told c.set_scrolled.new.entries).slots (told c.set_scrolled.new.entries).scrolls))
+    ∙ ap (λ (m : Layout). dealt tall_box (own_slot (room d)) (tall_kids m g i) items) (sym (told_now e))))
 
 pub move_kids-requires-clause-close : goal.move_kids-requires-clause-close
 move_kids-requires-clause-close c =

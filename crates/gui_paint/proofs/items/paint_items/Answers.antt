@@ -3,6 +3,7 @@ use Rattle.gui_base.specs.Area.{size_of}
 use Rattle.std.specs.Str.{chars}
 use Rattle.gui_base.specs.Corners.{rect_of}
 use Rattle.gui_base.specs.Coats.{Coat}
+use Rattle.gui_store.specs.Views.{scene_of}
 use Rattle.gui_widgets.specs.Looks.{item_of, items_of}
 use Rattle.scene_defs.specs.Items.{coat_in}
 use Rattle.gui_paint.specs.Paintable.{IsPaintable}
@@ -13,12 +14,13 @@ use Rattle.gui_paint.proofs.items.paint_items.Goals as goal
 
 pub paint_item-requires-clause-ready : goal.paint_item-requires-clause-ready
 paint_item-requires-clause-ready g c =
-    made_at (IsPaintable c.args.fonts.now.fonts) item_of c.args.items.now c.loop-item.item-index c.item-item.result c.loop-item-test.true c.item-item.is c.requires.ready
+    made_at (IsPaintable (scene_of c.args.store.now).fonts) item_of c.args.items.now c.loop-item.item-index c.item-item.result c.loop-item-test.true c.item-item.is c.requires.ready
 
 pub loop-item-preserved : goal.loop-item-preserved
 loop-item-preserved g c =
+    let scene = scene_of c.args.store.now in
     let visible = rect_of c.args.visible in
-    let coat = coat_in c.args.fonts.now.fonts c.args.images.now.images (chars c.args.text.now) in
+    let coat = coat_in scene.fonts scene.images (chars c.args.text.now) in
     let before = map coat (items_of (take c.loop-item.item-index c.args.items.now)) in
     let inv = c.loop-item.invariant in
     let same : size_of c.loop-item.buf.area ≡ size_of c.args.buf.now.area = ap size_of inv.painted.area_stays in

@@ -14,7 +14,7 @@ pub returns-in_default : goal.returns-in_default
 returns-in_default g t c =
     let scene = scene_of c.args.shown.now.store.now in
     let few = c.in_default.ensures.steps in
-    paints_list scene _ _ _ _ _ _ _ _ _ (sym c.in_default.ensures.met) (paints_none scene (number_of c.args.start.now) c.args.buf.now (2 * size (tree_by (is_at c.args.h.0) scene.trees)) c.args.steps.now c.visit.new.steps (omega (arith, few)))
+    paints_list scene _ _ _ _ _ _ _ _ _ (sym c.in_default.ensures.met) (paints_none scene (number_of c.args.progress.now.start) c.args.buf.now (2 * size (tree_by (is_at c.args.h.0) scene.trees)) c.args.steps.now c.visit.new.steps (omega (arith, few)))
 
 pub paint_next-requires-clause-stands : goal.paint_next-requires-clause-stands
 paint_next-requires-clause-stands g t c = c.in-Some.ensures.met.stands
@@ -29,7 +29,7 @@ loop-child-init g t c =
       below = begins.is;
       later = λ w buf to p.
           paints_list scene _ _ _ _ _ _ _ _ _ (sym (walks_below scene clip h c.tree-tree.ensures.valid))
-          (subst (λ (t : Forest ℕ). PaintsMet scene (trees_walk scene clip t) (number_of c.paint_next.new.start) w c.paint_next.new.buf buf (2 * size t) c.paint_next.new.steps to) begins.all p);
+          (subst (λ (t : Forest ℕ). PaintsMet scene (trees_walk scene clip t) (number_of c.paint_next.new.progress.start) w c.paint_next.new.buf buf (2 * size t) c.paint_next.new.steps to) begins.all p);
     }
 
 pub paint_tree-requires : goal.paint_tree-requires
@@ -55,10 +55,10 @@ returns g t c =
     let scene = scene_of c.args.shown.now.store.now in
     let clip = rect_of c.in-Some.seen.visible in
     let h = c.args.h.0 in
-    let start = number_of c.loop-child.start in
+    let start = number_of c.loop-child.progress.start in
     let buf = c.loop-child.buf in
     let steps = c.loop-child.steps in
     let none : PaintsMet scene (trees_walk scene clip c.loop-child.child-iterator.left) start start buf buf (2 * size c.loop-child.child-iterator.left) steps steps =
     subst (λ (t : Forest ℕ). PaintsMet scene (trees_walk scene clip t) start start buf buf (2 * size t) steps steps) (sym c.in-None.ensures.steps.0) (paints_none scene start buf 0 steps steps (omega arith)) in
-    let below = subst (λ (n : ℕ). PaintsMet scene (below_walk scene clip h) (number_of c.paint_next.new.start) start c.paint_next.new.buf buf (2 * n) c.paint_next.new.steps steps) (size_below scene h) (c.loop-child.invariant.later start buf steps none) in
+    let below = subst (λ (n : ℕ). PaintsMet scene (below_walk scene clip h) (number_of c.paint_next.new.progress.start) start c.paint_next.new.buf buf (2 * n) c.paint_next.new.steps steps) (size_below scene h) (c.loop-child.invariant.later start buf steps none) in
     paints_tree scene (rect_of c.args.clip) clip h _ _ _ _ _ _ _ c.args.steps.now c.visit.new.steps _ _ _ c.in-Some.ensures.met.walk c.in-Some.ensures.steps c.in-Some.ensures.met.small c.paint_next.ensures below c.paint_next_bars.ensures

@@ -20,6 +20,6 @@ invariant-loop-child g l =
     let clip = rect_of l.seen.visible in
     record {
       below : IsBelow f l.fn.h.0 l.child-iterator;
-      later : (w : Option ℕ) (buf : Buffer) (to : ℕ) → PaintsMet scene (trees_walk scene clip left) (number_of l.start) w l.buf buf (2 * size left) l.steps to →
-          PaintsMet scene (below_walk scene clip l.fn.h.0) (number_of l.initial.start) w l.initial.buf buf (2 * size (children_of f l.fn.h.0)) l.initial.steps to;
+      later : (w : Option ℕ) (buf : Buffer) (to : ℕ) → PaintsMet scene (trees_walk scene clip left) (number_of l.progress.start) w l.buf buf (2 * size left) l.steps to →
+          PaintsMet scene (below_walk scene clip l.fn.h.0) (number_of l.initial.progress.start) w l.initial.buf buf (2 * size (children_of f l.fn.h.0)) l.initial.steps to;
     }

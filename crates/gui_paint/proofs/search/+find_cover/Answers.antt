@@ -15,7 +15,7 @@ use Rattle.gui_paint.proofs.search.+find_cover.Goals as goal
 pub returns-in_default-clause-last : goal.returns-in_default-clause-last
 returns-in_default-clause-last g t c =
     let scene = scene_of c.args.shown.now.store.now in
-    sym (ap (λ (l : List Seen). fold (remembered scene (rect_of c.args.part)) (number_of c.args.last.now) l) c.in_default.ensures.met)
+    sym (ap (λ (l : List Seen). fold (remembered scene (rect_of c.args.part)) (number_of c.args.search.now.last) l) c.in_default.ensures.met)
 
 pub returns-in_default-clause-steps : goal.returns-in_default-clause-steps
 returns-in_default-clause-steps g t c = let few = c.in_default.ensures.steps in omega (arith, few)
@@ -31,7 +31,7 @@ loop-child-init g t c =
     let begins = begins_below (handles_of scene.trees) h _ (c.into_iter-child-iterator.ensures.into_iter_gives ∙ (c.children-child-items.ensures.walk ∙ ap (λ (f : Forest ℕ). walk f (children_of f h)) c.tree-tree.ensures.forest)) in
     record {
       below = begins.is;
-      last = ap (fold (remembered scene (rect_of c.args.part)) (number_of c.remember.new.last)) (ap (trees_walk scene clip) begins.all ∙ sym (walks_below scene clip h c.tree-tree.ensures.valid));
+      last = ap (fold (remembered scene (rect_of c.args.part)) (number_of c.remember.new.search.last)) (ap (trees_walk scene clip) begins.all ∙ sym (walks_below scene clip h c.tree-tree.ensures.valid));
       steps = rw begins.all (omega arith);
     }
 
@@ -53,7 +53,7 @@ loop-child-preserved g t c =
     record {
       below = w.is;
       last =
-          searches_first scene (rect_of c.args.part) (rect_of c.in-Some.seen.visible) h w.children later c.loop-child.child-iterator.left (number_of c.loop-child.last) (number_of c.find_cover.new.last) w.left c.find_cover.ensures.last
+          searches_first scene (rect_of c.args.part) (rect_of c.in-Some.seen.visible) h w.children later c.loop-child.child-iterator.left (number_of c.loop-child.search.last) (number_of c.find_cover.new.search.last) w.left c.find_cover.ensures.last
           ∙ inv.last;
       steps = omega (arith, steps, few, size_at scene h, ap (λ (t : Forest ℕ). size t) w.tree);
     }
@@ -63,8 +63,8 @@ returns-clause-last g t c =
     let scene = scene_of c.args.shown.now.store.now in
     let part = rect_of c.args.part in
     let clip = rect_of c.in-Some.seen.visible in
-    let below : number_of c.loop-child.last ≡ fold (remembered scene part) (number_of c.remember.new.last) (below_walk scene clip c.args.h.0) =
-    ap (λ (t : Forest ℕ). fold (remembered scene part) (number_of c.loop-child.last) (trees_walk scene clip t)) (sym c.in-None.ensures.steps.0) ∙ c.loop-child.invariant.last in
+    let below : number_of c.loop-child.search.last ≡ fold (remembered scene part) (number_of c.remember.new.search.last) (below_walk scene clip c.args.h.0) =
+    ap (λ (t : Forest ℕ). fold (remembered scene part) (number_of c.loop-child.search.last) (trees_walk scene clip t)) (sym c.in-None.ensures.steps.0) ∙ c.loop-child.invariant.last in
     searches_tree scene part (rect_of c.args.clip) clip c.args.h.0 _ _ _ c.in-Some.ensures.met.walk c.remember.ensures below
 
 pub returns-clause-steps : goal.returns-clause-steps

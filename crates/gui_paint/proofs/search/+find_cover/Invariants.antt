@@ -21,6 +21,6 @@ invariant-loop-child g l =
     let clip = rect_of l.seen.visible in
     record {
       below : IsBelow f l.fn.h.0 l.child-iterator;
-      last : fold step (number_of l.last) (trees_walk scene clip left) ≡ fold step (number_of l.initial.last) (below_walk scene clip l.fn.h.0);
+      last : fold step (number_of l.search.last) (trees_walk scene clip left) ≡ fold step (number_of l.initial.search.last) (below_walk scene clip l.fn.h.0);
       steps : l.steps + size left ≤ l.initial.steps + size (children_of f l.fn.h.0);
     }

@@ -33,6 +33,7 @@ returns-in_err-shown-in-Frame-clause-err g c = on_err c.from_residual-in_err-sho
     frames = c.in_err-shown-in-Frame.ensures.err.frames;
     shown = tt;
     faults = omega (arith, c.in_err-shown-in-Frame.ensures.err.faults);
+    turn = c.in_err-shown-in-Frame.ensures.err.turn;
     cause = record { log = refl; panel = c.in_err-shown-in-Frame.ensures.err.cause };
   };
   counts = c.in_err-shown-in-Frame.ensures.err_counts;
@@ -51,6 +52,7 @@ returns-in_err-put-in-Frame-clause-err g c = on_err c.from_residual-in_err-put-i
         frames = shown.frames;
         shown = shown.shown;
         faults = shown.faults;
+        turn = shown.keeps.turn;
         cause = c.in_err-put-in-Frame.ensures.cause.failed;
       };
       counts = c.in_ok-shown-in-Frame.ensures.counts;
@@ -70,6 +72,7 @@ returns-in_err-put-in-Pump-clause-err g c = on_err c.from_residual-in_err-put-in
         frames = effects.frames;
         shown = effects.shown;
         faults = effects.faults;
+        turn = effects.keeps.turn;
         cause = c.in_err-put-in-Pump.ensures.cause.failed;
       };
       counts = pumps.sends.counts;

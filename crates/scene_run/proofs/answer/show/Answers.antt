@@ -17,5 +17,6 @@ returns-in-Fault-clause-ok g c =
         told = keeps.told;
         flush_faults = keeps.flush_faults;
         present_faults = omega (arith, keeps.present_faults);
+        turn = keeps.turn;
       };
     }

@@ -16,11 +16,11 @@ returns-clause-cover g c =
     let scene = scene_of c.args.self.now.store.now in
     let part = rect_of c.args.area in
     let clip = c.panel-clip.ensures in
-    searches_three scene part c.active-screen.ensures.valid (number_of c.find_cover.new.last) (number_of c.find_cover-2.new.last) (number_of c.find_cover-3.new.last)
-    (subst (λ (h : ℕ). number_of c.find_cover.new.last ≡ fold (remembered scene part) None (tree_walk scene (panel_of scene) h)) c.active-screen.ensures.screen
-    (subst (λ (r : Rect). number_of c.find_cover.new.last ≡ fold (remembered scene part) None (tree_walk scene r c.active-screen.result.0)) clip c.find_cover.ensures.last))
-    (subst (λ (r : Rect). number_of c.find_cover-2.new.last ≡ fold (remembered scene part) (number_of c.find_cover.new.last) (tree_walk scene r 1)) clip c.find_cover-2.ensures.last)
-    (subst (λ (r : Rect). number_of c.find_cover-3.new.last ≡ fold (remembered scene part) (number_of c.find_cover-2.new.last) (tree_walk scene r 2)) clip c.find_cover-3.ensures.last)
+    searches_three scene part c.active-screen.ensures.valid (number_of c.find_cover.new.search.last) (number_of c.find_cover-2.new.search.last) (number_of c.find_cover-3.new.search.last)
+    (subst (λ (h : ℕ). number_of c.find_cover.new.search.last ≡ fold (remembered scene part) None (tree_walk scene (panel_of scene) h)) c.active-screen.ensures.screen
+    (subst (λ (r : Rect). number_of c.find_cover.new.search.last ≡ fold (remembered scene part) None (tree_walk scene r c.active-screen.result.0)) clip c.find_cover.ensures.last))
+    (subst (λ (r : Rect). number_of c.find_cover-2.new.search.last ≡ fold (remembered scene part) (number_of c.find_cover.new.search.last) (tree_walk scene r 1)) clip c.find_cover-2.ensures.last)
+    (subst (λ (r : Rect). number_of c.find_cover-3.new.search.last ≡ fold (remembered scene part) (number_of c.find_cover-2.new.search.last) (tree_walk scene r 2)) clip c.find_cover-3.ensures.last)
 
 pub returns-clause-steps : goal.returns-clause-steps
 returns-clause-steps g c =

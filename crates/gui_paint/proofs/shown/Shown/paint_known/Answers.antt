@@ -19,8 +19,8 @@ use Rattle.gui_paint.proofs.shown.Shown.paint_known.Goals as goal
 
 pub returns-then-are_plain-clause-painted : goal.returns-then-are_plain-clause-painted
 returns-then-are_plain-clause-painted g c =
-    paints_plain c.args.buf.now c.paint_items.new.buf (scene_of c.args.self.now.store.now) (rect_of c.args.visible) c.args.h.0 c.fonts-fonts.result.now.fonts c.images-images.result.now.images _ (items_of c.args.known.now)
-    c.fonts-fonts.ensures c.images-images.ensures c.requires.known (sym c.are_plain.ensures ∙ c.if-are_plain.true) c.paint_items.ensures.painted
+    paints_plain c.args.buf.now c.paint_items.new.buf (scene_of c.args.self.now.store.now) (rect_of c.args.visible) c.args.h.0 _ (items_of c.args.known.now)
+    c.requires.known (sym c.are_plain.ensures ∙ c.if-are_plain.true) c.paint_items.ensures.painted
 
 pub returns-then-are_plain-clause-steps : goal.returns-then-are_plain-clause-steps
 unfolding chars
@@ -38,15 +38,14 @@ returns-then-are_drawable-clause-steps g c =
 pub paint_items-requires-then-are_drawable-clause-ready : goal.paint_items-requires-then-are_drawable-clause-ready
 paint_items-requires-then-are_drawable-clause-ready g c =
     let known = items_of c.args.known.now in
-    let same = c.fonts-fonts-then-are_drawable.ensures ∙ sym c.fonts.ensures in
-    drawable_ready c.fonts-fonts-then-are_drawable.result.now.fonts known
-    (ap (λ (fonts : List Font). list_all (is_drawable fonts) known) same ∙ (sym c.are_drawable.ensures ∙ c.if-are_drawable.true))
+    drawable_ready (scene_of c.args.self.now.store.now).fonts known
+    (ap (λ (fonts : List Font). list_all (is_drawable fonts) known) (sym c.fonts.ensures) ∙ (sym c.are_drawable.ensures ∙ c.if-are_drawable.true))
 
 pub returns-then-are_drawable-clause-painted : goal.returns-then-are_drawable-clause-painted
 returns-then-are_drawable-clause-painted g c =
     let scene = scene_of c.args.self.now.store.now in
-    paints_lettered c.args.buf.now c.paint_items-then-are_drawable.new.buf scene (rect_of c.args.visible) c.args.h.0 c.fonts-fonts-then-are_drawable.result.now.fonts c.images-images-then-are_drawable.result.now.images (chars c.text_of-letters.result.now) (items_of c.args.known.now)
-    c.fonts-fonts-then-are_drawable.ensures c.images-images-then-are_drawable.ensures c.requires.known (ap chars c.text_of-letters.ensures.text ∙ text_chars scene c.args.h.0) c.paint_items-then-are_drawable.ensures.painted
+    paints_lettered c.args.buf.now c.paint_items-then-are_drawable.new.buf scene (rect_of c.args.visible) c.args.h.0 (chars c.text_of-letters.result.now) (items_of c.args.known.now)
+    c.requires.known (ap chars c.text_of-letters.ensures.text ∙ text_chars scene c.args.h.0) c.paint_items-then-are_drawable.ensures.painted
 
 -- an object that stands nowhere paints nothing, and nothing can be drawn
 none_in : (scene : Scene) (object : Option Object) (at : Option Rect) → None ≡ at → items_in scene object at ≡ []

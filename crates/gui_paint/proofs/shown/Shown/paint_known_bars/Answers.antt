@@ -14,11 +14,11 @@ use Rattle.gui_paint.proofs.shown.Shown.paint_known_bars.Goals as goal
 
 pub paint_items-requires-clause-ready : goal.paint_items-requires-clause-ready
 paint_items-requires-clause-ready g c =
-    subst (λ (l : List Painted). All (IsPaintable c.fonts-fonts.result.now.fonts) l) (sym c.requires) (bars_ready c.fonts-fonts.result.now.fonts (scene_of c.args.self.now.store.now) c.args.h.0)
+    subst (λ (l : List Painted). All (IsPaintable (scene_of c.args.self.now.store.now).fonts) l) (sym c.requires) (bars_ready (scene_of c.args.self.now.store.now).fonts (scene_of c.args.self.now.store.now) c.args.h.0)
 
 pub returns-clause-painted : goal.returns-clause-painted
 returns-clause-painted g c =
-    paints_bars c.args.buf.now c.paint_items.new.buf (scene_of c.args.self.now.store.now) (rect_of c.args.visible) c.args.h.0 _ _ _ _ c.fonts-fonts.ensures c.images-images.ensures c.requires c.paint_items.ensures.painted
+    paints_bars c.args.buf.now c.paint_items.new.buf (scene_of c.args.self.now.store.now) (rect_of c.args.visible) c.args.h.0 _ _ c.requires c.paint_items.ensures.painted
 
 pub returns-clause-steps : goal.returns-clause-steps
 unfolding chars

@@ -1,4 +1,4 @@
-use Rattle.std.proofs.Common.{◌∙◌, ap, subst}
+use Rattle.std.proofs.Common.{refl, ◌∙◌, ap, subst}
 use Rattle.gui_base.specs.Gridded.{size_in}
 use Rattle.panel_dcs.specs.DcsPanel.{OpensBus, resized}
 use Rattle.panel_dcs.specs.Turning.{turned, columns_of, pages_of}
@@ -23,7 +23,7 @@ invariant_of-self-in-Ok-send_opening g c =
 
 pub returns-in-Ok-send_opening-clause-answer : goal.returns-in-Ok-send_opening-clause-answer
 returns-in-Ok-send_opening-clause-answer g c =
-    dcs_opens g.F.Sink.state g.B.Bus.state _ _ (g.B.Bus.state c.open.new.self) c.send_opening.new.bus (turned (record { turn = c.self.inside.sizes.turn; width = c.args.width; height = c.args.height })) c.args.limit (size_in c.args.block) (ap (λ d. d.state) c.self.view_is)
+    dcs_opens g.F.Sink.state g.B.Bus.state _ _ (g.B.Bus.state c.open.new.self) c.send_opening.new.bus (turned (record { turn = c.self.inside.sizes.turn; width = c.args.width; height = c.args.height })) c.args.limit (size_in c.args.block) (ap (λ d. d.state) c.self.view_is) refl
     (none_comes _ c.self.inside.limit (g.B.Bus.state c.self.inside.bus) c.self.inside.coming c.self.inside.row (ap (λ d. d.state.limit) c.self.view_is ∙ c.requires.closed) c.self.invariant)
     (sized (g.B.Bus.state c.self.inside.bus) (g.B.Bus.state c.open.new.self) c.columns_of.result (columns_of (turned (record { turn = c.self.inside.sizes.turn; width = c.args.width; height = c.args.height }))) c.pages_of.result (pages_of (turned (record { turn = c.self.inside.sizes.turn; width = c.args.width; height = c.args.height }))) c.columns_of.ensures c.pages_of.ensures c.in-Ok.ensures)
     c.in-Ok-send_opening.ensures.0 c.in-Ok-send_opening.ensures.1

@@ -1,0 +1,19 @@
+//! A scene after a change.
+ghost use Rattle.gui_layout.specs.Solved.{AreReached, AreSolved};
+ghost use Rattle.gui_store.specs.Views.{scene_of};
+
+use crate::concerned::Concerned;
+use gui_layout::Places;
+use gui_store::Store;
+
+/// A scene after a change, with its places.
+#[derive(Clone, Copy)]
+pub(crate) struct After<'a> {
+    pub(crate) store: &'a Store,
+    /// The places of its objects, solved for this store.
+    pub(crate) places: &'a Places,
+    /// Those that the change may concern. What is known of others may be kept.
+    pub(crate) concerned: Concerned,
+    ghost solved: { AreSolved places.now (scene_of store.now) },
+    ghost reached: { AreReached places.now (scene_of store.now) },
+}

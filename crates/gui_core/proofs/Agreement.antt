@@ -17,7 +17,7 @@ use Rattle.scene_defs.specs.Place.{panel_of}
 use Rattle.scene_defs.specs.Scene.{Scene}
 use Rattle.scene_defs.specs.Valid.{IsValid}
 use Rattle.gui_play.specs.Panels.{AgreesWith, GoesOnAgreeing}
-use Rattle.gui_play.proofs.Sending.{panel_is, of_panel}
+use Rattle.gui_board.proofs.Sending.{panel_is, of_panel}
 
 -- where all of the panel is pending
 pub whole_agrees_with : (refresher : Refreshing) (scene : Scene) (areas : List Rect) → areas ≡ panel_of scene ∷ [] → (panel : PanelState) → HasSizes panel scene.limits → AgreesWith (stage refresher panel (of_panel scene areas)) scene

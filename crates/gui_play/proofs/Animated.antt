@@ -1,19 +1,12 @@
 -- Animations give their objects what they have.
-use Rattle.std.proofs.Common.{◌≡◌, ◌∙◌, sym, ap, subst, refl, ℕ, ◌+◌, Bool, true, false, Option, Some, None, List, [], ◌∷◌, length, take, ℤ, Ok, inl, inr, arith}
-use Rattle.std.specs.Prelude.{slice_get, option_map, is_some, if◌then◌else◌, not}
-use Rattle.std.proofs.lemmas.Bool.{not-false}
+use Rattle.std.proofs.Common.{◌≡◌, ◌∙◌, sym, ap, subst, refl, ℕ, ◌+◌, Option, Some, None, List, take, ℤ, inl, inr, arith}
+use Rattle.std.specs.Prelude.{slice_get, option_map}
 use Rattle.std.proofs.lemmas.Int.{ints}
-use Rattle.gui_anim.specs.Anims.{Anims, as_pair, start_answer}
-use Rattle.gui_base.specs.Forest.{Forest, parent_of}
-use Rattle.gui_base.specs.Refusing.{Test, first_of, Unknown}
+use Rattle.gui_anim.specs.Anims.{as_pair}
 use Rattle.gui_base.specs.declared.Handle.{Handle}
 use Rattle.gui_base.specs.declared.events.Var.{Var}
 use Rattle.gui_base.specs.declared.events.Var.TheVariants.{X, Y, Width, Height, Value}
-use Rattle.gui_base.specs.declared.limits.Pool.TheVariants.{Anims as AnimSlots}
-use Rattle.gui_base.specs.declared.refusal.Refusal.{Refusal}
-use Rattle.gui_base.specs.declared.refusal.Refusal.TheVariants.{Range}
-use Rattle.gui_tree.specs.Handles.{as_handle}
-use Rattle.play_defs.specs.Animation.{IsAnim, IsEnd, is_moved}
+use Rattle.play_defs.specs.Animation.{IsAnim, IsEnd}
 use Rattle.play_defs.specs.Laws.{IsBetween}
 use Rattle.play_defs.specs.declared.Anim.{Anim}
 use Rattle.play_defs.specs.declared.AnimSpec.{AnimSpec}
@@ -21,21 +14,15 @@ use Rattle.run_defs.specs.Animating.{animate, var_change, make_some, put_var, pu
 use Rattle.run_defs.specs.Machine.{Machine}
 use Rattle.run_defs.specs.Making.{make}
 use Rattle.run_defs.specs.Play.{each}
-use Rattle.run_defs.specs.Step.{answer, full_by, full_for, gone, is_anim_in_range, is_command_in_range, tests_of}
-use Rattle.run_defs.specs.declared.Command.TheVariants as ask
-use Rattle.run_defs.proofs.Anims.{anim-is}
 use Rattle.run_laws.proofs.Animated.{animating_runs_on}
-use Rattle.scene_defs.specs.Edits.{has_feature_at, is_featured}
-use Rattle.scene_defs.specs.Row.{has_feature, shown_row}
-use Rattle.scene_defs.specs.Scene.{Object, Scene, object_at, row_at, row_of}
-use Rattle.scene_defs.specs.declared.Feature.{Feature}
+use Rattle.scene_defs.specs.Row.{shown_row}
+use Rattle.scene_defs.specs.Scene.{row_at}
 use Rattle.scene_defs.specs.declared.Change.{Change}
 use Rattle.scene_defs.specs.declared.Row.{Row}
 use Rattle.gui_play.specs.Animated.{anim_at}
-use Rattle.gui_play.specs.Stages.{Stage, Played}
-use Rattle.gui_play.proofs.Answering.{first_fails, in_range, room}
-use Rattle.gui_play.proofs.Handled.{past, played_next}
-use Rattle.gui_play.proofs.Plays.{idle, played_whole}
+use Rattle.gui_board.specs.Stages.{Stage, Played}
+use Rattle.gui_board.proofs.Handled.{past, played_next}
+use Rattle.gui_board.proofs.Plays.{idle, played_whole}
 
 -- what lies between the ends of an animation may be one
 pub given_end : (spec : AnimSpec) (n : ℤ) → IsAnim spec → IsBetween spec.start spec.end n → IsEnd n
@@ -91,75 +78,3 @@ module _ (a b : Stage) (n : ℕ) (h : Played a b (each animate (take n a.machine
         from_none : (o : Option Anim) → option_map as_pair o ≡ None → o ≡ None
         from_none None f = refl
         from_none (Some anim) f = cc
-
--- Refusals.
-
--- what is asked whatever room there is comes first
-pub tests_hold : (ts : List Test) (later : Option Refusal) (refusal : Refusal) → first_of ts None ≡ Some refusal → first_of ts later ≡ Some refusal
-tests_hold [] later refusal e = cc
-tests_hold ((true, reason) ∷ ts) later refusal e = e
-tests_hold ((false, reason) ∷ ts) later refusal e = tests_hold ts later refusal e
-
-pub tests_fail : (ts : List Test) (later : Option Refusal) → first_of ts None ≡ None → first_of ts later ≡ later
-tests_fail [] later e = refl
-tests_fail ((true, reason) ∷ ts) later e = cc
-tests_fail ((false, reason) ∷ ts) later e = tests_fail ts later e
-
-pub later_fails : (ts : List Test) (later : Option Refusal) → first_of ts later ≡ None → later ≡ None
-later_fails [] later e = e
-later_fails ((true, reason) ∷ ts) later e = cc
-later_fails ((false, reason) ∷ ts) later e = later_fails ts later e
-
-range_holds : (b : Bool) (o : Option Refusal) → (if b then o else Some Range) ≡ None → b ≡ true
-range_holds true o e = refl
-range_holds false o e = cc
-
--- an animation against which nothing is has its numbers in range
-pub may_start : (machine : Machine) (spec : AnimSpec) → answer machine (ask.Anim spec) ≡ None → IsAnim spec
-may_start machine spec e =
-    anim-is spec (range_holds (is_anim_in_range spec) (first_of (tests_of machine (ask.Anim spec)) (full_for machine (ask.Anim spec))) e)
-
--- and there is room for it, or it replaces one
-started_by : (s : Anims) (spec : AnimSpec) (slots : ℕ) → s.size ≡ slots → (if is_moved spec.h.0 spec.var s.running then None else full_by slots (length s.running) AnimSlots) ≡ None → start_answer s spec.h.0 spec.var ≡ Ok tt
-started_by s spec slots same e = by (is_moved spec.h.0 spec.var s.running) refl where
-  by : (b : Bool) → is_moved spec.h.0 spec.var s.running ≡ b → start_answer s spec.h.0 spec.var ≡ Ok tt
-  by true moved = rw moved refl
-  by false moved =
-      let few = room s.size (length s.running) AnimSlots (ap (λ (n : ℕ). full_by n (length s.running) AnimSlots) same ∙ (rw moved at e)) in
-      rw (moved, few) refl
-
-pub may_be_started : (machine : Machine) (s : Anims) (spec : AnimSpec) → machine.anims ≡ s.running → s.size ≡ machine.scene.limits.anims → answer machine (ask.Anim spec) ≡ None → start_answer s spec.h.0 spec.var ≡ Ok tt
-may_be_started machine s spec runs same e =
-    let tests = in_range (is_anim_in_range spec) (first_of (tests_of machine (ask.Anim spec)) (full_for machine (ask.Anim spec))) e in
-    let full = later_fails (tests_of machine (ask.Anim spec)) (full_for machine (ask.Anim spec)) tests in
-    started_by s spec machine.scene.limits.anims same
-    (subst (λ (anims : List Anim). (if is_moved spec.h.0 spec.var anims then None else full_by machine.scene.limits.anims (length anims) AnimSlots) ≡ None) runs full)
-
--- an animation that may be stopped runs
-pub may_be_stopped : (machine : Machine) (h : Handle) (var : Var) → answer machine (ask.Stop h var) ≡ None → is_moved h.0 var machine.anims ≡ true
-may_be_stopped machine h var e =
-    let still : Test = (not (is_moved h.0 var machine.anims), Unknown) in
-    let tests = in_range (is_command_in_range (ask.Stop h var)) (first_of (tests_of machine (ask.Stop h var)) None) e in
-    let one = first_fails (gone machine h) (still ∷ []) None tests in
-    let two = first_fails still [] None one.1 in
-    not-false _ two.0
-
--- whether an object has a feature, by its row
-pub not_featured : (feature : Feature) (scene : Scene) (h : ℕ) → row_at scene h ≡ None → false ≡ has_feature_at scene feature h
-not_featured feature scene h e = by (object_at scene h) e where
-  by : (object : Option Object) → option_map row_of object ≡ None → false ≡ is_featured feature object
-  by None f = refl
-  by (Some object) f = cc
-
-pub featured_by : (feature : Feature) (scene : Scene) (h : ℕ) (row : Row) → row_at scene h ≡ Some (shown_row row) → has_feature feature row.kind ≡ has_feature_at scene feature h
-featured_by feature scene h row e = by (object_at scene h) e where
-  by : (object : Option Object) → option_map row_of object ≡ Some (shown_row row) → has_feature feature row.kind ≡ is_featured feature object
-  by None f = cc
-  by (Some object) f = let same : object.row ≡ shown_row row = cc in ap (λ (r : Row). has_feature feature r.kind) (sym same)
-
--- whether an object has a parent, by the handle of it
-pub has_parent : (f : Forest ℕ) (h : ℕ) (up : Option Handle) → up ≡ option_map as_handle (parent_of f h) → is_some (parent_of f h) ≡ is_some up
-has_parent f h up e = by (parent_of f h) ∙ ap (λ (o : Option Handle). is_some o) (sym e) where
-  by : (o : Option ℕ) → is_some o ≡ is_some (option_map as_handle o)
-  by None = refl
-  by (Some k) = refl

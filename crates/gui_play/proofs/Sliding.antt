@@ -9,8 +9,8 @@ use Rattle.run_defs.specs.Reactions.{is_slider, put_value, slide, slide_by, slid
 use Rattle.scene_defs.specs.Scene.{row_at}
 use Rattle.scene_defs.specs.declared.Row.{Row}
 use Rattle.gui_play.specs.Sliding.{slid_in, slid_value}
-use Rattle.gui_play.specs.Stages.{Stage, Played}
-use Rattle.gui_play.proofs.Plays.{idle}
+use Rattle.gui_board.specs.Stages.{Stage, Played}
+use Rattle.gui_board.proofs.Plays.{idle}
 
 none_if : (b : Bool) (row : Row) (area : Option Rect) (x : ℤ) (h : Handle) → (if b then option_map (λ a. value_at row a x) area else None) ≡ None → (if b then slide_in row area x h else nothing) ≡ nothing
 none_if true row None x h e = refl

@@ -12,10 +12,10 @@ use Rattle.run_defs.specs.Play.{Play, Rule, only}
 use Rattle.run_defs.specs.Step.{done, unless}
 use Rattle.run_defs.specs.declared.Reply.{Reply}
 use Rattle.run_defs.specs.declared.Reply.TheVariants.{Ok as Fine, Refused}
-use Rattle.gui_play.specs.Boards.{IsEnd}
-use Rattle.gui_play.specs.Stages.{Stage, Played}
+use Rattle.gui_board.specs.Boards.{IsEnd}
+use Rattle.gui_board.specs.Stages.{Stage, Played}
 use Rattle.gui_play.specs.Steps.{Steps}
-use Rattle.gui_play.specs.Writing.{WritesBy}
+use Rattle.gui_board.specs.Writing.{WritesBy}
 
 -- the clauses on the log
 record Logged (old new : SinkState) (result : Result Reply Failed) (lines : List ℕ) (reply : Reply) : Type 0 where

@@ -3,8 +3,8 @@ use Rattle.std.proofs.Common.{zero, suc, add-one, ◌≡◌, ◌∙◌, sym, ap,
 use Rattle.run_defs.specs.Devices.{times}
 use Rattle.run_defs.specs.Machine.{Machine}
 use Rattle.run_defs.specs.Play.{Play, Rule, both, ◌⊳◌, ◌▷◌}
-use Rattle.gui_play.specs.Stages.{Stage, Played}
-use Rattle.gui_play.proofs.Plays.{idle, played_on, both_nothing, both_assoc}
+use Rattle.gui_board.specs.Stages.{Stage, Played}
+use Rattle.gui_board.proofs.Plays.{idle, played_on, both_nothing, both_assoc}
 
 times-more : (n : ℕ) (rule : Rule) (m : Machine) → times (suc n) rule m ≡ (times n rule m ⊳ rule)
 unfolding times ◌▷◌ ◌⊳◌

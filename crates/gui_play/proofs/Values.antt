@@ -17,8 +17,8 @@ use Rattle.std.proofs.lemmas.Bool.{and_parts}
 use Rattle.gui_base.specs.Intervals.{is_within}
 use Rattle.gui_base.specs.declared.intervals.TheConstants.{VALUE}
 use Rattle.scene_defs.specs.Scene.{row_at}
-use Rattle.gui_play.specs.Stages.{Stage, Played}
-use Rattle.gui_play.proofs.Plays.{idle}
+use Rattle.gui_board.specs.Stages.{Stage, Played}
+use Rattle.gui_board.proofs.Plays.{idle}
 
 apart_is : (a b : ℤ) → (a ≡ b → ⊥) → int_eq a b ≡ false
 apart_is a b apart = by (int_eq a b) refl where

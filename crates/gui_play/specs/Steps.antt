@@ -12,7 +12,7 @@ use Rattle.run_debts.specs.Owing.{owed_along}
 use Rattle.run_defs.specs.Step.{Step}
 use Rattle.run_defs.specs.declared.Reply.{Reply}
 use Rattle.run_defs.specs.declared.Reply.TheVariants.{Refused}
-use Rattle.gui_play.specs.Stages.{Stage}
+use Rattle.gui_board.specs.Stages.{Stage}
 
 -- a refusal is the answer: nothing becomes pending, and nothing is written
 pub record Refuses (refusal : Refusal) (result : Result Reply Failed) (before after : Pending)

@@ -1,25 +1,20 @@
 //! Commands: the first refusal of each, or its rule.
-ghost use Rattle.std.specs.Prelude.{◌≡◌, ◌∷◌, [], false, None};
-ghost use Rattle.gui_base.specs.Refusing.{first_of};
+ghost use Rattle.std.specs.Prelude.{◌≡◌, None};
 ghost use Rattle.gui_edge.specs.Sink.{SinkState};
 ghost use Rattle.run_defs.specs.Step.{answer, is_action_in_range, is_aim_in_range, is_command_in_range};
-ghost use Rattle.run_defs.specs.Step.{full_for, gone, handler_added, handlers_dropped, rule_of, step};
-ghost use Rattle.run_defs.specs.Step.{IsCommand, down_at, encoder_in, keypad_in, lifted, no_such_group};
-ghost use Rattle.run_defs.specs.Step.{tests_of};
-ghost use Rattle.run_defs.specs.Focusing.{join};
-ghost use Rattle.run_defs.specs.Making.{with_groups};
-ghost use Rattle.run_defs.specs.Play.{with};
-ghost use Rattle.play_defs.specs.Focus.{has_group, with_group};
+ghost use Rattle.run_defs.specs.Step.{rule_of, step, IsCommand, down_at, lifted};
 ghost use Rattle.scene_defs.specs.Valid.{IsChange};
 ghost use Rattle.run_laws.specs.Members.{AreJoined};
-ghost use Rattle.gui_play.specs.Boards.{machine_of};
+ghost use Rattle.gui_board.specs.Boards.{machine_of, stage, Plays, IsFresh};
 ghost use Rattle.gui_play.specs.Commands.{IsPlay};
 ghost use Rattle.gui_play.specs.Steps.{Steps};
 
 use crate::animating::is_anim_in_range;
-use crate::board::Board;
+use crate::devices::{feed_encoder, feed_keypad, feed_pointer};
+use crate::ticks::tick;
 use gui_base::intervals::{COORDINATE, DEVICE_GROUP, GROUP, HANDLE, TICK, TURN, VALUE};
-use gui_base::{Action, Aim, EventKind, Handle, Pool, Refusal};
+use gui_base::{Action, Aim, Refusal};
+use gui_board::Board;
 use gui_edge::{Failed, Sink};
 use play_defs::{EncoderReading, KeyReading, PointerReading};
 use run_defs::{Command, Reply};
@@ -87,231 +82,98 @@ fn lifted() -> PointerReading
     }
 }
 
-impl Board {
-    ghost use Rattle.gui_play.specs.Boards.{stage, Plays, Quiet, IsFresh};
+/// The first refusal of a command on events, groups, devices and animations, or none where it is done.
+fn refusal_of(board: &Board, command: &Command) -> Option<Refusal>
+    requires { IsPlay command.now }
+    ensures { result ≡ answer (machine_of board.now) command.now }
+{
+    if !is_in_range(command) {
+        return Some(Refusal::Range);
+    }
+    match *command {
+        Command::Change(_) => unreachable!(),
+        Command::On(h, kind, action) => board.on_refusal(h, kind, action),
+        Command::Group(id) => board.group_refusal(id),
+        Command::Join(id, h) => board.join_refusal(id, h),
+        Command::Off(h, _) | Command::Send(h, _) => board.unknown(h),
+        Command::Leave(h) | Command::Focus(h) => board.member_refusal(h),
+        Command::Keypad(id) | Command::Encoder(id) => board.device_refusal(id),
+        Command::Touch(_, _) | Command::Release | Command::Key(_, _) => None,
+        Command::Turn(_) | Command::Push(_) | Command::Tick(_) => None,
+        Command::Anim(spec) => board.anim_refusal(spec),
+        Command::Stop(h, var) => board.stop_refusal(h, var),
+    }
+}
 
-    /// `Unknown` where an object is not there.
-    fn unknown(&self, h: Handle) -> Option<Refusal>
-        ensures { result ≡ first_of (gone (machine_of self.now) h ∷ []) None }
-    {
-        if self.has(h) {
-            None
-        } else {
-            Some(Refusal::Unknown)
+/// Carries out a command on events, groups, devices and animations against which there is no refusal.
+fn carry_out<S: Sink>(board: &mut Board, command: &Command, log: &mut S)
+    requires play { IsPlay command.now }
+    requires answer { answer (machine_of board.old) command.now ≡ None }
+    requires members { AreJoined (machine_of board.old) }
+    ensures { Plays board.old board.new (S.state log.old) (S.state log.new) (rule_of command.now) }
+{
+    match *command {
+        Command::Change(_) => unreachable!(),
+        Command::On(h, kind, action) => board.add_handler(h, kind, action),
+        Command::Off(h, kind) => board.drop_handlers(h, kind),
+        Command::Send(h, kind) => board.send(kind, h, log),
+        Command::Group(id) => board.add_group(id),
+        Command::Join(id, h) => board.join_new(id, h, log),
+        Command::Leave(h) => board.leave(h),
+        Command::Focus(h) => board.focus(h, log),
+        Command::Keypad(id) => board.set_keypad_group(id),
+        Command::Encoder(id) => board.set_encoder_group(id),
+        Command::Touch(x, y) => feed_pointer(board, Some(down_at(x, y)), log),
+        Command::Release => feed_pointer(board, Some(lifted()), log),
+        Command::Key(key, down) => feed_keypad(board, Some(KeyReading { key, down }), log),
+        Command::Turn(n) => feed_encoder(board, Some(EncoderReading::Turn(n)), log),
+        Command::Push(down) => feed_encoder(board, Some(EncoderReading::Push(down)), log),
+        Command::Tick(ms) => tick(board, ms, log),
+        Command::Anim(spec) => board.start_anim(spec),
+        Command::Stop(h, var) => board.stop_anim(h, var),
+    }
+}
+
+/// Makes a change of the scene, and replies.
+fn apply_change<S: Sink>(board: &mut Board, change: &Change, log: &mut S) -> Result<Reply, Failed>
+    requires change { IsChange change.now }
+    requires fresh { IsFresh board.old }
+    ensures { Steps (stage board.old (S.state log.old)) (stage board.new (S.state log.new)) result
+        (step (machine_of board.old) (Command.Change change.now)) }
+{
+    match board.make(change) {
+        Ok(()) => board.finish(),
+        Err(refusal) => Ok(Reply::Refused(refusal)),
+    }
+}
+
+/// Carries out a command on events, groups, devices and animations, or answers its first refusal.
+fn apply_play<S: Sink>(board: &mut Board, command: &Command, log: &mut S) -> Result<Reply, Failed>
+    requires play { IsPlay command.now }
+    requires members { AreJoined (machine_of board.old) }
+    requires fresh { IsFresh board.old }
+    ensures { Steps (stage board.old (S.state log.old)) (stage board.new (S.state log.new)) result
+        (step (machine_of board.old) command.now) }
+{
+    match refusal_of(board, command) {
+        Some(refusal) => Ok(Reply::Refused(refusal)),
+        None => {
+            carry_out(board, command, log);
+            board.finish()
         }
     }
+}
 
-    /// The first refusal of a handler that is to be added.
-    fn on_refusal(&self, h: Handle, kind: EventKind, action: Action) -> Option<Refusal>
-        ensures { result ≡ first_of (tests_of (machine_of self.now) (Command.On h kind action))
-            (full_for (machine_of self.now) (Command.On h kind action)) }
-    {
-        let unknown = self.unknown(h);
-        if unknown.is_some() {
-            return unknown;
-        }
-        if self.handlers.spare() == 0 {
-            Some(Refusal::Full(Pool::Handlers))
-        } else {
-            None
-        }
-    }
-
-    /// The first refusal of a group that is to be made.
-    fn group_refusal(&self, id: u8) -> Option<Refusal>
-        ensures { result ≡ first_of (tests_of (machine_of self.now) (Command.Group id))
-            (full_for (machine_of self.now) (Command.Group id)) }
-    {
-        if self.groups.has(id) {
-            Some(Refusal::Taken)
-        } else if self.groups.spare() == 0 {
-            Some(Refusal::Full(Pool::Groups))
-        } else {
-            None
-        }
-    }
-
-    /// The first refusal of an object that is to join a group.
-    fn join_refusal(&self, id: u8, h: Handle) -> Option<Refusal>
-        ensures { result ≡ first_of (tests_of (machine_of self.now) (Command.Join id h)) None }
-    {
-        if !self.groups.has(id) {
-            Some(Refusal::Unknown)
-        } else if !self.has(h) {
-            Some(Refusal::Unknown)
-        } else if self.groups.group_of(h).is_some() {
-            Some(Refusal::Taken)
-        } else {
-            None
-        }
-    }
-
-    /// The first refusal where an object has to be there and in a group.
-    fn member_refusal(&self, h: Handle) -> Option<Refusal>
-        ensures { result ≡ first_of (tests_of (machine_of self.now) (Command.Leave h)) None }
-    {
-        if !self.has(h) {
-            Some(Refusal::Unknown)
-        } else if self.groups.group_of(h).is_none() {
-            Some(Refusal::Place)
-        } else {
-            None
-        }
-    }
-
-    /// The first refusal of a group that a device is to have, 0 for none.
-    fn device_refusal(&self, id: u8) -> Option<Refusal>
-        ensures { result ≡ first_of (no_such_group (machine_of self.now) id ∷ []) None }
-    {
-        if id != 0 && !self.groups.has(id) {
-            Some(Refusal::Unknown)
-        } else {
-            None
-        }
-    }
-
-    /// Adds a handler, the last of its object, where there is room.
-    fn add_handler(&mut self, h: Handle, kind: EventKind, action: Action)
-        requires { full_for (machine_of self.old) (Command.On h kind action) ≡ None }
-        ensures { Quiet self.old self.new (with (handler_added h kind action)) }
-    {
-        let _ = self.handlers.add_handler(h, kind, action);
-    }
-
-    /// Drops the handlers of a kind of an object.
-    fn drop_handlers(&mut self, h: Handle, kind: EventKind)
-        ensures { Quiet self.old self.new (with (handlers_dropped h kind)) }
-    {
-        self.handlers.drop_kind(h, kind);
-    }
-
-    /// Makes a group that is not there, where there is room.
-    fn add_group(&mut self, id: u8)
-        requires new { has_group (machine_of self.old).groups id ≡ false }
-        requires room { full_for (machine_of self.old) (Command.Group id) ≡ None }
-        ensures { Quiet self.old self.new (with_groups (λ groups. with_group groups id)) }
-    {
-        let _ = self.groups.group(id);
-    }
-
-    /// Gives the keypad a group, 0 for none.
-    fn set_keypad_group(&mut self, id: u8)
-        ensures { Quiet self.old self.new (with (keypad_in id)) }
-    {
-        self.inputs.keypad_group = id;
-    }
-
-    /// Gives the encoder a group, 0 for none.
-    fn set_encoder_group(&mut self, id: u8)
-        ensures { Quiet self.old self.new (with (encoder_in id)) }
-    {
-        self.inputs.encoder_group = id;
-    }
-
-    /// Makes an object a member of a group where nothing is against that.
-    fn join_new<S: Sink>(&mut self, id: u8, h: Handle, log: &mut S)
-        requires answer { answer (machine_of self.old) (Command.Join id h) ≡ None }
-        requires members { AreJoined (machine_of self.old) }
-        ensures { Plays self.old self.new (S.state log.old) (S.state log.new) (join id h) }
-    {
-        // Lending the tree tells that the scene is in order.
-        let _tree = self.canvas.store().tree();
-        self.join(id, h, log);
-    }
-
-    /// The first refusal of a command on events, groups, devices and animations, or none where it is done.
-    fn refusal_of(&self, command: &Command) -> Option<Refusal>
-        requires { IsPlay command.now }
-        ensures { result ≡ answer (machine_of self.now) command.now }
-    {
-        if !is_in_range(command) {
-            return Some(Refusal::Range);
-        }
-        match *command {
-            Command::Change(_) => unreachable!(),
-            Command::On(h, kind, action) => self.on_refusal(h, kind, action),
-            Command::Group(id) => self.group_refusal(id),
-            Command::Join(id, h) => self.join_refusal(id, h),
-            Command::Off(h, _) | Command::Send(h, _) => self.unknown(h),
-            Command::Leave(h) | Command::Focus(h) => self.member_refusal(h),
-            Command::Keypad(id) | Command::Encoder(id) => self.device_refusal(id),
-            Command::Touch(_, _) | Command::Release | Command::Key(_, _) => None,
-            Command::Turn(_) | Command::Push(_) | Command::Tick(_) => None,
-            Command::Anim(spec) => self.anim_refusal(spec),
-            Command::Stop(h, var) => self.stop_refusal(h, var),
-        }
-    }
-
-    /// Carries out a command on events, groups, devices and animations against which there is no refusal.
-    fn carry_out<S: Sink>(&mut self, command: &Command, log: &mut S)
-        requires play { IsPlay command.now }
-        requires answer { answer (machine_of self.old) command.now ≡ None }
-        requires members { AreJoined (machine_of self.old) }
-        ensures { Plays self.old self.new (S.state log.old) (S.state log.new) (rule_of command.now) }
-    {
-        match *command {
-            Command::Change(_) => unreachable!(),
-            Command::On(h, kind, action) => self.add_handler(h, kind, action),
-            Command::Off(h, kind) => self.drop_handlers(h, kind),
-            Command::Send(h, kind) => self.send(kind, h, log),
-            Command::Group(id) => self.add_group(id),
-            Command::Join(id, h) => self.join_new(id, h, log),
-            Command::Leave(h) => self.leave(h),
-            Command::Focus(h) => self.focus(h, log),
-            Command::Keypad(id) => self.set_keypad_group(id),
-            Command::Encoder(id) => self.set_encoder_group(id),
-            Command::Touch(x, y) => self.feed_pointer(Some(down_at(x, y)), log),
-            Command::Release => self.feed_pointer(Some(lifted()), log),
-            Command::Key(key, down) => self.feed_keypad(Some(KeyReading { key, down }), log),
-            Command::Turn(n) => self.feed_encoder(Some(EncoderReading::Turn(n)), log),
-            Command::Push(down) => self.feed_encoder(Some(EncoderReading::Push(down)), log),
-            Command::Tick(ms) => self.tick(ms, log),
-            Command::Anim(spec) => self.start_anim(spec),
-            Command::Stop(h, var) => self.stop_anim(h, var),
-        }
-    }
-
-    /// Makes a change of the scene, and replies.
-    fn apply_change<S: Sink>(&mut self, change: &Change, log: &mut S) -> Result<Reply, Failed>
-        requires change { IsChange change.now }
-        requires fresh { IsFresh self.old }
-        ensures { Steps (stage self.old (S.state log.old)) (stage self.new (S.state log.new)) result
-            (step (machine_of self.old) (Command.Change change.now)) }
-    {
-        match self.make(change) {
-            Ok(()) => self.finish(),
-            Err(refusal) => Ok(Reply::Refused(refusal)),
-        }
-    }
-
-    /// Carries out a command on events, groups, devices and animations, or answers its first refusal.
-    fn apply_play<S: Sink>(&mut self, command: &Command, log: &mut S) -> Result<Reply, Failed>
-        requires play { IsPlay command.now }
-        requires members { AreJoined (machine_of self.old) }
-        requires fresh { IsFresh self.old }
-        ensures { Steps (stage self.old (S.state log.old)) (stage self.new (S.state log.new)) result
-            (step (machine_of self.old) command.now) }
-    {
-        match self.refusal_of(command) {
-            Some(refusal) => Ok(Reply::Refused(refusal)),
-            None => {
-                self.carry_out(command, log);
-                self.finish()
-            }
-        }
-    }
-
-    /// Carries out a command, or answers its first refusal, which leaves all as it was.
-    pub fn apply<S: Sink>(&mut self, command: &Command, log: &mut S) -> Result<Reply, Failed>
-        requires command { IsCommand command.now }
-        requires members { AreJoined (machine_of self.old) }
-        requires fresh { IsFresh self.old }
-        ensures { Steps (stage self.old (S.state log.old)) (stage self.new (S.state log.new)) result
-            (step (machine_of self.old) command.now) }
-    {
-        match command {
-            Command::Change(change) => self.apply_change(change, log),
-            _ => self.apply_play(command, log),
-        }
+/// Carries out a command, or answers its first refusal, which leaves all as it was.
+pub fn apply<S: Sink>(board: &mut Board, command: &Command, log: &mut S) -> Result<Reply, Failed>
+    requires command { IsCommand command.now }
+    requires members { AreJoined (machine_of board.old) }
+    requires fresh { IsFresh board.old }
+    ensures { Steps (stage board.old (S.state log.old)) (stage board.new (S.state log.new)) result
+        (step (machine_of board.old) command.now) }
+{
+    match command {
+        Command::Change(change) => apply_change(board, change, log),
+        _ => apply_play(board, command, log),
     }
 }

@@ -1,0 +1,10 @@
+use Rattle.std.proofs.Common.{◌∙◌, subst, refl, ℕ, List}
+use Rattle.gui_board.specs.Writing.{WritesBy}
+use Rattle.gui_board.proofs.Boards.{played_say}
+use Rattle.gui_board.proofs.board.Board.say.Goals as goal
+
+pub returns : goal.returns
+returns g c =
+    played_say _ _ c.args.kind c.args.target c.args.current refl refl
+    (subst (λ (line : List ℕ). WritesBy c.args.self.now.scribe.cut c.write.new.self.cut (g.S.Sink.state c.args.log.now) (g.S.Sink.state c.write.new.log) line) (c.as_slice.ensures.value ∙ c.event_text-line.ensures) c.write.ensures.lines)
+    c.write.ensures.noted

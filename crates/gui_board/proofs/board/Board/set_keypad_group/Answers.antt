@@ -1,0 +1,10 @@
+use Rattle.std.proofs.Common.{refl}
+use Rattle.run_defs.specs.Step.{keypad_in}
+use Rattle.gui_board.specs.Boards.{stage}
+use Rattle.gui_board.proofs.Boards.{played_with}
+use Rattle.gui_board.proofs.Writes.{writes_nothing}
+use Rattle.gui_board.proofs.board.Board.set_keypad_group.Goals as goal
+
+pub returns : goal.returns
+returns c = λ log.
+    played_with (stage c.args.self.now log) _ (keypad_in c.args.id) refl refl refl (writes_nothing c.args.self.now.scribe.cut log) refl

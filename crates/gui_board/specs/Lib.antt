@@ -1,0 +1,10 @@
+pub mod Boards
+pub mod Handling
+pub mod Hiding
+pub mod Hits
+pub mod Inputs
+pub mod Laws
+pub mod Panels
+pub mod Sizes
+pub mod Stages
+pub mod Writing

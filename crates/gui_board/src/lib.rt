@@ -1,0 +1,25 @@
+//! The board on which the rules of events, focus and input are played: what a change makes of the machine, how
+//! events go their way and the focus moves, what becomes pending, and what is written into the log.
+#![tactic(auto)]
+
+mod board;
+mod changes;
+mod events;
+mod focus;
+mod held;
+mod hits;
+mod inputs;
+mod refusals;
+mod scribe;
+
+ghost use Rattle.gui_board.specs.Laws.{NothingIsPlayed, PlaysFollow};
+
+pub use board::Board;
+pub use held::is_slider;
+pub use scribe::Scribe;
+
+/// Where nothing is done nothing is played, and a rule after another is played where each of them is.
+pub fn plays_add_up()
+    ensures nothing { NothingIsPlayed }
+    ensures then { PlaysFollow }
+{}

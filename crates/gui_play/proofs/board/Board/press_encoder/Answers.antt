@@ -1,7 +1,0 @@
-use Rattle.run_defs.specs.Devices.{press_encoder}
-use Rattle.gui_play.proofs.Plays.{played_then}
-use Rattle.gui_play.proofs.board.Board.press_encoder.Goals as goal
-
-pub returns : goal.returns
-unfolding press_encoder
-returns g c = played_then _ _ _ _ _ (c.aim_encoder.ensures (g.S.Sink.state c.args.log.now)) c.press_aimed.ensures

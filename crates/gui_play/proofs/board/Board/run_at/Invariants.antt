@@ -1,7 +1,0 @@
-use Rattle.gui_play.specs.Boards.{stage}
-use Rattle.gui_play.specs.Handling.{Handles}
-use Rattle.gui_play.proofs.board.Board.run_at.Given as goal
-
-abbrev pub invariant-handlers : goal.invariant-handlers
-invariant-handlers g l =
-    Handles l.kind l.target l.current (stage l.initial.self (g.S.Sink.state l.initial.log)) (stage l.self (g.S.Sink.state l.log)) l.n

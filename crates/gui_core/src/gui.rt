@@ -107,7 +107,7 @@ impl Gui {
             (progress_of (stage_of self.old panel)) (progress_of (stage_of self.new panel)) }
     {
         self.board.begin();
-        self.board.apply(command, log)
+        gui_play::apply(&mut self.board, command, log)
     }
 
     /// The scene.

@@ -180,7 +180,9 @@ fn begin_once(board: &mut Board, scrolling: Option<Scrolling>, drag: Drag, targe
 fn begin_drag(board: &mut Board, drag: Drag)
     ensures { Quiet board.old board.new (begin_drag drag) }
 {
-    begin_once(board, board.scrolling(), drag, board.pointer_target());
+    let scrolling = board.scrolling();
+    let target = board.pointer_target();
+    begin_once(board, scrolling, drag, target);
 }
 
 /// An object is to be scrolled so far; no change where it is so already.
@@ -232,7 +234,8 @@ fn follow(board: &mut Board, scrolling: Option<Scrolling>, drag: Drag)
 fn follow_drag(board: &mut Board, drag: Drag)
     ensures { Quiet board.old board.new (follow_drag drag) }
 {
-    follow(board, board.scrolling(), drag);
+    let scrolling = board.scrolling();
+    follow(board, scrolling, drag);
 }
 
 /// A pointer that is down has gone on.

@@ -101,7 +101,8 @@ fn press_pointer<S: Sink>(
 fn hold_pointer<S: Sink>(board: &mut Board, at: Option<PointerReading>, log: &mut S)
     ensures { Plays board.old board.new (S.state log.old) (S.state log.new) (hold_pointer at) }
 {
-    hold_aimed(board, board.pointer_target(), at, log);
+    let target = board.pointer_target();
+    hold_aimed(board, target, at, log);
 }
 
 /// A pointer that is down has gone on: what it drags is scrolled first, then its target is held.

@@ -14,8 +14,8 @@ returns c = λ log.
 
 pub returns-in-None : goal.returns-in-None
 returns-in-None c = λ log.
-    animated_end (stage c.args.board.now log) _ c.anims.n (c.anims.invariant log) (sym c.at.ensures.value ∙ c.in-None.is)
+    animated_end (stage c.args.board.now log) _ c.anims.n (c.anims.invariant log) (sym c.anim.ensures.value ∙ c.in-None.is)
 
 pub anims-preserved : goal.anims-preserved
 anims-preserved c = λ log.
-    animated_next (stage c.args.board.now log) _ c.anims.n (c.anims.invariant log) _ _ _ (sym c.at.ensures.value ∙ c.in-Some.is) (c.animate.ensures log)
+    animated_next (stage c.args.board.now log) _ c.anims.n (c.anims.invariant log) _ _ _ (sym c.anim.ensures.value ∙ c.in-Some.is) (c.animate.ensures log)

@@ -1,7 +1,6 @@
 use Rattle.std.proofs.Common.{◌≡◌, ◌∙◌, sym, ap, option_map, Some, ℤ, ◌+ℤ◌, FitsSigned, w32, rules}
 use Rattle.std.proofs.lemmas.Int.{to_z-of_z}
-use Rattle.gui_change.specs.Canvas.{scene_in}
-use Rattle.gui_board.specs.Boards.{stage}
+use Rattle.gui_board.specs.Boards.{machine_of, stage}
 use Rattle.scene_defs.specs.Row.{shown_row}
 use Rattle.scene_defs.specs.Scene.{Scene, row_at}
 use Rattle.gui_play.proofs.Values.{nudged, nudged_none, nudged_other, value_steps}
@@ -13,7 +12,7 @@ returns-in_default c = λ log.
     nudged_none _ c.args.key c.args.h
     (sym (sym (ap (option_map (λ r. shown_row r.now)) c.in_default.is) ∙ (c.row.ensures.value ∙ ap (λ (s : Scene). row_at s c.args.h.0) c.store.ensures)))
 
-row_is : (c : In-Some) → row_at (scene_in c.args.board.now.canvas) c.args.h.0 ≡ Some (shown_row c.in-Some.row.now)
+row_is : (c : In-Some) → row_at (machine_of c.args.board.now).scene c.args.h.0 ≡ Some (shown_row c.in-Some.row.now)
 row_is c = sym (sym (ap (option_map (λ r. shown_row r.now)) c.in-Some.is) ∙ (c.row.ensures.value ∙ ap (λ (s : Scene). row_at s c.args.h.0) c.store.ensures))
 
 pub overflow_add-n : goal.overflow_add-n

@@ -1,6 +1,5 @@
 use Rattle.std.proofs.Common.{◌≡◌, ◌∙◌, sym, ap, subst, option_map, ℤ, Some, FitsSigned, w32, to_z, of_z, rules}
 use Rattle.std.proofs.lemmas.Int.{to_z-of_z}
-use Rattle.gui_change.specs.Canvas.{scene_in}
 use Rattle.run_defs.specs.Making.{make}
 use Rattle.scene_defs.specs.Row.{shown_row}
 use Rattle.scene_defs.specs.Scene.{Scene, row_at}
@@ -11,7 +10,7 @@ use Rattle.gui_play.proofs.Values.{valued, valued_none, valued_same}
 use Rattle.gui_play.proofs.reactions.put_value.Goals as goal
 use Rattle.gui_play.proofs.reactions.put_value.Goals.{In-Some}
 
-row_is : (c : In-Some) → row_at (scene_in c.args.board.now.canvas) c.args.h.0 ≡ Some (shown_row c.in-Some.row.now)
+row_is : (c : In-Some) → row_at (machine_of c.args.board.now).scene c.args.h.0 ≡ Some (shown_row c.in-Some.row.now)
 row_is c = sym (sym (ap (option_map (λ r. shown_row r.now)) c.in-Some.is) ∙ (c.row.ensures.value ∙ ap (λ (s : Scene). row_at s c.args.h.0) c.store.ensures))
 
 pub returns-in_default : goal.returns-in_default

@@ -6,7 +6,7 @@ pub mod Bubbling
 pub mod Climbs
 pub mod Groups
 pub mod Handled
-pub mod Hits
+pub mod LastHit
 pub mod NoHandlers
 pub mod Plays
 pub mod Points

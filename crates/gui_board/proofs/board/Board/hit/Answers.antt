@@ -1,50 +1,46 @@
-use Rattle.std.proofs.Common.{◌≡◌, ◌∙◌, ◌++◌, sym, ap, ℕ, List, Option, None, FitsSigned, w32}
+use Rattle.std.proofs.Common.{◌∙◌, sym, ap, arith, FitsSigned, w32}
 use Rattle.std.proofs.lemmas.Int.{to_z-of_z}
-use Rattle.gui_base.specs.Forest.{preorder, tree_at}
-use Rattle.gui_base.specs.declared.Handle.{Handle}
+use Rattle.std.proofs.lemmas.List.{drop_all}
 use Rattle.gui_change.specs.Canvas.{scene_in}
-use Rattle.gui_change.proofs.Orders.{root_there, order_is}
-use Rattle.scene_defs.specs.Scene.{Scene, handles_of}
-use Rattle.scene_defs.specs.Valid.{IsValid}
-use Rattle.gui_board.specs.Hits.{last_hit}
-use Rattle.gui_board.proofs.Hits.{last_hit-append, hit_is}
+use Rattle.scene_defs.specs.Shown.{entries}
+use Rattle.gui_board.proofs.LastHit.{hit_before, last_entry, none_before, none_hit}
 use Rattle.gui_board.proofs.board.Board.hit.Goals as goal
 
-pub hit_below-screen-requires : goal.hit_below-screen-requires
-hit_below-screen-requires c =
+pub loop-n-init : goal.loop-n-init
+loop-n-init c =
+    let x_fits : FitsSigned w32 c.args.x = c.ranges.x in
+    let y_fits : FitsSigned w32 c.args.y = c.ranges.y in
     let scene = scene_in c.args.self.now.canvas in
-    let valid : IsValid scene = rw c.store.ensures.scene at c.tree-tree.ensures.valid in
-    rw (c.active.ensures.screen ∙ ap (λ (s : Scene). s.active) c.store-2.ensures.scene) (root_there scene valid scene.active valid.trees.active)
+    let count = c.entry_count-n.ensures in
+    record {
+      within = omega arith;
+      none = λ known. simp to_z-of_z (ap (last_entry scene c.args.x c.args.y known) (drop_all c.entry_count-n.result (entries scene) (omega arith)));
+    }
 
-pub hit_below-top-requires : goal.hit_below-top-requires
-hit_below-top-requires c =
+pub loop-n-preserved : goal.loop-n-preserved
+loop-n-preserved c =
+    let x_fits : FitsSigned w32 c.args.x = c.ranges.x in
+    let y_fits : FitsSigned w32 c.args.y = c.ranges.y in
     let scene = scene_in c.args.self.now.canvas in
-    let valid : IsValid scene = rw c.store.ensures.scene at c.tree-tree.ensures.valid in
-    root_there scene valid 1 valid.trees.top_layer
+    let inv = c.loop-n.invariant in
+    let none = inv.none in
+    let some = c.loop-n-test.true in
+    record {
+      within = let within = inv.within in omega arith;
+      none = λ known. simp to_z-of_z (none_before scene c.args.x c.args.y c.loop-n.n c.hit_at-hit.result some inv.within (λ k. simp to_z-of_z at none k) (simp to_z-of_z at c.hit_at-hit.ensures) (sym c.is_some.ensures ∙ c.if-is_some.false) known);
+    }
 
-pub hit_below-requires : goal.hit_below-requires
-hit_below-requires c =
-    let scene = scene_in c.args.self.now.canvas in
-    let valid : IsValid scene = rw c.store.ensures.scene at c.tree-tree.ensures.valid in
-    root_there scene valid 2 valid.trees.system_layer
+pub returns-then-is_some : goal.returns-then-is_some
+returns-then-is_some c =
+    let x_fits : FitsSigned w32 c.args.x = c.ranges.x in
+    let y_fits : FitsSigned w32 c.args.y = c.ranges.y in
+    let inv = c.loop-n.invariant in
+    let none = inv.none in
+    hit_before (scene_in c.args.self.now.canvas) c.args.x c.args.y c.loop-n.n c.hit_at-hit.result c.loop-n-test.true inv.within (λ k. simp to_z-of_z at none k) (simp to_z-of_z at c.hit_at-hit.ensures) (sym c.is_some.ensures ∙ c.if-is_some.true)
 
 pub returns : goal.returns
 returns c =
-    let scene = scene_in c.args.self.now.canvas in
-    let x = c.args.x in
-    let y = c.args.y in
     let x_fits : FitsSigned w32 c.args.x = c.ranges.x in
     let y_fits : FitsSigned w32 c.args.y = c.ranges.y in
-    let valid : IsValid scene = rw c.store.ensures.scene at c.tree-tree.ensures.valid in
-    let f = handles_of scene.trees in
-    let low = preorder (tree_at f scene.active) in
-    let top = preorder (tree_at f 1) in
-    let high = preorder (tree_at f 2) in
-    let first = last_hit scene x y None low in
-    let screen : c.hit_below-screen.result ≡ first =
-    (simp to_z-of_z at c.hit_below-screen.ensures) ∙ ap (λ (h : ℕ). last_hit scene x y None (preorder (tree_at f h))) (c.active.ensures.screen ∙ ap (λ (s : Scene). s.active) c.store-2.ensures.scene) in
-    (simp to_z-of_z at c.hit_below.ensures)
-    ∙ (ap (λ (k : Option Handle). last_hit scene x y k high) ((simp to_z-of_z at c.hit_below-top.ensures) ∙ ap (λ (k : Option Handle). last_hit scene x y k top) screen)
-    ∙ (sym (last_hit-append scene x y first top high)
-    ∙ (sym (last_hit-append scene x y None low (top ++ high))
-    ∙ (ap (λ (hs : List ℕ). last_hit scene x y None hs) (sym (order_is scene valid)) ∙ hit_is scene x y))))
+    let none = c.loop-n.invariant.none in
+    none_hit (scene_in c.args.self.now.canvas) c.args.x c.args.y c.loop-n.n c.loop-n-test.false (λ k. simp to_z-of_z at none k)

@@ -1,4 +1,4 @@
-//! Where a point of the panel lies: the object that it hits, and the value of a slider.
+//! The value that a slider has where a point of the panel lies.
 ghost use Rattle.std.specs.Prelude.{◌≡◌, ◌≤◌, ◌-◌, ◌*◌, ◌/◌, ◌-ℤ◌, IfSome, option_map, pos, true};
 ghost use Rattle.gui_base.specs.Props.{is_value, values_of};
 ghost use Rattle.gui_base.specs.declared.intervals.TheConstants.{PAD};

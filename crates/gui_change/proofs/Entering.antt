@@ -2,13 +2,15 @@
 use Rattle.std.proofs.Common.{◌≡◌, ◌∙◌, sym, ap, refl, eq-eqb, ℕ, ◌<◌, true, List, [], ◌∷◌, ◌++◌, length, get_or, append_assoc}
 use Rattle.std.specs.List.{All}
 use Rattle.std.proofs.lemmas.Bool.{or_left, or_right}
+use Rattle.std.proofs.lemmas.Grind.{flat_map-append}
 use Rattle.std.proofs.lemmas.List.Elements.{All-append, All-cons, All-get_or, All-nil}
-use Rattle.gui_base.specs.Forest.{Forest, Empty, Tree, and_then, has, tree_at}
+use Rattle.gui_base.specs.Forest.{Forest, Empty, Tree, and_then, has, preorder, tree_at}
 use Rattle.gui_base.proofs.Forests.{map-and_then}
 use Rattle.scene_defs.specs.Scene.{Scene, handle_of, handles_of}
 use Rattle.scene_defs.specs.Shown.{Entry, bars_over, entries, entries_in, own}
 use Rattle.scene_defs.specs.Valid.{IsValid}
 use Rattle.scene_defs.specs.Visible.{root_tree}
+use Rattle.gui_change.specs.Entries.{own_handles, own_of}
 use Rattle.gui_change.proofs.Orders.{root_is}
 
 -- an object comes before what lies below it, and its bars after that
@@ -36,6 +38,14 @@ module _ (scene : Scene) (valid : IsValid scene) where
       ∙ (ap (λ (t : Forest ℕ). entries_in (handles_of (root_tree f scene.active)) ++ entries_in t) (map-and_then handle_of (root_tree f 1) (root_tree f 2))
       ∙ (ap (λ xs. entries_in (handles_of (root_tree f scene.active)) ++ xs) (entries-and_then (handles_of (root_tree f 1)) (handles_of (root_tree f 2)))
       ∙ rw (root_is scene valid scene.active valid.trees.active, root_is scene valid 1 valid.trees.top_layer, root_is scene valid 2 valid.trees.system_layer) refl)))
+
+-- those that are painted by themselves are the objects, each before those below it
+pub own_is : (f : Forest ℕ) → own_handles (entries_in f) ≡ preorder f
+own_is Empty = refl
+own_is (Tree h cs rest) =
+    ap (λ (hs : List ℕ). h ∷ hs)
+    (flat_map-append own_of (entries_in cs) (bars_over h ∷ entries_in rest)
+    ∙ (ap (λ (hs : List ℕ). hs ++ own_handles (entries_in rest)) (own_is cs) ∙ ap (λ (hs : List ℕ). preorder cs ++ hs) (own_is rest)))
 
 -- each entry of a forest is of an object in it
 each_entry : (P : ℕ → Type 0) (f : Forest ℕ) → ((h : ℕ) → has f h ≡ true → P h) → All (λ (e : Entry). P e.handle) (entries_in f)

@@ -7,6 +7,7 @@ pub mod Covering
 pub mod Keeping
 pub mod Kids
 pub mod Lending
+pub mod Listed
 pub mod Marked
 pub mod Marks
 pub mod Missing

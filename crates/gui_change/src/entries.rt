@@ -1,9 +1,10 @@
 //! What is painted of the trees that are shown, in paint order.
-ghost use Rattle.std.specs.Prelude.{◌≡◌, ◌≤◌, ◌+◌, ◌*◌, ◌++◌, [], true, IfOk, vec_len, vec_capacity};
+ghost use Rattle.std.specs.Prelude.{◌≡◌, ◌≤◌, ◌+◌, ◌*◌, ◌++◌, [], true, IfOk, length, vec_len, vec_capacity};
 ghost use Rattle.gui_base.specs.Forest.{has, size, tree_at};
 ghost use Rattle.gui_store.specs.Views.{scene_of};
+ghost use Rattle.gui_tree.specs.Handles.{numbers};
 ghost use Rattle.scene_defs.specs.Shown.{entries, entries_in};
-ghost use Rattle.gui_change.specs.Entries.{IsEntryRoom, all_entries};
+ghost use Rattle.gui_change.specs.Entries.{IsEntryRoom, all_entries, own_handles};
 
 use crate::shown::{SYSTEM_LAYER, TOP_LAYER};
 use gui_base::{Handle, NoMemory};
@@ -56,6 +57,20 @@ fn list_tree(tree: &Tree, listed: &mut Vec<Entry>, h: Handle)
     listed.push_reserved(Entry { h, is_bars: false });
     list_trees(tree, listed, tree.children(h));
     listed.push_reserved(Entry { h, is_bars: true });
+}
+
+/// Lists the objects of these entries after what is listed, each where it is painted by itself.
+pub(crate) fn list_own(painted: &[Entry], listed: &mut Vec<Handle>)
+    requires room { vec_len listed.old + length (own_handles (all_entries painted.now)) ≤ vec_capacity listed.old }
+    ensures listed { numbers listed.new.items
+        ≡ numbers listed.old.items ++ own_handles (all_entries painted.now) }
+    ensures capacity { vec_capacity listed.new ≡ vec_capacity listed.old }
+{
+    for entry in painted {
+        if !entry.is_bars {
+            listed.push_reserved(entry.h);
+        }
+    }
 }
 
 /// Lists all that is painted of a scene, the lowest first.

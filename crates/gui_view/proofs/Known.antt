@@ -1,12 +1,11 @@
 -- What is known of an entry that is painted.
-use Rattle.std.proofs.Common.{◌≡◌, ◌∙◌, sym, ap, ℕ, Bool, true, false, ◌&&◌, if◌then◌else◌, option_map, option_copied, is_some, List, get_or}
+use Rattle.std.proofs.Common.{◌≡◌, ◌∙◌, sym, ap, ℕ, Bool, true, false, ◌&&◌, if◌then◌else◌, is_some, List, get_or}
 use Rattle.std.specs.declared.option.Option.{Option}
 use Rattle.std.specs.Prelude.{Some}
 use Rattle.std.specs.List.{list_any}
 use Rattle.gui_base.specs.Area.{Rect}
-use Rattle.gui_base.specs.Corners.{rect_of}
 use Rattle.gui_color.specs.Buffer.{Buffer}
-use Rattle.gui_change.specs.Seen.{IsKnown, IsShownAt, entry_of, items_known}
+use Rattle.gui_change.specs.Seen.{IsKnown, IsShownAt, entry_of, items_by}
 use Rattle.gui_change.specs.declared.seen.ShownEntry.{ShownEntry}
 use Rattle.gui_paint.specs.Painting.{Paints, painted_bars, painted_coats, painted_object}
 use Rattle.cover_defs.specs.Cover.{hides, is_cover, sees_all}
@@ -23,7 +22,7 @@ use Rattle.gui_view.proofs.Views.{paints_seen}
 -- an entry covers what it covers by what is known of it
 pub covers_is : (scene : Scene) (part : Rect) (n : ℕ) (e : ShownEntry) → IsShownAt scene n e → covers_known e part ≡ is_cover scene part (seen_entry scene (get_or (entries scene) n (own 0)))
 covers_is scene part n e at =
-    ap (λ (v : Option Rect). if e.is_bars then false else (sees_all v part && list_any (hides part) (items_known (option_copied e.paints)))) at.known.visible
+    ap (λ (v : Option Rect). if e.is_bars then false else (sees_all v part && list_any (hides part) (items_by e))) at.known.visible
     ∙ (ap (λ (is : List Item). if e.is_bars then false else (sees_all (visible scene e.h.0) part && list_any (hides part) is)) at.known.items
     ∙ ap (λ (one : Entry). is_cover scene part (seen_entry scene one)) (sym (at.entry (own 0))))
 

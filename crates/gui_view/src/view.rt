@@ -101,7 +101,7 @@ fn covers_by<L: Ledger>(entry: &ShownEntry<'_>, part: Area, steps: &mut Steps<L>
     }
     steps.tick();
     // Most objects are seen in less than a slice, and their items need not be made.
-    match entry.visible {
+    match entry.visible() {
         Some(visible) => has_area(visible, part) && covers(visible, entry.items().as_slice(), part),
         None => false,
     }
@@ -148,14 +148,14 @@ fn paint_entry<L: Ledger>(
     ensures steps { steps.new ≤ steps.old
         + entry_steps (scene_of shown.now.store.now) (size_of buf.old.area) (entry_of entry.now) }
 {
-    let Some(visible) = entry.visible else {
+    let Some(visible) = entry.visible() else {
         return;
     };
     if visible.meet(buf.area()).is_empty() {
         return;
     }
     if entry.is_bars {
-        let bars = entry.bars.items();
+        let bars = entry.bars().items();
         shown.paint_known_bars(buf, visible, entry.h, bars.as_slice(), steps);
     } else {
         let items = entry.items();

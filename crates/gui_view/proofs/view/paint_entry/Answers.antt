@@ -13,11 +13,11 @@ use Rattle.gui_view.proofs.view.paint_entry.Goals as goal
 use Rattle.gui_view.proofs.view.paint_entry.Goals.{In-Some}
 
 seen : (g : Over) (c : In-Some g) → visible (scene_of c.args.shown.now.store.now) c.args.entry.now.h.0 ≡ Some (rect_of c.in-Some.visible)
-seen g c = sym c.requires.visible ∙ ap (option_map rect_of) c.in-Some.is
+seen g c = sym c.requires.visible ∙ (sym c.visible.ensures ∙ ap (option_map rect_of) c.in-Some.is)
 
 pub returns-in_default-clause-painted : goal.returns-in_default-clause-painted
 returns-in_default-clause-painted g c =
-    unseen c.args.buf.now (scene_of c.args.shown.now.store.now) (entry_of c.args.entry.now) (sym c.requires.visible ∙ ap (option_map rect_of) c.in_default.is)
+    unseen c.args.buf.now (scene_of c.args.shown.now.store.now) (entry_of c.args.entry.now) (sym c.requires.visible ∙ (sym c.visible.ensures ∙ ap (option_map rect_of) c.in_default.is))
 
 pub returns-then-is_empty-clause-painted : goal.returns-then-is_empty-clause-painted
 returns-then-is_empty-clause-painted g c =
@@ -28,7 +28,7 @@ returns-then-is_empty-clause-painted g c =
     elsewhere buf (scene_of c.args.shown.now.store.now) (entry_of c.args.entry.now) visible (seen g d) (apart buf visible (rect_of c.meet.result) (sym c.is_empty.ensures ∙ c.if-is_empty.true) pixels)
 
 pub paint_known_bars-requires : goal.paint_known_bars-requires
-paint_known_bars-requires g c = ap items_of c.as_slice.ensures.value ∙ (c.items-bars.ensures ∙ c.requires.bars)
+paint_known_bars-requires g c = ap items_of c.as_slice.ensures.value ∙ (c.items-bars.ensures ∙ (c.bars.ensures ∙ c.requires.bars))
 
 pub returns-then-entry-clause-painted : goal.returns-then-entry-clause-painted
 returns-then-entry-clause-painted g c =

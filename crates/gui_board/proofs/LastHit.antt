@@ -5,11 +5,10 @@ use Rattle.std.specs.List.{filter}
 use Rattle.std.proofs.lemmas.Bool.{false≢true}
 use Rattle.std.proofs.lemmas.List.{reverse-append, take-append-drop}
 use Rattle.gui_base.specs.Area.{Rect}
-use Rattle.gui_base.specs.Corners.{rect_of}
 use Rattle.gui_base.specs.Forest.{Forest, Empty, Tree, preorder}
 use Rattle.gui_base.specs.declared.Handle.{Handle}
 use Rattle.gui_base.specs.declared.words.Flag.TheVariants.{Clickable}
-use Rattle.gui_change.specs.Seen.{IsShownAt}
+use Rattle.gui_change.specs.Seen.{IsShownAt, visible_of}
 use Rattle.gui_change.specs.declared.seen.ShownEntry.{ShownEntry}
 use Rattle.run_defs.specs.Pointing.{hit, is_flagged, is_hit, seen_handle}
 use Rattle.scene_defs.specs.Scene.{Scene, handles_of}
@@ -155,11 +154,11 @@ module _ (scene : Scene) (x y : ℤ) where
       sym (sym last_is ∙ subst NoneFrom zero left None)
 
   -- whether the nth is hit, by what is known of it
-  pub hit_known : (n : ℕ) (e : ShownEntry) (clicked : Bool) → IsShownAt scene n e → (get_or (entries scene) n (own 0)).is_bars ≡ false →
-      clicked ≡ (is_flagged Clickable scene e.h && holds (option_map rect_of e.visible) x y) → hit_of scene x y (get_or (entries scene) n (own 0)) ≡ (if clicked then Some e.h else None)
-  hit_known n e clicked shown isnt is =
+  pub hit_known : (n : ℕ) (e : ShownEntry) (area : Option Rect) (clicked : Bool) → IsShownAt scene n e → (get_or (entries scene) n (own 0)).is_bars ≡ false → area ≡ visible_of e →
+      clicked ≡ (is_flagged Clickable scene e.h && holds area x y) → hit_of scene x y (get_or (entries scene) n (own 0)) ≡ (if clicked then Some e.h else None)
+  hit_known n e area clicked shown isnt seen_is is =
       let entry = shown.entry (own 0) in
       ap (hit_of scene x y) entry
       ∙ (ap (λ (q : Bool). if q then None else (if test (seen scene e.h.0) then Some e.h else None)) (sym (ap (λ (k : Entry). k.is_bars) entry) ∙ isnt)
-      ∙ (ap (λ (a : Option Rect). if (is_flagged Clickable scene e.h && holds a x y) then Some e.h else None) (sym shown.known.visible)
+      ∙ (ap (λ (a : Option Rect). if (is_flagged Clickable scene e.h && holds a x y) then Some e.h else None) (sym (seen_is ∙ shown.known.visible))
       ∙ ap (λ (q : Bool). if q then Some e.h else None) (sym is)))

@@ -24,7 +24,8 @@ impl Board {
             return None;
         }
         let entry = self.canvas.entry_at(n)?;
-        if self.is_clicked(x, y, entry.h, entry.visible) {
+        let visible = entry.visible();
+        if self.is_clicked(x, y, entry.h, visible) {
             Some(entry.h)
         } else {
             None

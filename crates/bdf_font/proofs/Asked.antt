@@ -11,7 +11,7 @@ use Rattle.hex.specs.Hex.{is_hex_digit}
 use Rattle.hex.proofs.HexLemmas.{decode_of-digits}
 use Rattle.gui_base.specs.Intervals.{is_within, is_counted}
 use Rattle.gui_base.specs.declared.intervals.TheConstants.{CODE, ADVANCE, FONT, GLYPH_WIDTH, GLYPH_HEIGHT, GLYPH_OFFSET}
-use Rattle.scene_defs.specs.Rows.{bytes_in_hex, most_digits}
+use Rattle.scene_defs.specs.RowBytes.{bytes_in_hex, most_digits}
 use Rattle.run_defs.specs.Language.{Word}
 use Rattle.run_defs.specs.Numbers.{code_said, is_surrogate}
 use Rattle.run_defs.specs.Commands.{code, bytes}

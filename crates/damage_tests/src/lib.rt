@@ -6,8 +6,6 @@ mod checking;
 #[cfg(test)]
 mod list;
 #[cfg(test)]
-mod listing;
-#[cfg(test)]
 mod lit;
 #[cfg(test)]
 mod pump;

@@ -3,8 +3,7 @@ ghost use Rattle.std.specs.Prelude.{◌≡◌, ◌<◌, IfOk, None};
 ghost use Rattle.gui_base.specs.Grids.{one_pixel};
 ghost use Rattle.gui_edge.specs.Panel.{CanOpen};
 
-use crate::list::{corners, whole_panel};
-use crate::listing::Listing;
+use crate::list::whole_panel;
 use crate::lit::Lit;
 use gui_base::{Area, Block, Grid, Limits, Rgb565, Steps};
 use gui_damage::Damage;
@@ -15,6 +14,7 @@ use std::marker::Brand;
 use std::process::Abort;
 use std::sync::ledger::{Blank, Ledger};
 use std::test::Fail;
+use test_panels::ListingPanel;
 
 /// A panel that is opened with these sizes, of which the start of a number fails.
 fn open_panel(
@@ -23,7 +23,7 @@ fn open_panel(
     height: u16,
     limit: u32,
     fails: u64,
-) -> Result<Listing<SimPanel<MemSink>>, Fail>
+) -> Result<ListingPanel<SimPanel<MemSink>>, Fail>
     requires { CanOpen width height limit }
     ensures { IfOk result (λ panel.
         (panel.panel.width ≡ width) × (panel.panel.height ≡ height) × (panel.panel.limit ≡ limit)
@@ -36,7 +36,7 @@ fn open_panel(
         moves: Vec::new(alloc),
     };
     let frames = MemSink::with_capacity(alloc, 0, Vec::new(alloc))?;
-    let mut panel = Listing::new(SimPanel::new(frames, plan));
+    let mut panel = ListingPanel::new(SimPanel::new(frames, plan));
     match panel.open(alloc, width, height, limit, Block { w: 1, h: 1 }) {
         Ok(()) => Ok(panel),
         Err(fault) => Err(Fail::from(fault)),
@@ -44,11 +44,8 @@ fn open_panel(
 }
 
 /// Whether these are the areas that a panel was asked to start, in order.
-fn check_starts<P: Panel>(rt: &impl Abort, panel: &Listing<P>, want: &[[i32; 4]]) {
-    assert_eq!(rt; panel.starts.len(), want.len());
-    for (area, corners_wanted) in panel.starts.iter().zip(want) {
-        assert_eq!(rt; corners(area), *corners_wanted);
-    }
+fn check_starts<P: Panel>(rt: &impl Abort, panel: &ListingPanel<P>, want: &[[i32; 4]]) {
+    assert_eq!(rt; panel.starts.as_slice(), want);
 }
 
 /// Refreshes a panel of four by three pixels in slices of a line, where the start of a number fails, and then

@@ -8,7 +8,7 @@ use Rattle.std.proofs.lemmas.List.Folds.{list_any-append}
 use Rattle.gui_base.specs.Area.{Rect, has}
 use Rattle.scene_defs.specs.Shown.{Entry}
 use Rattle.scene_defs.specs.Visible.{holds}
-use Rattle.debt_defs.specs.Look.{Look, is_among, IsLook, laid_by}
+use Rattle.debt_defs.specs.SceneLook.{SceneLook, is_among, IsSceneLook, laid_by}
 use Rattle.debt_defs.specs.Same.{same_visible}
 use Rattle.debt_defs.specs.Debt.{listed, owed_by, shown_in_either, is_named, is_touched, touched, touched_areas}
 use Rattle.debt_defs.specs.Frame.{covered, named_area, LaySame}
@@ -46,7 +46,7 @@ among-filter : (p : ℕ → Bool) (hs : List ℕ) (k : ℕ) → p k ≡ true →
 among-filter p [] k passes among = among
 among-filter p (h ∷ hs) k passes among = grind (arith, nat_tests, among-filter p hs k passes)
 
-module _ {I : Type 0} (before after : Look I) where
+module _ {I : Type 0} (before after : SceneLook I) where
   among-either : (k : ℕ) → (is_among before.order k || is_among after.order k) ≡ true → is_among (shown_in_either before after) k ≡ true
   among-either k there =
       let gone : ℕ → Bool = λ h. not (is_among after.order h) in
@@ -58,7 +58,7 @@ module _ {I : Type 0} (before after : Look I) where
             or_right _ _ (among-filter gone before.order k (rw left refl) was)
       ]
 
-module _ {I : Type 0} (same : I → I → Bool) (named : Option ℕ) (before after : Look I) (is : IsLook before) (becomes : IsLook after) (x y : ℤ)
+module _ {I : Type 0} (same : I → I → Bool) (named : Option ℕ) (before after : SceneLook I) (is : IsSceneLook before) (becomes : IsSceneLook after) (x y : ℤ)
     (free : covered (touched_areas same named before after) x y ≡ false) where
   -- a touched object is not seen there
   touched-out : (k : ℕ) → is_touched same named before after k ≡ true → (holds (before.visible k) x y ≡ false) × (holds (after.visible k) x y ≡ false)

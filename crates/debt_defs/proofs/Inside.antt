@@ -15,7 +15,7 @@ use Rattle.scene_defs.specs.Scene.{Object, Scene, is_at, handles_of}
 use Rattle.scene_defs.specs.Place.{panel_of, place}
 use Rattle.scene_defs.specs.Visible.{met, holds, seen_of, visible_in, visible, shown_trees}
 use Rattle.scene_defs.proofs.Distinct.{there, IsDistinct, distinct-three}
-use Rattle.debt_defs.specs.Look.{is_among, IsLook}
+use Rattle.debt_defs.specs.SceneLook.{is_among, IsSceneLook}
 use Rattle.debt_defs.specs.Scenes.{look_of}
 use Rattle.debt_defs.specs.Orders.{SeenInsideAbove}
 
@@ -100,7 +100,7 @@ seen_inside_above scene h k showable part x y i =
     let d = distinct-three scene.trees scene.active showable.once showable.above_top showable.above_system in
     below-holds (place scene) (Some (panel_of scene)) (shown_trees scene) h k x y d part i
 
-pub scene_is_look : (scene : Scene) → IsLook (look_of scene)
+pub scene_is_look : (scene : Scene) → IsSceneLook (look_of scene)
 scene_is_look scene h out =
     visible-none (place scene) (Some (panel_of scene)) (shown_trees scene) h (sym (among-handles (shown_trees scene) h) ∙ out)
 

@@ -5,7 +5,7 @@ use Rattle.std.proofs.lemmas.Bool.{false_from_ne_true, both_ways}
 use Rattle.std.proofs.lemmas.Bool.Decides.{nat_tests}
 use Rattle.scene_defs.specs.Shown.{Entry}
 use Rattle.scene_defs.specs.Visible.{holds}
-use Rattle.debt_defs.specs.Look.{Look, laid_by}
+use Rattle.debt_defs.specs.SceneLook.{SceneLook, laid_by}
 use Rattle.debt_defs.specs.Frame.{IsInside, named_area, FrameOfLooks}
 use Rattle.debt_defs.proofs.Free.{laid-same, named-area-out}
 
@@ -19,7 +19,7 @@ flat_map-same f g same [] = refl
 flat_map-same f g same (k ∷ ks) = rw (same k, flat_map-same f g same ks) refl
 
 -- what is seen inside the named object alone is not seen where that is not
-inside-lays : {I : Type 0} (look : Look I) (named : Option ℕ) (x y : ℤ) (e : Entry) → IsInside look named e.handle → holds (named_area look named) x y ≡ false → laid_by look x y e ≡ []
+inside-lays : {I : Type 0} (look : SceneLook I) (named : Option ℕ) (x y : ℤ) (e : Entry) → IsInside look named e.handle → holds (named_area look named) x y ≡ false → laid_by look x y e ≡ []
 inside-lays look named x y e inside out =
     let unseen = false_from_ne_true (holds (look.visible e.handle) x y) (λ seen. both_ways _ out (inside x y seen)) in
     rw unseen refl

@@ -14,7 +14,7 @@ use Rattle.scene_defs.specs.Scene.{Object, Scene, handle_of, is_at, styled_of, p
 use Rattle.scene_defs.specs.Edits.{below, parent_object, last_below, at_index_below}
 use Rattle.scene_defs.specs.Valid.{IsValid}
 use Rattle.scene_defs.proofs.Distinct.{there, IsDistinct, distinct_once}
-use Rattle.debt_defs.specs.Look.{is_among}
+use Rattle.debt_defs.specs.SceneLook.{is_among}
 use Rattle.debt_defs.specs.Concerns.{lies_in, loses, holds_place}
 use Rattle.debt_defs.proofs.Inside.{among-handles, there-tree}
 use Rattle.debt_defs.proofs.Paths.{avoids, not-in, path-cut, children-cut, Spares, spares-last, spares-put, path-with, children-with, children-none}

@@ -27,7 +27,7 @@ use Rattle.scene_defs.specs.Valid.{HasWholeBlocks, gridded, IsValid}
 use Rattle.scene_defs.specs.Walk.{IsShowable}
 use Rattle.scene_defs.proofs.Changes.{after_keeps}
 use Rattle.scene_defs.proofs.Validity.{change_keeps_valid, valid_is_showable}
-use Rattle.debt_defs.specs.Look.{laid_by, over}
+use Rattle.debt_defs.specs.SceneLook.{laid_by, over}
 use Rattle.debt_defs.specs.Same.{same_visible, same_item, same_by}
 use Rattle.debt_defs.specs.Debt.{listed, owed_by, touched}
 use Rattle.debt_defs.specs.Named.{named}

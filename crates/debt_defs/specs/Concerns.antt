@@ -28,7 +28,7 @@ use Rattle.scene_defs.specs.Edits.{text_at}
 use Rattle.scene_defs.specs.Change.{changed}
 use Rattle.debt_defs.specs.Subject.{subject_of}
 use Rattle.scene_defs.specs.Valid.{IsValid, IsChange}
-use Rattle.debt_defs.specs.Look.{is_among}
+use Rattle.debt_defs.specs.SceneLook.{is_among}
 
 -- the handles of the children of h
 abbrev pub children : Scene → ℕ → List ℕ

@@ -10,7 +10,7 @@ use Rattle.scene_defs.specs.Change.{answer_of, changed}
 use Rattle.scene_defs.specs.Place.{panel_of}
 use Rattle.scene_defs.specs.Picture.{paint}
 use Rattle.scene_defs.specs.Valid.{HasWholeBlocks, IsValid, IsChange}
-use Rattle.debt_defs.specs.Look.{color_at}
+use Rattle.debt_defs.specs.SceneLook.{color_at}
 use Rattle.debt_defs.specs.Scenes.{look_of, debt_of}
 use Rattle.debt_defs.specs.Frame.{covered}
 

@@ -3,7 +3,7 @@ pub mod Debt
 pub mod Examples
 pub mod Frame
 pub mod Laws
-pub mod Look
+pub mod SceneLook
 pub mod Named
 pub mod Orders
 pub mod Same

@@ -12,7 +12,7 @@ use Rattle.scene_defs.specs.Change.{answer_of, scene_after}
 use Rattle.scene_defs.specs.Visible.{visible}
 use Rattle.scene_defs.specs.Items.{items, bars}
 use Rattle.scene_defs.specs.Shown.{order, entries, entry_coats}
-use Rattle.debt_defs.specs.Look.{Look}
+use Rattle.debt_defs.specs.SceneLook.{SceneLook}
 use Rattle.debt_defs.specs.Same.{same_item}
 use Rattle.debt_defs.specs.Debt.{touched, touched_areas}
 use Rattle.debt_defs.specs.Named.{named}
@@ -21,7 +21,7 @@ use Rattle.debt_defs.specs.Named.{named}
 abbrev pub dab_at : ℤ → ℤ → Coat → Option Dab
 dab_at x y coat = coat x y
 
-abbrev pub look_of : Scene → Look Item
+abbrev pub look_of : Scene → SceneLook Item
 look_of scene = record {
   order = order scene;
   entries = entries scene;

@@ -43,7 +43,7 @@ const PUMPED: &[u8] = b"pump\npump\npump\nframe\n";
 /// A script, how many bytes a read gives at most, and the calls that fail. Then what the run comes to: the
 /// number of its status, its log, how many frames are written whole, whether the first bytes of a further one
 /// are, and how many pixels are sent.
-type Row = (
+type Case = (
     &'static [u8],
     usize,
     &'static [Fault],
@@ -56,7 +56,7 @@ type Row = (
 
 /// Each kind of call fails once. The first frame is sent whole, by two starts with a poll each, and a later one
 /// sends what has failed. Each is written in two puts.
-const ONE_FAULT: &[Row] = &[
+const ONE_FAULT: &[Case] = &[
     (TWO, 1, &[Read(3)], 3, "", 0, false, 0),
     (TWO, 1, &[Read(7)], 3, FIRST, 1, false, 8),
     (TWO, 1, &[Read(13)], 3, BOTH, 2, false, 8),
@@ -69,7 +69,7 @@ const ONE_FAULT: &[Row] = &[
     (TWO, 1, &[Open], 5, "", 0, false, 0),
 ];
 
-const READS: &[Row] = &[
+const READS: &[Case] = &[
     (TWO, 64, &[], 0, BOTH, 2, false, 8),
     (MIXED, 1, &[], 1, MIXED_LOG, 3, false, 8),
     (MIXED, 3, &[], 1, MIXED_LOG, 3, false, 8),
@@ -80,7 +80,7 @@ const READS: &[Row] = &[
     (MIXED, 3, &[Read(13)], 3, MIXED_UP_TO_5, 2, false, 8),
 ];
 
-const WRITES: &[Row] = &[
+const WRITES: &[Case] = &[
     (
         TWO,
         64,
@@ -127,7 +127,7 @@ const WRITES: &[Row] = &[
     ),
 ];
 
-const PANELS: &[Row] = &[
+const PANELS: &[Case] = &[
     (
         TWO,
         64,
@@ -174,7 +174,7 @@ const PANELS: &[Row] = &[
 ];
 
 /// A pump that faults shows in the log alone. The line of a pump that was made may be missing there.
-const PUMPS: &[Row] = &[
+const PUMPS: &[Case] = &[
     (
         PUMPED,
         64,
@@ -227,9 +227,9 @@ const PUMPS: &[Row] = &[
     ),
 ];
 
-/// Runs a row and compares.
-fn try_row(rt: &impl Abort, alloc: Global, row: &Row) -> Result<(), Fail> {
-    let (script, piece, faults, status, log, whole, part, sent) = *row;
+/// Runs a case and compares.
+fn try_case(rt: &impl Abort, alloc: Global, case: &Case) -> Result<(), Fail> {
+    let (script, piece, faults, status, log, whole, part, sent) = *case;
     let script = Vec::from_slice(alloc, script)?;
     let mut outside = Outside::new(alloc, script, piece, faults)?;
     assert_eq!(rt; outside.run(alloc, &WORDS) as u8, status, "{faults:?}");
@@ -240,35 +240,35 @@ fn try_row(rt: &impl Abort, alloc: Global, row: &Row) -> Result<(), Fail> {
     Ok(())
 }
 
-/// Runs each of these rows.
-fn try_rows(rt: &impl Abort, alloc: Global, rows: &[Row]) -> Result<(), Fail> {
-    for row in rows {
-        try_row(rt, alloc, row)?;
+/// Runs each of these cases.
+fn try_cases(rt: &impl Abort, alloc: Global, cases: &[Case]) -> Result<(), Fail> {
+    for case in cases {
+        try_case(rt, alloc, case)?;
     }
     Ok(())
 }
 
 #[test]
 fn each_kind_of_call_fails_once(rt: HostRuntime) -> Result<(), Fail> {
-    try_rows(&rt, rt.alloc(), ONE_FAULT)
+    try_cases(&rt, rt.alloc(), ONE_FAULT)
 }
 
 #[test]
 fn faults_of_reads_end_a_run(rt: HostRuntime) -> Result<(), Fail> {
-    try_rows(&rt, rt.alloc(), READS)
+    try_cases(&rt, rt.alloc(), READS)
 }
 
 #[test]
 fn faults_of_writes_end_a_run(rt: HostRuntime) -> Result<(), Fail> {
-    try_rows(&rt, rt.alloc(), WRITES)
+    try_cases(&rt, rt.alloc(), WRITES)
 }
 
 #[test]
 fn faults_of_panels_end_a_run_or_show_in_its_log(rt: HostRuntime) -> Result<(), Fail> {
-    try_rows(&rt, rt.alloc(), PANELS)
+    try_cases(&rt, rt.alloc(), PANELS)
 }
 
 #[test]
 fn a_pump_that_faults_shows_in_the_log_alone(rt: HostRuntime) -> Result<(), Fail> {
-    try_rows(&rt, rt.alloc(), PUMPS)
+    try_cases(&rt, rt.alloc(), PUMPS)
 }

@@ -14,9 +14,9 @@ const WHOLE: &str = "made 1 lines 1261 refused 0 frames 11 faults 0 sum 59587\n"
 
 /// The calls that fail. Then what the run comes to: the number of its status, its log, and how many bytes of
 /// frames are written, of which each whole frame takes 35, the first 11 of them in a put of their own.
-type Row = (&'static [Fault], u8, &'static str, usize);
+type Case = (&'static [Fault], u8, &'static str, usize);
 
-const ROWS: &[Row] = &[
+const CASES: &[Case] = &[
     (&[], 0, WHOLE, 385),
     (&[Read(1)], 0, WHOLE, 385),
     (
@@ -29,9 +29,9 @@ const ROWS: &[Row] = &[
     (&[Log(1)], 4, "made 1 lines 1261 refused 0 ", 385),
 ];
 
-/// Runs a row and compares.
-fn try_row(rt: &impl Abort, alloc: Global, row: &Row) -> Result<(), Fail> {
-    let (faults, status, log, frames) = *row;
+/// Runs a case and compares.
+fn try_case(rt: &impl Abort, alloc: Global, case: &Case) -> Result<(), Fail> {
+    let (faults, status, log, frames) = *case;
     let script = Vec::from_slice(alloc, b"a script that nobody reads")?;
     let mut outside = Outside::new(alloc, script, 64, faults)?;
     assert_eq!(rt; outside.run(alloc, &WORDS) as u8, status, "{faults:?}");
@@ -44,15 +44,15 @@ fn try_row(rt: &impl Abort, alloc: Global, row: &Row) -> Result<(), Fail> {
     Ok(())
 }
 
-/// Runs each of these rows.
-fn try_rows(rt: &impl Abort, alloc: Global, rows: &[Row]) -> Result<(), Fail> {
-    for row in rows {
-        try_row(rt, alloc, row)?;
+/// Runs each of these cases.
+fn try_cases(rt: &impl Abort, alloc: Global, cases: &[Case]) -> Result<(), Fail> {
+    for case in cases {
+        try_case(rt, alloc, case)?;
     }
     Ok(())
 }
 
 #[test]
 fn faults_of_a_made_script_show_in_its_summary(rt: HostRuntime) -> Result<(), Fail> {
-    try_rows(&rt, rt.alloc(), ROWS)
+    try_cases(&rt, rt.alloc(), CASES)
 }

@@ -12,7 +12,7 @@ use Rattle.run_defs.specs.Events.{say, event_line}
 use Rattle.gui_board.proofs.Adding.{adds_nothing}
 use Rattle.debt_defs.specs.Scenes.{debt_of}
 use Rattle.debt_defs.proofs.Scenes.{refused_owes_nothing}
-use Rattle.run_debts.proofs.Commands.{owed_one}
+use Rattle.run_laws.proofs.Commands.{owed_one}
 use Rattle.run_defs.specs.Making.{make, make_by, is_same, is_in_state, put_state}
 use Rattle.scene_defs.specs.declared.Change.TheVariants as change
 use Rattle.gui_base.specs.declared.words.State.{State}

@@ -21,7 +21,7 @@ use Rattle.owed_defs.specs.Pumping.{moves_in, waits_in}
 use Rattle.owed_defs.specs.Standings.{Refreshes as SendsPending}
 use Rattle.owed_defs.specs.declared.Pumped.{Pumped}
 use Rattle.owed_defs.specs.declared.Pumped.TheVariants.{Idle, Moved, Waiting, Fault as Failed}
-use Rattle.run_debts.specs.Owing.{panel_size, slice_limit}
+use Rattle.run_laws.specs.Owing.{panel_size, slice_limit}
 
 -- the panel shows the picture of this scene, where it tells
 abbrev pub ShowsScene : PanelState → Scene → Type 0

@@ -11,6 +11,7 @@ ghost use Rattle.scene_defs.specs.Scene.{handles_of};
 use crate::board::Board;
 use gui_base::{Action, EventKind, Handle, Pool, Refusal, Var};
 use gui_edge::Sink;
+use gui_store::has_feature;
 use play_defs::AnimSpec;
 use run_defs::Command;
 use scene_defs::Feature;
@@ -115,7 +116,7 @@ impl Board {
     {
         match self.canvas.store().row(h) {
             None => false,
-            Some(row) => Feature::Value.is_of(row.kind),
+            Some(row) => has_feature(Feature::Value, row.kind),
         }
     }
 

@@ -5,7 +5,7 @@ use Rattle.gui_base.specs.declared.Handle.{Handle}
 use Rattle.gui_layout.specs.Listing.{times, HasThese}
 use Rattle.gui_pool.specs.Table.{Table}
 use Rattle.gui_tree.specs.Handles.{numbers}
-use Rattle.debt_defs.specs.Look.{is_among}
+use Rattle.debt_defs.specs.SceneLook.{is_among}
 use Rattle.gui_change.specs.Again.{AreAlike}
 
 -- a list without the first h

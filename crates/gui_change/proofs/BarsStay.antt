@@ -1,5 +1,5 @@
 -- Where bars stay as they are.
-use Rattle.std.proofs.Common.{◌≡◌, ◌∙◌, refl, sym, ap, ℕ, Bool, true, false, List, [], Option, Some, None, option_map, is_some, inl, inr}
+use Rattle.std.proofs.Common.{◌≡◌, ◌∙◌, refl, sym, ap, ℕ, Bool, true, false, List, [], Option, Some, None, option_map, inl, inr}
 use Rattle.std.proofs.lemmas.Bool.{both_ways, cases_Bool, false_from_ne_true}
 use Rattle.gui_base.specs.Area.{Rect}
 use Rattle.gui_base.specs.Forest.{has}
@@ -11,20 +11,20 @@ use Rattle.widget_defs.specs.Items.{Item}
 use Rattle.widget_defs.specs.Items as widget
 use Rattle.widget_defs.specs.Looks.{Look}
 use Rattle.scene_defs.specs.declared.Row.{Row}
-use Rattle.scene_defs.specs.Items.{bar_look, bars, bars_of, pair_of}
+use Rattle.scene_defs.specs.Items.{bars, bars_of, pair_of}
 use Rattle.scene_defs.specs.Looks.{look_of}
 use Rattle.scene_defs.specs.Place.{offset, place, reach}
 use Rattle.scene_defs.specs.Row.{is_on}
 use Rattle.scene_defs.specs.Scene.{Object, Scene, handles_of, is_there, object_at, row_at}
 use Rattle.debt_defs.specs.Concerns.{look_at}
 use Rattle.gui_layout.specs.Scenes.{scene_box}
-use Rattle.gui_layout.specs.Solved.{AreReached, offset_at, reach_at}
+use Rattle.gui_layout.specs.Solved.{AreReached}
 use Rattle.gui_layout.specs.Tops.{ScrollsStay, in_trees_at, is_over}
 use Rattle.gui_layout.specs.declared.places.Places.{Places}
 use Rattle.gui_layout.proofs.Bars.{no_row, not_scrollable}
 use Rattle.gui_layout.proofs.Overs.{over-is}
 use Rattle.gui_layout.proofs.SceneBoxes.{named, row_found, row_gone}
-use Rattle.gui_change.specs.Marking.{MovesSame, ScrollsSame}
+use Rattle.gui_change.specs.Marking.{ScrollsSame}
 use Rattle.gui_change.specs.Settled.{LooksSame}
 
 -- bars by what they are made of

@@ -19,7 +19,7 @@ use Rattle.scene_defs.specs.Deeds.{setter_of}
 use Rattle.scene_defs.specs.Scene.{Object, Scene, handle_of, handles_of, is_at, path_at}
 use Rattle.scene_defs.specs.Styling.{Styling}
 use Rattle.debt_defs.specs.Concerns.{lies_in}
-use Rattle.debt_defs.specs.Look.{is_among}
+use Rattle.debt_defs.specs.SceneLook.{is_among}
 use Rattle.debt_defs.specs.Orders.{sets_text, leaves_trees}
 use Rattle.gui_style.specs.Styles.{uses_style}
 use Rattle.gui_change.specs.Concerned.{is_below, is_below_user}

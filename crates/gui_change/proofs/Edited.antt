@@ -15,7 +15,7 @@ use Rattle.scene_defs.specs.Scene.{Scene, handle_of, handles_of, is_there, new_o
 use Rattle.scene_defs.proofs.Distinct.{distinct_once, there}
 use Rattle.scene_defs.proofs.Handles.{has-handles}
 use Rattle.debt_defs.specs.Concerns.{lies_in}
-use Rattle.debt_defs.specs.Look.{is_among}
+use Rattle.debt_defs.specs.SceneLook.{is_among}
 use Rattle.debt_defs.proofs.Inside.{there-tree}
 use Rattle.debt_defs.proofs.Moved.{IsTreeAt, lies-in-tree}
 use Rattle.gui_layout.specs.Marked.{is_root}

@@ -1,5 +1,6 @@
 pub mod Subjects
 pub mod Alike
+pub mod Alone
 pub mod BarsStay
 pub mod Below
 pub mod Changes

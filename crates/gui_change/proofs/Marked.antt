@@ -5,7 +5,6 @@ use Rattle.std.proofs.lemmas.Bool.{cases_Bool, eqb-true, and_from, and_parts, or
 use Rattle.gui_base.specs.Forest.{Forest, Empty, Tree, has, path_by, path_of, tree_at}
 use Rattle.gui_base.specs.declared.Handle.{Handle}
 use Rattle.gui_style.specs.Styles.{is_handle, uses_style}
-use Rattle.gui_tree.specs.Handles.{as_handle}
 use Rattle.scene_defs.specs.Scene.{Scene, handles_of, is_there}
 use Rattle.scene_defs.specs.Valid.{IsValid}
 use Rattle.gui_layout.specs.Marks.{most_marks}

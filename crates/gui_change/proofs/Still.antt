@@ -32,7 +32,7 @@ use Rattle.gui_change.specs.Marking.{ScrollsSame}
 use Rattle.gui_change.specs.Seen.{IsSeen}
 use Rattle.gui_change.specs.declared.concerned.Concerned.{Concerned}
 use Rattle.gui_change.specs.declared.edits.Edit.TheVariants.{Same}
-use Rattle.gui_change.specs.declared.look.Look.{Look}
+use Rattle.gui_change.specs.declared.scene_look.SceneLook.{SceneLook}
 use Rattle.gui_change.specs.declared.seen.Seen.{Seen}
 use Rattle.gui_change.proofs.BarsStay.{bars-alike}
 use Rattle.gui_change.proofs.Below.{handles-stay}
@@ -66,7 +66,7 @@ above-out f (u ∷ us) k p once there up out =
     (false_from_ne_true (has (tree_at f u.0) p.0) (λ i. both_ways (has (tree_at f u.0) k) parts.0 (tree-trans u.0 p.0 k f (distinct_once f once) i inside)))
     (above-out f us k p once there up parts.1)
 
-module _ (old : Places) (look : Look) (after : Scene) (made : Change) (concerned : Concerned) (removed : List ℕ) (was : WasSeenEdited old look after Same made concerned removed) where
+module _ (old : Places) (look : SceneLook) (after : Scene) (made : Change) (concerned : Concerned) (removed : List ℕ) (was : WasSeenEdited old look after Same made concerned removed) where
   abbrev before : Scene
   before = was.edited.was.before
 

@@ -23,7 +23,7 @@ use Rattle.scene_defs.proofs.Distinct.{distinct_once, there, there-and_then}
 use Rattle.scene_defs.proofs.Handles.{has-handles}
 use Rattle.scene_defs.proofs.RowKinds.{depth-cut}
 use Rattle.scene_defs.proofs.Validity.{change_keeps_valid}
-use Rattle.debt_defs.specs.Look.{is_among}
+use Rattle.debt_defs.specs.SceneLook.{is_among}
 use Rattle.debt_defs.specs.Concerns.{IsSame, children, concerns, lies_in, loses}
 use Rattle.debt_defs.proofs.Concerned.{others_are_same}
 use Rattle.debt_defs.proofs.Inside.{among-handles, there-tree}

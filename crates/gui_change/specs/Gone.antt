@@ -8,7 +8,7 @@ use Rattle.gui_pool.specs.Table.{Table, value_at}
 use Rattle.scene_defs.specs.Scene.{Scene}
 use Rattle.scene_defs.specs.Shown.{order}
 use Rattle.debt_defs.specs.Debt.{is_named}
-use Rattle.debt_defs.specs.Look.{is_among}
+use Rattle.debt_defs.specs.SceneLook.{is_among}
 use Rattle.gui_change.specs.Owed.{owed, sight_of}
 use Rattle.gui_change.specs.declared.seen.Seen.{Seen}
 

@@ -12,7 +12,7 @@ use Rattle.gui_layout.specs.Tables.{listing_of}
 use Rattle.gui_pool.specs.Table.{Table, value_at}
 use Rattle.scene_defs.specs.Scene.{Scene, handles_of}
 use Rattle.scene_defs.specs.Shown.{order}
-use Rattle.debt_defs.specs.Look.{is_among}
+use Rattle.debt_defs.specs.SceneLook.{is_among}
 use Rattle.gui_change.specs.Again.{owed_again}
 use Rattle.gui_change.specs.Concerned.{is_below_user}
 use Rattle.gui_change.specs.Seen.{IsSeen}

@@ -6,9 +6,8 @@ ghost use Rattle.gui_tree.specs.Handles.{numbers};
 ghost use Rattle.scene_defs.specs.Shown.{entries, entries_in};
 ghost use Rattle.gui_change.specs.Entries.{IsEntryRoom, all_entries, own_handles};
 
-use crate::shown::{SYSTEM_LAYER, TOP_LAYER};
 use gui_base::{Handle, NoMemory};
-use gui_store::Store;
+use gui_store::{SYSTEM_LAYER, Store, TOP_LAYER};
 use gui_tree::{Children, Tree};
 use std::alloc::Global;
 

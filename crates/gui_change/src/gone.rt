@@ -17,12 +17,11 @@ ghost use Rattle.gui_change.specs.Sights.{KeepOthers};
 use crate::concerned::Concerned;
 use crate::debts::{is_named, owe};
 use crate::seen::Seen;
-use crate::shown::{SYSTEM_LAYER, TOP_LAYER};
 use gui_base::{Grid, Handle};
 use gui_damage::Damage;
 use gui_layout::put;
 use gui_pool::Table;
-use gui_store::Store;
+use gui_store::{SYSTEM_LAYER, Store, TOP_LAYER};
 
 /// The root above an object, or the object itself where it has no parent.
 fn top_of(store: &Store, h: Handle) -> Handle

@@ -6,7 +6,7 @@ ghost use Rattle.gui_layout.specs.Marks.{is_changed, is_marked, mark_count, most
 ghost use Rattle.gui_store.specs.Views.{removed_of, scene_of};
 ghost use Rattle.gui_style.specs.Styles.{uses_style};
 ghost use Rattle.gui_tree.specs.Handles.{numbers};
-ghost use Rattle.debt_defs.specs.Look.{is_among};
+ghost use Rattle.debt_defs.specs.SceneLook.{is_among};
 ghost use Rattle.scene_defs.specs.Scene.{handles_of, is_there};
 ghost use Rattle.gui_change.specs.Concerned.{is_below_user, may_be};
 ghost use Rattle.gui_change.specs.Marking.{AlsoMarks, AreMarked, AreUnmarked, BoxesStay, MarksTell};

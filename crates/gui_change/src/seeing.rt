@@ -30,7 +30,7 @@ use crate::after::After;
 use crate::again::see_all_again;
 use crate::concerned::Concerned;
 use crate::debts::is_named;
-use crate::look::Look;
+use crate::scene_look::SceneLook;
 use crate::seen::Seen;
 use crate::shown::list_tree;
 use gui_base::{Grid, Handle};
@@ -112,17 +112,33 @@ fn see_tree(
     listed.clear();
 }
 
-/// Sees all objects of the trees at these objects once more, which are there.
+/// Whether an object that is there has no children, and is one of these.
+fn is_one_alone(store: &Store, some: Concerned, h: Handle) -> bool
+    requires there { is_there (scene_of store.now) h.0 ≡ true }
+    ensures { result ≡ true → (k : ℕ) → has (tree_at (handles_of (scene_of store.now).trees) h.0) k ≡ true →
+        may_be (scene_of store.now) some k ≡ true }
+{
+    if store.tree().first_child(h).is_some() {
+        return false;
+    }
+    some.may_be(store, h)
+}
+
+/// Sees all objects of the trees at these objects once more, which are there. Of those that `done` tells what
+/// is known is seen of them already, so of them one that stands alone is passed over.
 fn see_trees(
     table: &mut Table<Seen>,
     listed: &mut Vec<Handle>,
     damage: &mut Damage<Grid>,
     after: &After<'_>,
+    done: Concerned,
     tops: &[Handle],
 )
     requires known { KeepOthers table.old after.now.concerned (scene_after after.now) }
     requires shown { KnowsShown table.old (scene_after after.now) }
     requires room { IsRoom (scene_after after.now).limits.objects listed.old }
+    requires done { (k : ℕ) → may_be (scene_after after.now) done k ≡ true →
+        IsSeenIn table.old (scene_after after.now) k }
     requires tops { (u : ℕ) → 0 < times tops.now u → is_there (scene_after after.now) u ≡ true }
     ensures sees { SeesAgain None (scene_after after.now) table.old table.new damage.old damage.new }
     ensures all { (k : ℕ) → in_trees_at (handles_of (scene_after after.now).trees) tops.now k ≡ true →
@@ -130,6 +146,9 @@ fn see_trees(
     ensures room { IsRoom (scene_after after.now).limits.objects listed.new }
 {
     for top in tops {
+        if is_one_alone(after.store, done, *top) {
+            continue;
+        }
         see_tree(table, listed, damage, None, after, *top);
     }
 }
@@ -320,7 +339,7 @@ fn see_own(
 /// lists what they owe: the one that it names, those that it may concern, and all of the trees at the objects
 /// in `solved`. `listed` is empty, and is so afterwards.
 pub(crate) fn see_changed(
-    look: &mut Look,
+    look: &mut SceneLook,
     listed: &mut Vec<Handle>,
     damage: &mut Damage<Grid>,
     named: Option<Handle>,
@@ -354,5 +373,12 @@ pub(crate) fn see_changed(
         places: after.places,
         concerned: Concerned::Nobody,
     };
-    see_trees(&mut look.seen, listed, damage, &rest, solved);
+    see_trees(
+        &mut look.seen,
+        listed,
+        damage,
+        &rest,
+        after.concerned,
+        solved,
+    );
 }

@@ -54,7 +54,7 @@ impl Gui {
     ghost use Rattle.run_defs.specs.Machine.{first_machine};
     ghost use Rattle.run_defs.specs.Pointing.{hit};
     ghost use Rattle.run_defs.specs.Step.{step, IsCommand};
-    ghost use Rattle.run_debts.specs.Owing.{command_owes};
+    ghost use Rattle.run_laws.specs.Owing.{command_owes};
     ghost use Rattle.std.specs.Io.KnownBytes.{Appends};
     ghost use Rattle.gui_damage.specs.Adding.{AddsAll};
     ghost use Rattle.gui_edge.specs.Causes.{HasCause};

@@ -8,7 +8,7 @@ use Rattle.gui_base.specs.declared.words.TextAlign.{TextAlign}
 use Rattle.text_defs.specs.declared.TextLook.{TextLook}
 use Rattle.text_defs.specs.Fonts.{Font, finished, has_font, is_done, font_of}
 use Rattle.text_defs.specs.Ink.{cell_inked, run_inked, lines_inked, line_at}
-use Rattle.text_defs.specs.Lines.{Setting, TextLine, run_width, lines, lines_of, first_length, is_broken, left_after, after_newline, bytes_to_next}
+use Rattle.text_defs.specs.Lines.{LineSetting, TextLine, run_width, lines, lines_of, first_length, is_broken, left_after, after_newline, bytes_to_next}
 use Rattle.std.proofs.Common.{option_map}
 use Rattle.gui_font.specs.Walks.{setting}
 use Rattle.gui_font.proofs.Inking.{text_inked}
@@ -51,7 +51,7 @@ next_above y sy top next height pitch h a b c = grind (arith, ints, nat_tests)
 less_both : (x left line sx : ℤ) → sx ≡ left +ℤ line → (x -ℤ left) -ℤ line ≡ x -ℤ sx
 less_both x left line sx e = omega (arith, ints)
 
-module _ (s : Setting) (align : TextAlign) (pitch whole : ℕ) where
+module _ (s : LineSetting) (align : TextAlign) (pitch whole : ℕ) where
   lines_above : (lines : List TextLine) (x y : ℤ) → le_z (pos 0) y ≡ false → lines_inked s align pitch whole lines x y ≡ false
   lines_above [] x y h = refl
   lines_above (line ∷ rest) x y h =
@@ -95,7 +95,7 @@ module _ (s : Setting) (align : TextAlign) (pitch whole : ℕ) where
       (draws_same mid new via to _ _ (λ x y i. one_in (has part x y) (lines_at s align pitch whole after left next x y) d) k))
 
 -- the first lines of some were drawn; what draws the others draws all of them
-pub record Lining (s : Setting) (align : TextAlign) (pitch whole : ℕ) (all : List TextLine) (part : Rect) (color : Rgb565) (opa : ℕ) (old buf : Buffer) (from to : ℕ) (left top : ℤ) (rest : List TextLine) (x y : ℤ) : Type 0 where
+pub record Lining (s : LineSetting) (align : TextAlign) (pitch whole : ℕ) (all : List TextLine) (part : Rect) (color : Rgb565) (opa : ℕ) (old buf : Buffer) (from to : ℕ) (left top : ℤ) (rest : List TextLine) (x y : ℤ) : Type 0 where
   pub area_is : buf.area ≡ old.area
   pub x_is : x ≡ left
   pub low : top ≤ℤ y
@@ -107,7 +107,7 @@ pub record Lining (s : Setting) (align : TextAlign) (pitch whole : ℕ) (all : L
       (new : Buffer) (more last : ℕ) → Draws buf new (to + more) last (within part (only (lines_at s align pitch whole rest left y) (plain color opa))) →
       Draws old new (from + used + more) last (within part (only (lines_at s align pitch whole all left top) (plain color opa)))
 
-module _ (s : Setting) (align : TextAlign) (pitch whole : ℕ) (all : List TextLine) (part : Rect) (color : Rgb565) (opa : ℕ) where
+module _ (s : LineSetting) (align : TextAlign) (pitch whole : ℕ) (all : List TextLine) (part : Rect) (color : Rgb565) (opa : ℕ) where
   pub lining_none : (buf : Buffer) (from : ℕ) (left top : ℤ) → length all ≤ 1001 → Lining s align pitch whole all part color opa buf buf from from left top all left top
   lining_none buf from left top few = record {
     area_is = refl;
@@ -176,7 +176,7 @@ unfolding left_length
 rest_less true cs = omega arith
 rest_less false cs = newline_less cs
 
-letters_few : (s : Setting) (n at : ℕ) (left : Option (List ℕ)) → letter_count (lines_of s n at left) ≤ left_length left
+letters_few : (s : LineSetting) (n at : ℕ) (left : Option (List ℕ)) → letter_count (lines_of s n at left) ≤ left_length left
 unfolding left_length
 letters_few s n at None = omega arith
 letters_few s zero at (Some cs) = omega arith
@@ -187,7 +187,7 @@ letters_few s (suc n) at (Some cs) =
     let sums : letter_count (first ∷ rest) ≡ length (take k cs) + letter_count rest = sum_by-cons (λ (line : TextLine). length line.chars) first rest in
     omega (arith, sums, length-take k cs, length-drop k cs, letters_few s n (at + bytes_to_next s cs) (left_after s cs), rest_less (is_broken s cs) (drop k cs))
 
-pub letters_most : (s : Setting) (cs : List ℕ) → letter_count (lines s cs) ≤ length cs
+pub letters_most : (s : LineSetting) (cs : List ℕ) → letter_count (lines s cs) ≤ length cs
 unfolding lines left_length
 letters_most s cs = letters_few s (length cs + 1) 0 (Some cs)
 
@@ -231,7 +231,7 @@ pub line_within : (old new : Buffer) (from count to : ℕ) (coat : Coat) → Dra
 line_within old new from count to coat h = record { more = count; few = omega arith; draws = h }
 
 -- a text in its area and in a clip
-pub text_drawn : (old new : Buffer) (clip area part : Rect) (face : Face) (look : TextLook) (cs : List ℕ) (color : Rgb565) (opa from to : ℕ) (s : Setting) (runs : List TextLine) (whole : ℕ) (left top : ℤ) → IsPart old.area clip area part →
+pub text_drawn : (old new : Buffer) (clip area part : Rect) (face : Face) (look : TextLook) (cs : List ℕ) (color : Rgb565) (opa from to : ℕ) (s : LineSetting) (runs : List TextLine) (whole : ℕ) (left top : ℤ) → IsPart old.area clip area part →
     s ≡ setting face look (Some (width_of area)) → runs ≡ lines (setting face look (Some (width_of area))) cs → whole ≡ width_of area → left ≡ area.x1 → top ≡ area.y1 →
     DrawsIn (letter_count runs) old new from to (within part (only (lines_at s look.align (face.height + look.line) whole runs left top) (plain color opa))) →
     DrawsIn (length cs) old new from to (within clip (ink_coat area face look cs color opa))

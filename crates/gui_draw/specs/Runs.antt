@@ -11,7 +11,7 @@ use Rattle.gui_font.specs.Sets.{face_in}
 use Rattle.gui_font.specs.declared.lines.Run.{Run}
 use Rattle.text_defs.specs.Face.{Face}
 use Rattle.text_defs.specs.Ink.{cell_inked, run_inked, lines_inked}
-use Rattle.text_defs.specs.Lines.{Setting, TextLine}
+use Rattle.text_defs.specs.Lines.{LineSetting, TextLine}
 
 -- the ink of a cell that stands there
 abbrev pub cell_at : Face → ℕ → ℤ → ℤ → ℤ → ℤ → Bool
@@ -31,7 +31,7 @@ ink_of lettering run =
     run_at (face_of lettering) lettering.look.letter (take run.count (chars run.text.now))
 
 -- the ink of lines that stand there
-abbrev pub lines_at : Setting → TextAlign → ℕ → ℕ → List TextLine → ℤ → ℤ → ℤ → ℤ → Bool
+abbrev pub lines_at : LineSetting → TextAlign → ℕ → ℕ → List TextLine → ℤ → ℤ → ℤ → ℤ → Bool
 lines_at s align pitch whole lines left top x y =
     lines_inked s align pitch whole lines (x -ℤ left) (y -ℤ top)
 

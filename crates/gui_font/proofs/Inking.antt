@@ -4,7 +4,7 @@ use Rattle.std.specs.Prelude.{pos}
 use Rattle.gui_base.specs.declared.words.TextAlign.{TextAlign}
 use Rattle.text_defs.specs.Face.{Face}
 use Rattle.text_defs.specs.Ink.{run_inked, cell_inked, lines_inked, line_at, inked}
-use Rattle.text_defs.specs.Lines.{Setting, TextLine, lines}
+use Rattle.text_defs.specs.Lines.{LineSetting, TextLine, lines}
 use Rattle.text_defs.specs.declared.TextLook.{TextLook}
 use Rattle.gui_font.specs.Walks.{setting}
 use Rattle.gui_font.specs.Runs.{GivesRun}
@@ -24,7 +24,7 @@ module _ (face : Face) (letter : ℕ) (x y : ℤ) where
   run_first zero c cs rest some e = absurd (omega arith)
   run_first (suc n) c cs rest some e = let m : suc n - 1 ≡ n = omega arith in rw (e, m) refl
 
-module _ (s : Setting) (align : TextAlign) (pitch whole : ℕ) (x y : ℤ) where
+module _ (s : LineSetting) (align : TextAlign) (pitch whole : ℕ) (x y : ℤ) where
   pub lines_none : (lines : List TextLine) → lines ≡ [] → lines_inked s align pitch whole lines x y ≡ false
   lines_none lines e = rw e refl
 
@@ -34,7 +34,7 @@ module _ (s : Setting) (align : TextAlign) (pitch whole : ℕ) (x y : ℤ) where
   lines_first before after run given = rw (given.steps, given.line) refl
 
 -- the ink of a text is that of its lines
-pub text_inked : (face : Face) (look : TextLook) (cs : List ℕ) (width : ℕ) (x y : ℤ) (s : Setting) (runs : List TextLine) (whole : ℕ) (x' y' : ℤ) →
+pub text_inked : (face : Face) (look : TextLook) (cs : List ℕ) (width : ℕ) (x y : ℤ) (s : LineSetting) (runs : List TextLine) (whole : ℕ) (x' y' : ℤ) →
     s ≡ setting face look (Some width) → runs ≡ lines (setting face look (Some width)) cs → whole ≡ width → x' ≡ x → y' ≡ y →
     lines_inked s look.align (face.height + look.line) whole runs x' y' ≡ inked face look.letter look.line look.align cs width x y
 unfolding inked

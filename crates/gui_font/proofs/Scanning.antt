@@ -9,17 +9,17 @@ use Rattle.std.proofs.lemmas.List.Sums.{sum_by_more, sum_by-take-le, prefix_len-
 use Rattle.std.specs.Str.{chars, IsUtf8}
 use Rattle.std.proofs.lemmas.Str.{length-le-encodes, encodes-chars}
 use Rattle.std.specs.Char.{len_utf8}
-use Rattle.text_defs.specs.Lines.{Setting, run_width, is_within, is_fit, fitting, segment_length, after_space, ends_in_space, is_broken, or_else}
+use Rattle.text_defs.specs.Lines.{LineSetting, run_width, is_within, is_fit, fitting, segment_length, after_space, ends_in_space, is_broken, or_else}
 use Rattle.gui_font.specs.Walks.{EndsAt, IsCut}
 use Rattle.gui_font.specs.declared.lines.Stop.{Stop}
 use Rattle.text_defs.proofs.Greatest.{greatest_zero, greatest_passes, greatest_fails, greatest-le, greatest_below, greatest_most}
 
 -- the run of the first n characters ends at the stop
-abbrev pub Stops : Setting → List ℕ → ℕ → ℕ → Stop → Type 0
+abbrev pub Stops : LineSetting → List ℕ → ℕ → ℕ → Stop → Type 0
 Stops s cs bytes n stop = EndsAt s cs bytes n stop.count stop.width stop.rest.now
 
 -- what was found of the first so many characters
-pub record Scanned (s : Setting) (cs : List ℕ) (bytes count : ℕ) (stop : Stop) (space : Option Stop) : Type 0 where
+pub record Scanned (s : LineSetting) (cs : List ℕ) (bytes count : ℕ) (stop : Stop) (space : Option Stop) : Type 0 where
   pub ends : Stops s cs bytes count stop
   pub plain : count ≤ segment_length cs
   pub fits : 1 < count → is_fit s cs count ≡ true
@@ -42,7 +42,7 @@ next_at cs n c left e =
     let split : c ∷ left ≡ get_or cs n 0 ∷ drop (n + 1) cs = sym e ∙ drop_more cs n 0 more in
     record { below = more; is = cc; after = cc }
 
-pub run_start : (s : Setting) (cs : List ℕ) → run_width s (take 0 cs) ≡ 0
+pub run_start : (s : LineSetting) (cs : List ℕ) → run_width s (take 0 cs) ≡ 0
 unfolding run_width
 run_start s cs = omega arith
 
@@ -54,7 +54,7 @@ gap_more letter (suc n) =
     let three : eqb (suc n) 0 ≡ false = grind (arith, nat_tests) in
     rw (one, two, three) (omega arith)
 
-pub run_more : (s : Setting) (cs : List ℕ) (n : ℕ) → n < length cs →
+pub run_more : (s : LineSetting) (cs : List ℕ) (n : ℕ) → n < length cs →
     run_width s (take (n + 1) cs) ≡ run_width s (take n cs) + (s.face.cell (get_or cs n 0)).advance + (if eqb n 0 then 0 else s.letter)
 unfolding run_width
 run_more s cs n h =
@@ -64,7 +64,7 @@ run_more s cs n h =
     rw (sums, more, now) (omega (arith, gap_more s.letter n))
 
 -- a longer run is no narrower
-pub run_grows : (s : Setting) (cs : List ℕ) (m n : ℕ) → m ≤ n → n ≤ length cs → run_width s (take m cs) ≤ run_width s (take n cs)
+pub run_grows : (s : LineSetting) (cs : List ℕ) (m n : ℕ) → m ≤ n → n ≤ length cs → run_width s (take m cs) ≤ run_width s (take n cs)
 unfolding run_width
 run_grows s cs m n l h =
     let less = sum_by-take-le (λ c. (s.face.cell c).advance) (take n cs) m in
@@ -74,7 +74,7 @@ run_grows s cs m n l h =
     let gaps : s.letter * (m - 1) ≤ s.letter * (n - 1) = mul-le-mul_left s.letter (omega arith) in
     rw (many, few) (omega arith)
 
-pub scanned_none : (s : Setting) (cs : List ℕ) (stop : Stop) → chars stop.rest.now ≡ cs → stop.count ≡ 0 → stop.width ≡ 0 → Scanned s cs (length stop.rest.now) 0 stop None
+pub scanned_none : (s : LineSetting) (cs : List ℕ) (stop : Stop) → chars stop.rest.now ≡ cs → stop.count ≡ 0 → stop.width ≡ 0 → Scanned s cs (length stop.rest.now) 0 stop None
 scanned_none s cs stop e n w = record {
   ends = record { count_is = n; within = omega arith; left = e; taken = omega arith; width_is = w ∙ sym (run_start s cs) };
   plain = omega arith;
@@ -85,7 +85,7 @@ scanned_none s cs stop e n w = record {
 }
 
 -- the run with one character more
-ends_more : (s : Setting) (cs : List ℕ) (bytes count c : ℕ) (stop next : Stop) →
+ends_more : (s : LineSetting) (cs : List ℕ) (bytes count c : ℕ) (stop next : Stop) →
     next.count ≡ count + 1 → Stops s cs bytes count stop → chars stop.rest.now ≡ c ∷ chars next.rest.now → length stop.rest.now ≡ len_utf8 c + length next.rest.now →
     next.width ≡ stop.width + (s.face.cell c).advance + (if eqb count 0 then 0 else s.letter) → Stops s cs bytes (count + 1) next
 ends_more s cs bytes count c stop next n h chars_is bytes_is width =
@@ -100,7 +100,7 @@ ends_more s cs bytes count c stop next n h chars_is bytes_is width =
       width_is = rw (run_more s cs count b, at.is) (omega (arith, h.width_is, width));
     }
 
-spaced_more : (s : Setting) (cs : List ℕ) (bytes count c : ℕ) (next : Stop) (space : Option Stop) → get_or cs count 0 ≡ c → Stops s cs bytes (count + 1) next →
+spaced_more : (s : LineSetting) (cs : List ℕ) (bytes count c : ℕ) (next : Stop) (space : Option Stop) → get_or cs count 0 ≡ c → Stops s cs bytes (count + 1) next →
     MatchOption space (after_space cs count ≡ 0) (λ st. (0 < after_space cs count) × Stops s cs bytes (after_space cs count) st) →
     MatchOption (if eqb c 32 then Some next else space) (after_space cs (count + 1) ≡ 0) (λ st. (0 < after_space cs (count + 1)) × Stops s cs bytes (after_space cs (count + 1)) st)
 spaced_more s cs bytes count c next space is ends spaced =
@@ -124,7 +124,7 @@ plain_more cs count c below is plain l = elim (cases_lt count (segment_length cs
 ]
 
 -- one character more
-pub scanned_more : (s : Setting) (cs : List ℕ) (bytes count c : ℕ) (stop next : Stop) (space : Option Stop) →
+pub scanned_more : (s : LineSetting) (cs : List ℕ) (bytes count c : ℕ) (stop next : Stop) (space : Option Stop) →
     next.count ≡ count + 1 → Scanned s cs bytes count stop space → chars stop.rest.now ≡ c ∷ chars next.rest.now → length stop.rest.now ≡ len_utf8 c + length next.rest.now →
     c ≢ 10 → next.width ≡ stop.width + (s.face.cell c).advance + (if eqb count 0 then 0 else s.letter) → (eqb count 0 || is_within s.most next.width) ≡ true →
     length cs ≤ 1000 → next.width ≤ 355 * (count + 1) →
@@ -149,7 +149,7 @@ not_less : (a b : ℕ) → b ≤ a → ltb a b ≡ false
 not_less a b h = grind (arith, nat_tests)
 
 -- a segment that fits goes into one line
-fits_whole : (s : Setting) (cs : List ℕ) (count : ℕ) → segment_length cs ≡ count → (1 < count → is_fit s cs count ≡ true) → is_broken s cs ≡ false
+fits_whole : (s : LineSetting) (cs : List ℕ) (count : ℕ) → segment_length cs ≡ count → (1 < count → is_fit s cs count ≡ true) → is_broken s cs ≡ false
 fits_whole s cs count whole fits =
     let enough : count ≤ fitting s cs = elim (cases_lt 1 count) [
       | inl many ↦ let g = greatest_most (is_fit s cs) (segment_length cs) count (omega arith) (fits many) in omega arith
@@ -157,7 +157,7 @@ fits_whole s cs count whole fits =
     ] in
     not_less (fitting s cs) (segment_length cs) (omega arith)
 
-pub cut_whole : (s : Setting) (cs : List ℕ) (bytes count : ℕ) (stop : Stop) (space : Option Stop) → Scanned s cs bytes count stop space → segment_length cs ≡ count →
+pub cut_whole : (s : LineSetting) (cs : List ℕ) (bytes count : ℕ) (stop : Stop) (space : Option Stop) → Scanned s cs bytes count stop space → segment_length cs ≡ count →
     IsCut s cs bytes stop.count stop.width stop.rest.now false
 cut_whole s cs bytes count stop space h whole =
     let e = fits_whole s cs count whole h.fits in record {
@@ -188,11 +188,11 @@ past_more None a b l h = h
 past_more (Some most) a b l h = grind (arith, nat_tests)
 
 -- what is longer than a run that does not fit does not fit either
-wider_past : (s : Setting) (cs : List ℕ) (m n : ℕ) → m ≤ n → n ≤ length cs → is_fit s cs m ≡ false → is_fit s cs n ≡ false
+wider_past : (s : LineSetting) (cs : List ℕ) (m n : ℕ) → m ≤ n → n ≤ length cs → is_fit s cs m ≡ false → is_fit s cs n ≡ false
 wider_past s cs m n l h past = past_more s.most _ _ (run_grows s cs m n l h) past
 
 -- the next character does not fit
-fits_count : (s : Setting) (cs : List ℕ) (count : ℕ) → 0 < count → count + 1 ≤ segment_length cs → (1 < count → is_fit s cs count ≡ true) → is_fit s cs (count + 1) ≡ false → fitting s cs ≡ count
+fits_count : (s : LineSetting) (cs : List ℕ) (count : ℕ) → 0 < count → count + 1 ≤ segment_length cs → (1 < count → is_fit s cs count ≡ true) → is_fit s cs (count + 1) ≡ false → fitting s cs ≡ count
 fits_count s cs count some more fits past =
     let most = prefix_len-le-length (λ k. not (eqb k 10)) cs in
     let above = greatest_below (is_fit s cs) count (segment_length cs) (omega arith) (λ j a b. wider_past s cs (count + 1) j (omega arith) (omega arith) past) in
@@ -214,13 +214,13 @@ or_else-le : (m n : ℕ) → m ≤ n → or_else m n ≤ n
 or_else-le zero n h = omega arith
 or_else-le (suc m) n h = h
 
-last_is : (s : Setting) (cs : List ℕ) (bytes count : ℕ) (stop last : Stop) (space : Option Stop) → Stops s cs bytes count stop →
+last_is : (s : LineSetting) (cs : List ℕ) (bytes count : ℕ) (stop last : Stop) (space : Option Stop) → Stops s cs bytes count stop →
     MatchOption space (after_space cs count ≡ 0) (λ st. (0 < after_space cs count) × Stops s cs bytes (after_space cs count) st) →
     Some last ≡ (if is_some space then space else Some stop) → Stops s cs bytes (or_else (after_space cs count) count) last
 last_is s cs bytes count stop last None ends spaced is = let e : last ≡ stop = cc in rw (spaced, e) ends
 last_is s cs bytes count stop last (Some st) ends spaced is = let e : last ≡ st = cc in rw (e, or_else_some (after_space cs count) count spaced.0) spaced.1
 
-pub cut_broken : (s : Setting) (cs : List ℕ) (bytes count c width : ℕ) (left : List ℕ) (stop last : Stop) (space : Option Stop) → Scanned s cs bytes count stop space → drop count cs ≡ c ∷ left →
+pub cut_broken : (s : LineSetting) (cs : List ℕ) (bytes count c width : ℕ) (left : List ℕ) (stop last : Stop) (space : Option Stop) → Scanned s cs bytes count stop space → drop count cs ≡ c ∷ left →
     c ≢ 10 → width ≡ stop.width + (s.face.cell c).advance + (if eqb count 0 then 0 else s.letter) → (eqb count 0 || is_within s.most width) ≡ false → Some last ≡ (if is_some space then space else Some stop) →
     IsCut s cs bytes last.count last.width last.rest.now true
 cut_broken s cs bytes count c width left stop last space h next plain wide full is =

@@ -7,7 +7,7 @@ use Rattle.layout_defs.specs.Flex.{spanned, thickness, tracks}
 use Rattle.layout_defs.specs.Solving.{Tall, tall_box, taking_part, in_order, natural_size, kids_height, natural_height}
 use Rattle.gui_layout.specs.declared.layout_box.LayoutBox.{LayoutBox}
 use Rattle.gui_layout.specs.Views.{axis_of, box_of, box_at}
-use Rattle.gui_layout.specs.Rows.{Sum, down_kid, run_down, sum_of, with_gaps}
+use Rattle.gui_layout.specs.Totals.{Sum, down_kid, run_down, sum_of, with_gaps}
 use Rattle.gui_layout.proofs.Sums.{together, together_is, count_is}
 
 -- the height of those together that stand in no row

@@ -8,7 +8,7 @@ use Rattle.gui_layout.specs.declared.entry.Entry.{Entry}
 use Rattle.gui_layout.specs.declared.layout_box.LayoutBox.{LayoutBox}
 use Rattle.gui_layout.specs.Views.{axis_of, box_of, box_or, box_at}
 use Rattle.gui_layout.specs.declared.measuring.Run.{Run}
-use Rattle.gui_layout.specs.Rows.{Sum, across_kid, run_across, sum_of, with_gaps}
+use Rattle.gui_layout.specs.Totals.{Sum, across_kid, run_across, sum_of, with_gaps}
 use Rattle.gui_layout.proofs.Sums.{together, together_is}
 use Rattle.gui_layout.specs.Settled.{Layout, known_at}
 use Rattle.gui_layout.specs.Sizings.{kid_by}

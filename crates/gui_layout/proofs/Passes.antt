@@ -9,7 +9,7 @@ use Rattle.layout_defs.specs.Solving.{Slot, nowhere}
 use Rattle.layout_defs.specs.Tables.{KeepsOthers}
 use Rattle.layout_defs.proofs.OwnHeights.{roots-map}
 use Rattle.gui_layout.specs.declared.measuring.Run.{Run}
-use Rattle.gui_layout.specs.Rows.{Sum, Kid, with_kid, with_kids, sum_of}
+use Rattle.gui_layout.specs.Totals.{Sum, Kid, with_kid, with_kids, sum_of}
 use Rattle.gui_layout.specs.Settled.{Known, Layout, known_at, EachKids, NaturalWidthFits, WidthsFit, NaturalHeightFits, SlotsFit}
 use Rattle.gui_layout.specs.Views.{box_at}
 use Rattle.gui_tree.proofs.Parts.{IsDistinct}

@@ -7,7 +7,7 @@ use Rattle.layout_defs.specs.Flex.{greatest, spanned}
 use Rattle.layout_defs.specs.Solving.{taking_part, reach, flowing}
 use Rattle.gui_layout.specs.declared.measuring.Run.{Run}
 use Rattle.gui_layout.specs.declared.measuring.Run.TheVariants.{Apart, Along, Crossing}
-use Rattle.gui_layout.specs.Rows.{Sum, Kid, joined, with_kids, sum_of, with_gaps}
+use Rattle.gui_layout.specs.Totals.{Sum, Kid, joined, with_kids, sum_of, with_gaps}
 
 fold-map : {A B C : Type 0} (op : C → B → C) (f : A → B) (a : C) (xs : List A) → fold (λ s x. op s (f x)) a xs ≡ fold op a (map f xs)
 fold-map op f a [] = refl

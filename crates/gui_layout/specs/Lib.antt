@@ -1,6 +1,5 @@
 pub mod Views
 pub mod Found
-pub mod Rows
 pub mod Own
 pub mod Painted
 pub mod Reaches
@@ -28,3 +27,4 @@ pub mod Around
 pub mod SettledBut
 pub mod Marks
 pub mod Gone
+pub mod Totals

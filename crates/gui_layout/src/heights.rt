@@ -11,7 +11,7 @@ ghost use Rattle.layout_defs.specs.Tables.{KeepsOthers};
 ghost use Rattle.gui_flex.specs.Items.{items_of};
 ghost use Rattle.gui_layout.specs.Kids.{tall_kids, told_trees};
 ghost use Rattle.gui_layout.specs.Views.{axis_of, box_of, box_at};
-ghost use Rattle.gui_layout.specs.Rows.{row_of, run_down, down_kid, sum_of};
+ghost use Rattle.gui_layout.specs.Totals.{total_of, run_down, down_kid, sum_of};
 ghost use Rattle.gui_layout.specs.Settled.{EachKids, NaturalHeightFits};
 ghost use Rattle.gui_layout.specs.Layouts.{ButNaturalHeights};
 ghost use Rattle.gui_layout.specs.Tables.{told, listing_of, AreListed, IsEntry};
@@ -21,9 +21,9 @@ use crate::boxes::{course_of, is_reversed, wraps};
 use crate::entry::Entry;
 use crate::items::{fill_items, turn};
 use crate::measuring::{natural_size, no_kids, run_down, with_gaps, with_kid};
-use crate::row::Row;
 use crate::sizing::Sizing;
 use crate::tables::{entry_of, set_natural_height};
+use crate::total::Total;
 use gui_base::Handle;
 use gui_base::words::Flow;
 use gui_flex::{FlexItem, measure};
@@ -81,11 +81,11 @@ fn kids_height(
     items: &mut [FlexItem],
     h: Handle,
     own: &Entry,
-    row: Row,
+    total: Total,
 ) -> u32
     requires few { size tree.now.forest ≤ 4000 }
     requires enough { size tree.now.forest ≤ length items.old }
-    requires row { row_of row ≡ sum_of down_kid (run_down (course_of own.now.wanted.flow))
+    requires total { total_of total ≡ sum_of down_kid (run_down (course_of own.now.wanted.flow))
         (tall_kids (told entries.now) tree.now.forest h.0) }
     requires listed { AreListed (listing_of entries.now) (tree_at tree.now.forest h.0) }
     ensures value { result ≡ kids_height (course_of own.now.wanted.flow) (box_of h.0 own.now.wanted)
@@ -93,13 +93,13 @@ fn kids_height(
         (taking_part tall_box (tall_kids (told entries.now) tree.now.forest h.0)) }
     ensures small { result ≤ 500000000 }
 {
-    if row.count == 0 {
+    if total.count == 0 {
         return 0;
     }
     let course = course_of(own.wanted.flow);
     match course {
         Course::Across => row_height(tree, entries, items, h, own),
-        _ => with_gaps(row, run_down(course), own.wanted.down.gap),
+        _ => with_gaps(total, run_down(course), own.wanted.down.gap),
     }
 }
 
@@ -111,19 +111,19 @@ fn natural_height(
     items: &mut [FlexItem],
     h: Handle,
     own: &Entry,
-    row: Row,
+    total: Total,
 ) -> u16
     requires few { size tree.now.forest ≤ 4000 }
     requires enough { size tree.now.forest ≤ length items.old }
     requires own { IsEntry (told entries.now) h.0 own.now }
-    requires row { row_of row ≡ sum_of down_kid (run_down (course_of own.now.wanted.flow))
+    requires total { total_of total ≡ sum_of down_kid (run_down (course_of own.now.wanted.flow))
         (tall_kids (told entries.now) tree.now.forest h.0) }
     requires listed { AreListed (listing_of entries.now) (tree_at tree.now.forest h.0) }
     ensures value { result ≡ natural_height (box_at (told entries.now).boxes h.0)
         (slice_index (told entries.now).widths h.0) (tall_kids (told entries.now) tree.now.forest h.0) }
     ensures small { result ≤ 8191 }
 {
-    let kids = kids_height(tree, entries, items, h, own, row);
+    let kids = kids_height(tree, entries, items, h, own, total);
     natural_size(&own.wanted.down, own.wanted.own_height.max(kids))
 }
 
@@ -145,12 +145,12 @@ pub(crate) fn find_natural_heights(
     ensures listed { listing_of entries.new ≡ listing_of entries.old }
 {
     let run = run_down(course_of(entry_of(entries, h).wanted.flow));
-    let mut row = no_kids();
+    let mut total = no_kids();
     for child in tree.children(h) {
         find_natural_heights(tree, entries, items, child);
         let kid = entry_of(entries, child);
-        row = with_kid(
-            row,
+        total = with_kid(
+            total,
             run,
             &kid.wanted,
             &kid.wanted.down,
@@ -158,6 +158,6 @@ pub(crate) fn find_natural_heights(
         );
     }
     let own = entry_of(entries, h);
-    let natural = natural_height(tree, entries, items, h, own, row);
+    let natural = natural_height(tree, entries, items, h, own, total);
     set_natural_height(entries, h, natural);
 }

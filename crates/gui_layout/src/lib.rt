@@ -42,11 +42,11 @@ mod raising;
 mod reach;
 mod reaching;
 mod renewal;
-mod row;
 mod size;
 mod sizing;
 mod steady;
 mod tables;
+mod total;
 mod tree;
 mod widths;
 

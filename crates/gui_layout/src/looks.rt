@@ -18,8 +18,8 @@ use arrayvec::ArrayVec;
 use gui_base::{Flag, Handle, Kind, Part, Prop};
 use gui_font::Images;
 use gui_store::{Row, Store};
+use gui_widgets::kinds::{has_indicator, has_knob, is_something, shows};
 use gui_widgets::{ImageLook, Look, Values};
-use widget_defs::kinds::shows;
 
 /// The value of each property of a part of an object that has this row.
 fn values(store: &Store, h: Handle, row: &Row, part: Part) -> Values
@@ -57,21 +57,21 @@ const UNASKED: Values = Values([0; 19]);
 fn paints_content(kind: Kind) -> bool
     ensures { result ≡ paints_content kind }
 {
-    shows(kind).is_something()
+    is_something(shows(kind))
 }
 
 /// Whether they paint their indicator.
 fn paints_indicator(kind: Kind) -> bool
     ensures { result ≡ paints_indicator kind }
 {
-    shows(kind).has_indicator()
+    has_indicator(shows(kind))
 }
 
 /// Whether they paint their knob.
 fn paints_knob(kind: Kind) -> bool
     ensures { result ≡ paints_knob kind }
 {
-    shows(kind).has_knob()
+    has_knob(shows(kind))
 }
 
 /// The values that the fill and the border of a part go by. No other is looked up.

@@ -3,11 +3,11 @@ ghost use Rattle.std.specs.Prelude.{◌≡◌, ◌≤◌, ◌<◌, ◌+◌, ℕ,
 ghost use Rattle.layout_defs.specs.Boxes.{inset};
 ghost use Rattle.layout_defs.specs.Solving.{reach, natural_size};
 ghost use Rattle.gui_layout.specs.Views.{axis_of, box_of};
-ghost use Rattle.gui_layout.specs.Rows.{row_of, run_across, run_down, with_kid, with_gaps};
+ghost use Rattle.gui_layout.specs.Totals.{total_of, run_across, run_down, with_kid, with_gaps};
 
 use crate::axis::Axis;
 use crate::layout_box::LayoutBox;
-use crate::row::Row;
+use crate::total::Total;
 use gui_base::Length;
 use layout_defs::{Course, Side};
 
@@ -45,10 +45,10 @@ pub(crate) fn run_down(course: Course) -> Run
 }
 
 /// No children.
-pub(crate) fn no_kids() -> Row
-    ensures { row_of result ≡ record { size = 0; count = 0 } }
+pub(crate) fn no_kids() -> Total
+    ensures { total_of result ≡ record { size = 0; count = 0 } }
 {
-    Row { size: 0, count: 0 }
+    Total { size: 0, count: 0 }
 }
 
 /// How far a child reaches from its parent's near side, without flex.
@@ -71,36 +71,36 @@ fn flowing(grow: u8, natural: u16) -> u32
 }
 
 /// The same with a child more, by its box and its axis. A hidden one takes no part.
-pub(crate) fn with_kid(row: Row, run: Run, kid: &LayoutBox, axis: &Axis, natural: u16) -> Row
-    requires count { row.count < 4000 }
-    ensures value { (h : ℕ) → row_of result ≡ with_kid run (row_of row)
+pub(crate) fn with_kid(total: Total, run: Run, kid: &LayoutBox, axis: &Axis, natural: u16) -> Total
+    requires count { total.count < 4000 }
+    ensures value { (h : ℕ) → total_of result ≡ with_kid run (total_of total)
         (record { box = box_of h kid.now; axis = axis_of axis.now; natural = natural }) }
-    ensures count { result.count ≤ row.count + 1 }
+    ensures count { result.count ≤ total.count + 1 }
 {
     if kid.hidden {
-        return row;
+        return total;
     }
     let size = match run {
-        Run::Apart => row.size.max(reach(axis, natural)),
-        Run::Along => row.size + flowing(kid.grow, natural),
-        Run::Crossing => row.size.max(u32::from(natural)),
+        Run::Apart => total.size.max(reach(axis, natural)),
+        Run::Along => total.size + flowing(kid.grow, natural),
+        Run::Crossing => total.size.max(u32::from(natural)),
     };
-    Row {
+    Total {
         size,
-        count: row.count + 1,
+        count: total.count + 1,
     }
 }
 
 /// How large children are together that are so large, with the gaps between them where they stand behind one
 /// another.
-pub(crate) fn with_gaps(row: Row, run: Run, gap: u16) -> u32
+pub(crate) fn with_gaps(total: Total, run: Run, gap: u16) -> u32
     requires gap { gap ≤ 1000 }
-    ensures value { result ≡ with_gaps run gap (row_of row) }
+    ensures value { result ≡ with_gaps run gap (total_of total) }
     ensures small { result ≤ 500000000 }
 {
     match run {
-        Run::Along => row.size + u32::from(gap) * row.count.saturating_sub(1),
-        _ => row.size,
+        Run::Along => total.size + u32::from(gap) * total.count.saturating_sub(1),
+        _ => total.size,
     }
 }
 

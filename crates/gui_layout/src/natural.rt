@@ -6,7 +6,7 @@ ghost use Rattle.layout_defs.specs.Solving.{Wide, natural_width};
 ghost use Rattle.layout_defs.specs.Tables.{KeepsOthers};
 ghost use Rattle.gui_layout.specs.Kids.{told_trees};
 ghost use Rattle.gui_layout.specs.Views.{box_of};
-ghost use Rattle.gui_layout.specs.Rows.{row_of, run_across, across_kid, sum_of};
+ghost use Rattle.gui_layout.specs.Totals.{total_of, run_across, across_kid, sum_of};
 ghost use Rattle.gui_layout.specs.Settled.{EachKids, NaturalWidthFits};
 ghost use Rattle.gui_layout.specs.Layouts.{ButNaturalWidths};
 ghost use Rattle.gui_layout.specs.Tables.{told, listing_of, AreListed};
@@ -15,20 +15,20 @@ use crate::boxes::course_of;
 use crate::entry::Entry;
 use crate::layout_box::LayoutBox;
 use crate::measuring::{natural_size, no_kids, run_across, with_gaps, with_kid};
-use crate::row::Row;
 use crate::tables::{entry_of, set_natural_width};
+use crate::total::Total;
 use gui_base::Handle;
 use gui_pool::Table;
 use gui_tree::Tree;
 
 /// The natural width of an object whose children are together so wide.
-fn natural_width(own: &LayoutBox, row: Row) -> u16
+fn natural_width(own: &LayoutBox, total: Total) -> u16
     ensures value { (h : ℕ) (kids : List Wide)
-        → row_of row ≡ sum_of across_kid (run_across (course_of own.now.flow)) kids
+        → total_of total ≡ sum_of across_kid (run_across (course_of own.now.flow)) kids
         → result ≡ natural_width (box_of h own.now) kids }
     ensures small { result ≤ 8191 }
 {
-    let kids = with_gaps(row, run_across(course_of(own.flow)), own.across.gap);
+    let kids = with_gaps(total, run_across(course_of(own.flow)), own.across.gap);
     natural_size(&own.across, own.own_width.max(kids))
 }
 
@@ -44,12 +44,12 @@ pub(crate) fn find_natural_widths(tree: &Tree, entries: &mut Table<Entry>, h: Ha
     ensures listed { listing_of entries.new ≡ listing_of entries.old }
 {
     let run = run_across(course_of(entry_of(entries, h).wanted.flow));
-    let mut row = no_kids();
+    let mut total = no_kids();
     for child in tree.children(h) {
         find_natural_widths(tree, entries, child);
         let kid = entry_of(entries, child);
-        row = with_kid(
-            row,
+        total = with_kid(
+            total,
             run,
             &kid.wanted,
             &kid.wanted.across,
@@ -57,6 +57,6 @@ pub(crate) fn find_natural_widths(tree: &Tree, entries: &mut Table<Entry>, h: Ha
         );
     }
     let own = entry_of(entries, h);
-    let natural = natural_width(&own.wanted, row);
+    let natural = natural_width(&own.wanted, total);
     set_natural_width(entries, h, natural);
 }

@@ -29,8 +29,8 @@ use arrayvec::ArrayVec;
 use gui_base::{Flag, Handle, Kind, Part, Prop};
 use gui_flex::FlexPlaces;
 use gui_store::{Row, Store};
+use gui_widgets::kinds::{has_size, shows};
 use gui_widgets::{own_height, own_width};
-use widget_defs::kinds::shows;
 
 /// A value of an object that has this row. None lies below 0.
 fn number(store: &Store, h: Handle, row: &Row, prop: Prop) -> u32
@@ -86,7 +86,7 @@ fn placings(row: &Row) -> FlexPlaces
 fn has_own_size(kind: Kind) -> bool
     ensures { result ≡ has_own_size kind }
 {
-    shows(kind).has_size()
+    has_size(shows(kind))
 }
 
 /// The width of what an object with this row shows, in pixels. It is not inlined: a look takes much room,

@@ -64,16 +64,11 @@ use gui_base::intervals::HANDLE;
 use gui_base::{Area, Flag, Handle, Limits, NoMemory};
 use gui_flex::FlexItem;
 use gui_pool::Table;
-use gui_store::Store;
+use gui_store::{SYSTEM_LAYER, Store, TOP_LAYER};
 use gui_tree::Tree;
 use gui_widgets::{Item, Look, bars};
 use std::alloc::Global;
 use std::mem;
-
-/// The layers that are shown above the active screen.
-const TOP_LAYER: Handle = Handle(1);
-
-const SYSTEM_LAYER: Handle = Handle(2);
 
 /// One more than the greatest handle.
 const HANDLES: u32 = HANDLE.high as u32 + 1;

@@ -20,7 +20,7 @@ pub fn covers(visible: Area, items: &[Item], part: Area) -> bool
 }
 
 /// Whether an area has all pixels of another.
-pub(crate) fn has_area(area: Area, part: Area) -> bool
+pub fn has_area(area: Area, part: Area) -> bool
     ensures { result ≡ has_area (rect_of area) (rect_of part) }
 {
     part.is_empty() || area.holds_corners(part)

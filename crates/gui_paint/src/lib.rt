@@ -9,5 +9,5 @@ mod search;
 mod shown;
 mod walk;
 
-pub use hiding::covers;
+pub use hiding::{covers, has_area};
 pub use shown::Shown;

@@ -18,11 +18,12 @@ ghost use Rattle.gui_paint.specs.Walking.{seen_so, tree_walk};
 
 use crate::items::paint_items;
 use crate::shown::Shown;
-use crate::walk::{SYSTEM_LAYER, SeenObject, TOP_LAYER, panel, visit};
+use crate::walk::{SeenObject, panel, visit};
 use arrayvec::ArrayVec;
 use gui_base::{Area, Handle, Steps};
 use gui_color::DrawBuf;
 use gui_draw::Picture;
+use gui_store::{SYSTEM_LAYER, TOP_LAYER};
 use gui_widgets::items;
 use std::sync::ledger::Ledger;
 

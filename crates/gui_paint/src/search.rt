@@ -11,9 +11,10 @@ ghost use Rattle.gui_paint.specs.Walking.{StandsAt, number_of, seen_so, tree_wal
 
 use crate::hiding::{covers, has_area};
 use crate::shown::Shown;
-use crate::walk::{SYSTEM_LAYER, SeenObject, TOP_LAYER, panel, visit};
+use crate::walk::{SeenObject, panel, visit};
 use arrayvec::ArrayVec;
 use gui_base::{Area, Handle, Steps};
+use gui_store::{SYSTEM_LAYER, TOP_LAYER};
 use gui_widgets::items;
 use std::sync::ledger::Ledger;
 

@@ -12,12 +12,6 @@ use gui_base::{Area, Flag, Handle, Steps};
 use gui_store::Row;
 use std::sync::ledger::Ledger;
 
-/// The layer above the active screen.
-pub(crate) const TOP_LAYER: Handle = Handle(1);
-
-/// The layer above all else.
-pub(crate) const SYSTEM_LAYER: Handle = Handle(2);
-
 /// Where an object stands, and what is seen of it.
 #[derive(Clone, Copy)]
 pub(crate) struct SeenObject {

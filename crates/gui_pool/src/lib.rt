@@ -18,6 +18,6 @@ mod table;
 
 pub use block::NoMemory;
 pub use chains::{Chains, NoChunks, TextId};
-pub use lists::{Items, Lists};
+pub use lists::{ListIter, Lists};
 pub use slab::Slab;
 pub use table::Table;

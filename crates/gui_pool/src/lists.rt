@@ -92,12 +92,12 @@ impl<T> Lists<T> {
     }
 
     /// The values of an owner, in order.
-    pub fn of(&self, owner: u32) -> Items<'_, T>
+    pub fn of(&self, owner: u32) -> ListIter<'_, T>
         requires { owner < length self.now.lists }
         ensures value { result ≡ list_of self.now owner }
         ensures few { length result < 2 ^ 32 }
     {
-        Items {
+        ListIter {
             entries: self.buckets.of(owner & self.mask),
             owner,
         }
@@ -192,12 +192,12 @@ impl<T: Drop> Lists<T> {
 
 /// The values of an owner that are still to come. A contract sees them as a list.
 #[derive(Drop)]
-pub struct Items<'a, T> {
+pub struct ListIter<'a, T> {
     entries: Bucket<'a, Entry<T>>,
     owner: u32,
 }
 
-impl<'a, T> Model for Items<'a, T> {
+impl<'a, T> Model for ListIter<'a, T> {
     ghost use Rattle.std.specs.Prelude.{List};
     ghost use Rattle.std.specs.Coded.{coded_list};
 
@@ -210,7 +210,7 @@ impl<'a, T> Model for Items<'a, T> {
     ghost view = { λ i. values_of i.owner i.entries };
 }
 
-impl<'a, T> Items<'a, T> {
+impl<'a, T> ListIter<'a, T> {
     /// The next value: `None` exactly where none is left.
     pub fn next(&mut self) -> Option<&'a T>
         ensures { MatchOption result ((self.old ≡ []) × (self.new ≡ [])) (λ v. self.old ≡ v.now ∷ self.new) }

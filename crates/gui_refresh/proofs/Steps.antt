@@ -1,5 +1,5 @@
 -- How each step keeps a refresher, a panel and what is pending together.
-use Rattle.std.proofs.Common.{◌≡◌, ◌∙◌, refl, sym, ap, subst, ℕ, ◌+◌, ◌*◌, ◌<◌, ◌≤◌, ℤ, pos, true, false, List, [], ◌∷◌, length, inl, inr, arith}
+use Rattle.std.proofs.Common.{◌≡◌, ◌∙◌, refl, sym, ap, subst, ℕ, ◌+◌, ◌*◌, ◌<◌, ◌≤◌, ℤ, true, false, List, [], ◌∷◌, length, inl, inr, arith}
 use Rattle.std.specs.Prelude.{Some, None, IfSome, is_some}
 use Rattle.std.specs.declared.option.Option.{Option}
 use Rattle.std.specs.Option.{ForSome}
@@ -7,7 +7,7 @@ use Rattle.std.proofs.lemmas.Int.{ints}
 use Rattle.std.proofs.lemmas.Bool.{or_left}
 use Rattle.std.proofs.lemmas.List.Sums.{sum_by-cons}
 use Rattle.gui_base.specs.declared.color.Rgb565.{Rgb565}
-use Rattle.gui_base.specs.Area.{Rect, area_at, has, size_of, is_within}
+use Rattle.gui_base.specs.Area.{Rect, has, size_of, is_within}
 use Rattle.gui_color.specs.Buffer.{Buffer}
 use Rattle.gui_color.proofs.Places.{place_fits}
 use Rattle.gui_edge.specs.KeepsTelling.{KeepsTelling}

@@ -39,7 +39,7 @@ pub use Rattle.gui_style.specs.Styles.{Styles, all_forgotten, forgotten}
 pub use Rattle.scene_defs.specs.Styling.{Styling, of_entries, one_unless}
 pub use Rattle.style_defs.specs.Book.{Book, entries_in, uses_in, locals_of, uses_of, no_lists, empty_book}
 pub use Rattle.gui_store.specs.Removed.{removed_after}
-pub use Rattle.gui_rows.specs.Rows.{KeptRow, RowSet, chunks_at, chunks_of}
+pub use Rattle.gui_store.specs.RowSets.{KeptRow, RowSet, chunks_at, chunks_of}
 pub use Rattle.gui_store.specs.Rows.{new_kept, kept_in, row_in, row_of, row_shown, object_of, object_in, HaveRows, rows_without, set_without}
 pub use Rattle.gui_store.specs.Views.{parts_of, scene_of}
 pub use Rattle.scene_defs.specs.declared.Row.{Row}

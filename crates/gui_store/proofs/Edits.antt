@@ -10,7 +10,7 @@ use Rattle.gui_base.specs.declared.words.Kind.{Kind}
 use Rattle.gui_base.specs.declared.words.Kind.TheVariants.{Screen, Layer, Obj}
 use Rattle.scene_defs.specs.Scene.{chunks_in}
 use Rattle.gui_pool.specs.Texts.{need_of as need_of_text}
-use Rattle.gui_rows.specs.Rows.{with_text}
+use Rattle.gui_store.specs.RowSets.{with_text}
 use Rattle.scene_defs.specs.declared.Feature.TheVariants.{Text}
 use Rattle.scene_defs.specs.Row.{has_feature}
 use Rattle.scene_defs.specs.Change.{lacks}

@@ -3,5 +3,8 @@ pub mod Common
 pub mod Edits
 pub mod Kept
 pub mod Values
+pub mod RowChanges
+pub mod RowSets
+pub mod RowTexts
 pub mod Rows
 pub mod Shown

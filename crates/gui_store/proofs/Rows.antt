@@ -3,7 +3,7 @@ use Rattle.std.proofs.lemmas.Bool.{cases_Bool}
 use Rattle.std.specs.Prelude.{unwrap_or}
 use Rattle.gui_base.specs.declared.words.Kind.TheVariants.{Obj}
 use Rattle.gui_pool.specs.Texts.{need_of}
-use Rattle.gui_rows.specs.Rows.{without_row}
+use Rattle.gui_store.specs.RowSets.{without_row}
 use Rattle.scene_defs.specs.Scene.{chunks_in}
 use Rattle.gui_store.proofs.Common.{ap, inl, inr, ◌≡◌, ◌<◌, ◌≤◌, ◌∙◌, ℕ, ◌+◌, true, cond, eqb, List, [], ◌∷◌, ◌++◌, length, slice_set, slice_index_or, Option, Some, None, is_some, IsSome, refl, arith, length-set, nat_tests, get_or-set_same, get_or-set_other, get_or_past, length-append, Handle, Forest, Empty, Tree, has, count, size, preorder, count-has, count-off, Table, value_at, value_inserted, value_replaced, value_removed, numbers, map_forest, chunks, object_in, new_kept, KeptRow, RowSet, set_without, chunks_of, HaveRows, rows_without}
 

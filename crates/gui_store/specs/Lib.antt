@@ -1,7 +1,9 @@
 pub mod Assets
 pub mod Changed
+pub mod KeptRows
 pub mod Parts
 pub mod Removed
+pub mod RowSets
 pub mod Rows
 pub mod Setters
 pub mod Styling

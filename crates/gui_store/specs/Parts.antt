@@ -13,7 +13,7 @@ use Rattle.gui_style.specs.Styles.{Styles}
 use Rattle.gui_tree.specs.Trees.{Trees}
 use Rattle.scene_defs.specs.Scene.{Scene, spare}
 use Rattle.scene_defs.specs.Valid.{IsValid}
-use Rattle.gui_rows.specs.Rows.{KeptRow}
+use Rattle.gui_store.specs.RowSets.{KeptRow}
 use Rattle.gui_store.specs.Rows.{object_in}
 
 pub record Parts : Type 0 where

@@ -5,7 +5,7 @@ use Rattle.gui_base.specs.declared.Handle.{Handle}
 use Rattle.gui_base.specs.declared.words.Kind.{Kind}
 use Rattle.gui_base.specs.declared.words.Kind.TheVariants.{Obj}
 use Rattle.gui_pool.specs.Table.{Table, value_at, value_removed}
-use Rattle.gui_rows.specs.Rows.{KeptRow, RowSet, without_row}
+use Rattle.gui_store.specs.RowSets.{KeptRow, RowSet, without_row}
 use Rattle.scene_defs.specs.declared.Row.{Row}
 use Rattle.scene_defs.specs.Row.{new_row}
 use Rattle.scene_defs.specs.Scene.{Object}

@@ -6,13 +6,18 @@
 #![tactic(auto)]
 
 mod assets;
+mod features;
 mod range;
+mod row;
+mod row_table;
 mod setter;
 mod store;
 mod styling;
 mod subject;
 
+pub use features::has_feature;
 pub use gui_base::{Align, Flow, Kind, Length, Part, Placing, Prop};
+pub use row_table::RowTable;
 pub use scene_defs::{Change, Row, Text};
-pub use store::Store;
+pub use store::{SYSTEM_LAYER, Store, TOP_LAYER};
 pub use subject::subject_of;

@@ -23,28 +23,30 @@ ghost use Rattle.gui_store.specs.Setters.{asked_of};
 ghost use Rattle.gui_store.specs.Values.{won_at, inherited_at, given_at};
 
 use crate::assets::build;
+use crate::features::has_feature;
 use crate::range::is_in_range;
+use crate::row_table::RowTable;
 use crate::setter::{Setter, setter_of};
 use crate::styling::{named_by, restyle};
 use arrayvec::ArrayVec;
 use gui_base::intervals::HANDLE;
 use gui_base::{Handle, Kind, Limits, NoMemory, Part, Pool, Prop, Refusal};
 use gui_font::{Fonts, Images};
-use gui_pool::Items;
-use gui_rows::RowTable;
+use gui_pool::ListIter;
 use gui_style::Styles;
+use gui_style::kinds::default_in;
 use gui_tree::Tree;
 use scene_defs::{Change, Feature, MOST_TEXT, Row, Text};
 use std::alloc::Global;
-use style_defs::kinds::default_in;
 
 /// One more than the greatest handle.
 const HANDLES: u32 = HANDLE.high as u32 + 1;
 
-/// The layers that are shown above the active screen.
-const TOP_LAYER: Handle = Handle(1);
+/// The layer above the active screen.
+pub const TOP_LAYER: Handle = Handle(1);
 
-const SYSTEM_LAYER: Handle = Handle(2);
+/// The layer above all else.
+pub const SYSTEM_LAYER: Handle = Handle(2);
 
 /// The screen that is shown at first.
 const FIRST_SCREEN: Handle = Handle(3);
@@ -234,7 +236,7 @@ impl Store {
 
     /// The objects that use a style, for any selector. One that uses it for several selectors comes once for
     /// each of them. They come in no order, and no others are read.
-    pub fn users(&self, id: u16) -> Items<'_, Handle>
+    pub fn users(&self, id: u16) -> ListIter<'_, Handle>
         ensures these { (h : ℕ) → list_any (is_handle h) result ≡ uses_style (scene_of self.now).book h id }
         ensures few { length result < 2 ^ 32 }
     {
@@ -375,7 +377,7 @@ impl Store {
         let Some(row) = self.rows.get(h.0 as u32) else {
             return Err(Refusal::Unknown);
         };
-        if !Feature::Text.is_of(row.kind) {
+        if !has_feature(Feature::Text, row.kind) {
             return Err(Refusal::Kind);
         }
         let mut room = [0; MOST_TEXT];
@@ -426,7 +428,7 @@ impl Store {
     {
         self.check_image(setter.image)?;
         if let Some(feature) = setter.feature {
-            if !feature.is_of(row.kind) {
+            if !has_feature(feature, row.kind) {
                 return Err(Refusal::Kind);
             }
         }

@@ -7,7 +7,7 @@ ghost use Rattle.gui_style.specs.Filed.{spread, keys, key, has_prop};
 ghost use Rattle.gui_style.specs.Styles.{full_answer};
 
 use gui_base::{NoMemory, Pool, Prop, Refusal};
-use gui_pool::{Items, Lists};
+use gui_pool::{ListIter, Lists};
 use std::alloc::Global;
 use std::marker::Model;
 use style_defs::Entry;
@@ -101,7 +101,7 @@ impl Entries {
     }
 
     /// The entries of an owner, in order.
-    pub(crate) fn of(&self, owner: u32) -> Items<'_, Entry>
+    pub(crate) fn of(&self, owner: u32) -> ListIter<'_, Entry>
         requires { owner < length self.now.lists }
         ensures value { result ≡ list_of self.now owner }
         ensures few { length result < 2 ^ 32 }
@@ -110,7 +110,7 @@ impl Entries {
     }
 
     /// The entries of an owner that are of a property, in order. No others are read.
-    pub(crate) fn of_prop(&self, owner: u32, prop: Prop) -> Items<'_, Entry>
+    pub(crate) fn of_prop(&self, owner: u32, prop: Prop) -> ListIter<'_, Entry>
         requires { owner < length self.now.lists }
         ensures value { result ≡ filter (has_prop prop) (list_of self.now owner) }
         ensures few { length result < 2 ^ 32 }

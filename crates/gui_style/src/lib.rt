@@ -3,7 +3,9 @@
 //! All memory is taken at [`Styles::open`]. A call that is refused leaves all as it was.
 #![tactic(auto)]
 
+pub mod cascade;
 mod entries;
+pub mod kinds;
 mod styles;
 mod uses;
 

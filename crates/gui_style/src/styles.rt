@@ -11,13 +11,13 @@ ghost use Rattle.gui_style.specs.Styles.{unset_prop_answer, without_prop, add_st
 ghost use Rattle.gui_style.specs.Styles.{remove_style_answer, without_use, set_local_answer, with_local};
 ghost use Rattle.gui_style.specs.Styles.{unset_local_answer, without_local, forgotten, all_forgotten};
 
+use crate::cascade::{applies, given_by, selector_of, stronger};
 use crate::entries::Entries;
 use crate::uses::Uses;
 use gui_base::{Handle, NoMemory, Part, Pool, Prop, Refusal, Selector};
-use gui_pool::{Items, Table};
+use gui_pool::{ListIter, Table};
 use std::alloc::Global;
 use std::marker::Model;
-use style_defs::cascade::{applies, given_by, stronger};
 use style_defs::{Candidate, Entry, Use};
 
 /// How many numbers there are for handles, and as many for styles.
@@ -321,7 +321,7 @@ impl Styles {
 
     /// The objects that use a style, for any selector. One that uses it for several selectors comes once for
     /// each of them. They come in no order, and no others are read.
-    pub fn users(&self, id: u16) -> Items<'_, Handle>
+    pub fn users(&self, id: u16) -> ListIter<'_, Handle>
         ensures these { (h : ℕ) → list_any (is_handle h) result ≡ uses_style self.now.book h id }
         ensures few { length result < 2 ^ 32 }
     {
@@ -335,7 +335,7 @@ impl Styles {
         let mut entries = self.entries.of(h.0 as u32);
         let mut place = 0;
         while let Some(entry) = entries.next() {
-            if entry.prop == prop && entry.selector() == selector {
+            if entry.prop == prop && selector_of(entry) == selector {
                 return Some(place);
             }
             place += 1;

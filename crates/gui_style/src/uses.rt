@@ -7,7 +7,7 @@ ghost use Rattle.style_defs.specs.Firsts.{place_by};
 ghost use Rattle.gui_style.specs.Styles.{full_answer, is_handle, is_of_style};
 
 use gui_base::{Handle, NoMemory, Pool, Refusal};
-use gui_pool::{Items, Lists};
+use gui_pool::{ListIter, Lists};
 use std::alloc::Global;
 use std::marker::Model;
 use style_defs::Use;
@@ -81,7 +81,7 @@ impl Uses {
     }
 
     /// The uses of an object, in the order of adding.
-    pub(crate) fn of(&self, h: Handle) -> Items<'_, Use>
+    pub(crate) fn of(&self, h: Handle) -> ListIter<'_, Use>
         requires { h.0 < length self.now.lists }
         ensures value { result ≡ list_of self.now h.0 }
         ensures few { length result < 2 ^ 32 }
@@ -90,7 +90,7 @@ impl Uses {
     }
 
     /// The objects that use a style, for any selector: each once for each use, in no order.
-    pub(crate) fn users(&self, style: u16) -> Items<'_, Handle>
+    pub(crate) fn users(&self, style: u16) -> ListIter<'_, Handle>
         ensures these { (h : ℕ) →
             list_any (is_handle h) result ≡ list_any (is_of_style style) (list_of self.now h) }
         ensures few { length result < 2 ^ 32 }

@@ -1,5 +1,5 @@
 -- Lists of trees that stand side by side somewhere in a forest of handles, found by the handle of the first.
-use Rattle.std.proofs.Common.{◌≡◌, ◌∙◌, refl, sym, ap, subst, ℕ, ◌≤◌, true, false, not, Bool, eqb, Option, Some, None, is_some, option_map, inl, inr, arith, eq-eqb}
+use Rattle.std.proofs.Common.{◌≡◌, ◌∙◌, refl, sym, ap, subst, ℕ, ◌≤◌, true, false, eqb, Option, Some, option_map, inl, inr, arith, eq-eqb}
 use Rattle.std.proofs.lemmas.Bool.{cases_Bool, or_left, or_right, both_ways, false_from_ne_true, false≢true, eqb-true}
 use Rattle.std.proofs.lemmas.Bool.Decides.{nat_tests}
 use Rattle.gui_base.specs.Forest.{Forest, Empty, Tree, size, height, first_root, has, count, StandsOnce, tree_at, list_from, children_of, next_to}
@@ -180,17 +180,3 @@ walk_goes_on f child next d now is =
       later = ap (λ (o : Option Handle). trees_from o f) next_is ∙ trees_from-first_of f head.rest rest_part d;
       next_is = next_first f head.rest next rest_part d next_is;
     }
-
-none_is : (o : Option Handle) (b : Bool) → is_some o ≡ not b → b ≡ true → o ≡ None
-none_is None b is none = refl
-none_is (Some h) true is none = cc
-none_is (Some h) false is none = cc
-
--- the tree of an object that has no child
-pub leaf_is : (f : Forest ℕ) (h : ℕ) (first : Option Handle) (b : Bool) → IsDistinct f → has f h ≡ true → first ≡ first_of (children_of f h) → is_some first ≡ not b → b ≡ true → tree_at f h ≡ Tree h Empty Empty
-leaf_is f h first b distinct here is told none =
-    let at = there f h here in
-    let known = found at.part distinct in
-    let begins = walk_begins f h first distinct is in
-    let empty : at.children ≡ Empty = sym known.children ∙ (sym begins.all ∙ ap (λ (o : Option Handle). trees_from o f) (none_is first b told none)) in
-    known.tree ∙ ap (λ (cs : Forest ℕ). Tree h cs Empty) empty

@@ -5,7 +5,6 @@ use Rattle.std.proofs.lemmas.List.{map-append, take-append-drop, length-drop}
 use Rattle.std.proofs.lemmas.List.Sums.{sum_by-cons, sum_by-append}
 use Rattle.gui_base.specs.Area.{Rect, size_of}
 use Rattle.gui_base.specs.Color.{black}
-use Rattle.gui_base.specs.Forest.{Forest, preorder}
 use Rattle.gui_color.specs.Buffer.{Buffer, IsBlack}
 use Rattle.gui_draw.specs.Drawing.{ShowsColors}
 use Rattle.gui_paint.specs.Painting.{Painting, Leaves, Paints}
@@ -18,7 +17,7 @@ use Rattle.scene_defs.specs.Walk.{IsShowable}
 use Rattle.cover_defs.specs.Cover.{is_cover, from_last, uncovered}
 use Rattle.cover_defs.specs.Steps.{handles, object_count, steps_of, slice_steps}
 use Rattle.cover_defs.proofs.Covers.{from_last-found, painted_same, seen_alone, uncovered_is}
-use Rattle.cover_defs.proofs.Counts.{each_is_counted, entries_own, entries_twice, of_entry, uncovered_steps}
+use Rattle.cover_defs.proofs.Counts.{each_is_counted, entries_own, entries_twice, uncovered_steps}
 use Rattle.gui_view.specs.Painted.{painted_entry, painted_all, entry_steps, visit_steps, asked_steps}
 
 -- the element at a place, and those after it

@@ -7,10 +7,10 @@ use Rattle.gui_base.specs.Area.{Rect}
 use Rattle.gui_color.specs.Buffer.{Buffer}
 use Rattle.gui_change.specs.Seen.{IsKnown, IsShownAt, entry_of, items_by}
 use Rattle.gui_change.specs.declared.seen.ShownEntry.{ShownEntry}
-use Rattle.gui_paint.specs.Painting.{Paints, painted_bars, painted_coats, painted_object}
+use Rattle.gui_paint.specs.Painting.{Paints, painted_bars, painted_object}
 use Rattle.cover_defs.specs.Cover.{hides, is_cover, sees_all}
 use Rattle.cover_defs.specs.Steps.{bar_steps, object_steps, steps_of}
-use Rattle.scene_defs.specs.Items.{bar_coats, coats, items}
+use Rattle.scene_defs.specs.Items.{items}
 use Rattle.scene_defs.specs.Scene.{Scene}
 use Rattle.scene_defs.specs.Shown.{Entry, entries, own, seen_entry}
 use Rattle.scene_defs.specs.Visible.{visible}

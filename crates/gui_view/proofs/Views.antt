@@ -1,5 +1,5 @@
 -- Entries painted one after another.
-use Rattle.std.proofs.Common.{◌≡◌, ◌∙◌, refl, sym, ap, ℕ, ℤ, true, false, Bool, if◌then◌else◌, Option, Some, None, fold}
+use Rattle.std.proofs.Common.{◌≡◌, ◌∙◌, refl, sym, ap, ℤ, true, false, Bool, if◌then◌else◌, Option, Some, None, fold}
 use Rattle.gui_base.specs.Area.{Rect, has}
 use Rattle.gui_color.specs.Buffer.{Buffer, pixel_at}
 use Rattle.gui_paint.specs.Painting.{Painting, Paints, painted_coats}

@@ -10,7 +10,7 @@ ghost use Rattle.gui_paint.specs.Painting.{Paints};
 ghost use Rattle.gui_store.specs.Views.{scene_of};
 ghost use Rattle.scene_defs.specs.Picture.{paint as paint_of};
 ghost use Rattle.scene_defs.specs.Shown.{entries, own, seen_entry};
-ghost use Rattle.cover_defs.specs.Cover.{has_area, is_cover, from_last};
+ghost use Rattle.cover_defs.specs.Cover.{is_cover, from_last};
 ghost use Rattle.cover_defs.specs.Steps.{slice_steps};
 ghost use Rattle.gui_view.specs.Covering.{covers_known};
 ghost use Rattle.gui_view.specs.Painted.{asked_steps, entry_steps, painted_all, painted_entry, visit_steps};
@@ -20,7 +20,7 @@ use gui_base::{Area, Steps};
 use gui_change::{Canvas, ShownEntry};
 use gui_color::DrawBuf;
 use gui_draw::Picture;
-use gui_paint::{Shown, covers};
+use gui_paint::{Shown, covers, has_area};
 use std::sync::ledger::Ledger;
 
 /// The picture of the scene of a canvas.
@@ -105,13 +105,6 @@ fn covers_by<L: Ledger>(entry: &ShownEntry<'_>, part: Area, steps: &mut Steps<L>
         Some(visible) => has_area(visible, part) && covers(visible, entry.items().as_slice(), part),
         None => false,
     }
-}
-
-/// Whether an area has all pixels of another.
-fn has_area(area: Area, part: Area) -> bool
-    ensures { result ≡ has_area (rect_of area) (rect_of part) }
-{
-    part.is_empty() || area.holds_corners(part)
 }
 
 /// Paints what is shown of a canvas over the pixels of the buffer, back to front, from the entry of a number

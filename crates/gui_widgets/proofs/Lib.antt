@@ -1,3 +1,3 @@
-pub mod Setting
+pub mod TextsFit
 pub mod Spreads
 pub mod BarAreas

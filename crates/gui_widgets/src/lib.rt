@@ -5,6 +5,7 @@
 #![tactic(auto)]
 
 mod areas;
+pub mod kinds;
 mod look;
 mod painting;
 mod scrollbars;
@@ -16,4 +17,5 @@ pub use look::{Item, Look};
 pub use painting::items;
 pub use scrollbars::bars;
 pub use sizes::{own_height, own_width};
+pub use values::value_in;
 pub use widget_defs::{ImageLook, ItemPaint, Values};

@@ -8,13 +8,20 @@ use gui_base::{Prop, Rgb565};
 use gui_font::{TextAlign, TextLook};
 use widget_defs::Values;
 
+/// The value of a property.
+pub fn value_in(values: &Values, prop: Prop) -> i32
+    ensures { result ≡ value_in values.now prop }
+{
+    values.0[prop as usize]
+}
+
 /// The value of a property that is never below 0.
 pub(crate) fn number(values: &Values, prop: Prop) -> u32
     requires { AreValues (value_in values.now) }
     ensures value { result ≡ number_of (value_in values.now prop) }
     ensures most { result ≤ most_of prop }
 {
-    values.get(prop).unsigned_abs()
+    value_in(values, prop).unsigned_abs()
 }
 
 /// The value of a property that is never above 255.

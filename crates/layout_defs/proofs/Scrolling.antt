@@ -1,5 +1,5 @@
 -- Children that are scrolled.
-use Rattle.std.proofs.Common.{◌≡◌, ◌∙◌, refl, sym, ap, ℕ, ◌-◌, min, max, Bool, true, false, List, [], ◌∷◌, map, reverse, ℤ, pos, ◌+ℤ◌, ◌-ℤ◌, inl, inr, arith}
+use Rattle.std.proofs.Common.{◌≡◌, ◌∙◌, refl, sym, ap, ℕ, ◌-◌, false, List, [], ◌∷◌, map, ℤ, pos, ◌+ℤ◌, ◌-ℤ◌, inl, inr, arith}
 use Rattle.std.proofs.lemmas.Bool.{cases_Bool}
 use Rattle.std.proofs.lemmas.Int.{ints}
 use Rattle.std.proofs.lemmas.Simd.{map-map as list-map-map}
@@ -8,7 +8,7 @@ use Rattle.layout_defs.specs.declared.Course.{Course}
 use Rattle.layout_defs.specs.declared.Course.TheVariants.{Free, Across, Down}
 use Rattle.layout_defs.specs.Flex.{Item, Spot, shared, spots}
 use Rattle.layout_defs.specs.Boxes.{Box, course_of, is_reversed, wraps, inner}
-use Rattle.layout_defs.specs.Solving.{Wide, wide_box, Widened, Tall, tall_box, Slot, Room, Span, room_of, own_slot, dealt, taking_part, in_order, flow_slots, ordered_slots, flat_slots, far_end, end_across, end_down, kid_reach, offset_of, moved, kid_slots, paired, row_slot, column_slot, row_item, column_item}
+use Rattle.layout_defs.specs.Solving.{Wide, wide_box, Widened, Tall, tall_box, Slot, Room, Span, room_of, own_slot, dealt, taking_part, in_order, flow_slots, ordered_slots, flat_slots, far_end, end_across, end_down, kid_reach, offset_of, moved, paired, row_slot, column_slot, row_item, column_item}
 use Rattle.layout_defs.specs.Solving.{natural_width, natural_height, kids_width, kids_height, kid_widths, kid_widths_by, row_widths, width_in, width_item, with_natural_widths, with_widths, with_natural_heights}
 use Rattle.layout_defs.specs.Scrolling.{StillStandsFlat, slots_in, moved_room, MovedAsTheirRoom, ReachesAnywhere, but_scroll, but_scroll_wide, but_scroll_widened, but_scroll_tall, SizesAskNoScroll}
 use Rattle.layout_defs.proofs.OwnHeights.{roots-map, in_order-map, taking_part-map, dealt-map}

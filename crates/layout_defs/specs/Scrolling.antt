@@ -1,7 +1,7 @@
 -- Laws of scrolling.
 use Rattle.std.specs.Prelude.{◌≡◌, ℕ, false, List, pos, ◌-ℤ◌}
 use Rattle.gui_base.specs.Forest.{Forest, map_forest}
-use Rattle.layout_defs.specs.Boxes.{Axis, Box}
+use Rattle.layout_defs.specs.Boxes.{Box}
 use Rattle.layout_defs.specs.Solving.{Tall, tall_box, Slot, Room, Span, Wide, Widened, room_of, own_slot, dealt}
 use Rattle.layout_defs.specs.Solving.{taking_part, flow_slots, flat_slots, kid_reach, offset_of, moved, kid_slots}
 use Rattle.layout_defs.specs.Solving.{with_natural_widths, with_widths, with_natural_heights}

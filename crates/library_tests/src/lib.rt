@@ -4,10 +4,9 @@
 
 #[cfg(test)]
 mod color;
+#[cfg(test)]
 mod covers;
 #[cfg(test)]
 mod edge;
 #[cfg(test)]
 mod machine;
-
-pub use covers::paint_stacked;

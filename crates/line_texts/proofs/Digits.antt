@@ -3,7 +3,7 @@ use Rattle.std.proofs.Common.{◌≡◌, refl, ℕ, false, List, [], ◌∷◌, 
 use Rattle.std.specs.Prelude.{nat_lt, Ok, bytes_eq, codes}
 use Rattle.std.proofs.lemmas.Bool.Decides.{nat_tests}
 use Rattle.hex.specs.Hex.{decode_of, decode_pairs}
-use Rattle.scene_defs.specs.Rows.{bytes_in_hex, most_digits}
+use Rattle.scene_defs.specs.RowBytes.{bytes_in_hex, most_digits}
 use Rattle.run_defs.specs.Numbers.{bytes_said}
 use Rattle.line_texts.specs.Laws.{DigitsSay}
 

@@ -46,7 +46,8 @@ pub record DcsValue (Frames Link : Type 0) : Type 0 where
   pub flying : ForSome state.coming (Fits state.turned.width state.turned.height state.limit state.block)
 
 -- where a panel tells what it shows, it tells each pixel
-pub each_of : (t : Turned) (chip : Option Chip) → IfSome (option_map (λ c. shown t c.memory) chip) (λ colors. length colors ≡ t.width * t.height)
+pub each_of : (t : Turned) (chip : Option Chip) →
+    IfSome (option_map (λ c. shown t c.memory) chip) (λ colors. length colors ≡ t.width * t.height)
 each_of t None = tt
 each_of t (Some c) = length-map-range_with_len _ 0 (t.width * t.height)
 

@@ -17,3 +17,5 @@ a_made_script ms words n k limits e f g = rw (e, f, g) refl
 
 pub settings : (ms : List ℕ) (words : List (List ℕ)) (n : ℕ) (limits : Bounds) → natural 0 60000 ms ≡ Ok n → limits_of words ≡ Some limits → limits.make ≡ None → settings_of (ms ∷ words) ≡ Some (record { ms = n; limits = limits })
 settings ms words n limits e f g = rw (e, f, g) refl
+
+pub ruleset asked = (no_number, no_limits, a_made_script, settings)

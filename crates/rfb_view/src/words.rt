@@ -18,7 +18,7 @@ pub struct Settings {
 
 /// What the words ask for, if they ask for a session: first the milliseconds that pass at each request of the
 /// viewer, then the limits, with no made script.
-#[tactic(auto, using(crate::proofs::Asked::no_number, crate::proofs::Asked::no_limits, crate::proofs::Asked::a_made_script, crate::proofs::Asked::settings))]
+#[tactic(auto, using(crate::proofs::Asked::asked))]
 pub fn settings_of(alloc: Global, words: &[&str]) -> Result<Option<Settings>, NoMemory>
     ensures { IfOk result (λ settings. option_map numbers_of settings ≡ settings_of (map (λ w. w.now) words.now)) }
 {

@@ -2,7 +2,7 @@
 
 use gui_base::Limits;
 use gui_change::Canvas;
-use gui_rows::RowTable;
+use gui_store::RowTable;
 use scene_script::{Maker, limits_of};
 use std::test::Fail;
 

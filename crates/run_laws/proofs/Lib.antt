@@ -1,7 +1,10 @@
 pub mod Animated
+pub mod Commands
 pub mod Counting
 pub mod Fitting
+pub mod Flying
 pub mod Keeps
 pub mod Members
 pub mod Moving
+pub mod Runs
 pub mod Scenes

@@ -1,4 +1,9 @@
+pub mod Accounts
 pub mod Animated
+pub mod Debts
+pub mod Examples
 pub mod Keeping
 pub mod Members
+pub mod Owing
 pub mod Pools
+pub mod Pumping

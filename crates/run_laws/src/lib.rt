@@ -1,11 +1,17 @@
-//! Laws of a machine: what goes on holding as its rules are played. There is no code here.
+//! Laws of a run: what goes on holding as the rules of the machine are played, and what its lines owe, which
+//! are the areas of its commands, the windows between its done frames, and what may be sent for them. There is
+//! no code here: each function does nothing, and its contract is a law.
 #![tactic(auto)]
 
+ghost use Rattle.run_laws.specs.Accounts.{RunOpens, LineKeepsAccount, AccountBounds};
 ghost use Rattle.run_laws.specs.Animated.{FirstAnimatedAreThere, StepsKeepAnimated};
+ghost use Rattle.run_laws.specs.Debts.{CommandWithinPanel, RefusedOwesNothing, OwedHoldsAllThatChanges};
+ghost use Rattle.run_laws.specs.Examples.{WindowsAreWorked, PumpsAreWorked};
 ghost use Rattle.run_laws.specs.Keeping.{ActKeepsHandlers, DeleteRemovesAllBelow, StepsKeepScenesValid};
 ghost use Rattle.run_laws.specs.Keeping.{AnimatingRunsOn};
 ghost use Rattle.run_laws.specs.Members.{FirstAreJoined, StepsKeepMembers, OneMoreFits};
 ghost use Rattle.run_laws.specs.Pools.{FirstFitsPools, StepsKeepPools};
+ghost use Rattle.run_laws.specs.Pumping.{LineKeepsFlight, FlightsBound};
 
 /// An object that is still there after an action of its own has its handlers, so that the next of them runs.
 #[tactic(auto, using(crate::proofs::Keeps::act_keeps))]
@@ -48,4 +54,34 @@ pub fn animated_are_there()
 pub fn machines_fit_their_pools()
     ensures first { FirstFitsPools }
     ensures step { StepsKeepPools }
+{}
+
+/// Where the panel consists of whole blocks, what a command owes lies in it. A refused one owes nothing. A
+/// pixel that a command does not owe keeps its paint.
+pub fn commands_owe_what_they_change()
+    ensures within { CommandWithinPanel }
+    ensures refused { RefusedOwesNothing }
+    ensures frame { OwedHoldsAllThatChanges }
+{}
+
+/// What was sent and what is pending stays within what the lines owe: before the first line, and over each
+/// line that lists what it owes, or sends what is pending. So no more was sent than may be, also where
+/// further lines were not reached.
+pub fn runs_are_accounted()
+    ensures opens { RunOpens }
+    ensures line { LineKeepsAccount }
+    ensures bound { AccountBounds }
+{}
+
+/// The windows of a run that were worked out by hand.
+pub fn worked_examples()
+    ensures windows { WindowsAreWorked }
+    ensures pumps { PumpsAreWorked }
+{}
+
+/// The pumps of a run answer as what its lines owe allows, over each line, and so also where further lines
+/// were not reached.
+pub fn pumps_are_accounted()
+    ensures line { LineKeepsFlight }
+    ensures bound { FlightsBound }
 {}

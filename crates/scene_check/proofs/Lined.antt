@@ -1,5 +1,5 @@
 -- What the lines ask for that are added to what is written of a scene.
-use Rattle.std.proofs.Common.{◌≡◌, ◌∙◌, refl, sym, ap, ap₂, subst, ℕ, ◌≤◌, true, false, Bool, List, [], ◌∷◌, ◌++◌, append_assoc, map, length, arith}
+use Rattle.std.proofs.Common.{◌≡◌, ◌∙◌, refl, sym, ap, ap₂, ℕ, ◌≤◌, true, false, Bool, List, [], ◌∷◌, ◌++◌, append_assoc, map, length, arith}
 use Rattle.std.specs.Prelude.{Some, None, Err, nat_lt, if◌then◌else◌}
 use Rattle.std.specs.declared.option.Option.{Option}
 use Rattle.std.proofs.lemmas.Bool.Decides.{nat_tests}
@@ -8,7 +8,6 @@ use Rattle.std.proofs.lemmas.List.{map-append, append-nil}
 use Rattle.run_defs.specs.Commands.{command_says}
 use Rattle.run_defs.specs.Language.{Word}
 use Rattle.run_defs.specs.Script.{Said, parse, line_says, max_line}
-use Rattle.run_defs.specs.declared.LineFault.{LineFault}
 use Rattle.run_defs.specs.declared.LineFault.TheVariants.{Long}
 use Rattle.scene_defs.specs.declared.Change.{Change}
 use Rattle.line_texts.specs.LineTexts.{line_text, ended_lines, is_name, are_words}

@@ -1,6 +1,6 @@
 -- What a node says of itself sets what is its own.
-use Rattle.std.proofs.Common.{◌≡◌, ◌∙◌, refl, sym, ap, subst, ℕ, ℤ, true, false, not, Bool, ◌&&◌, ◌||◌, List, [], ◌∷◌, ◌++◌, eqb, arith}
-use Rattle.std.specs.Prelude.{Some, None, Ok, codes, pos, bytes_eq, ◌==◌, if◌then◌else◌}
+use Rattle.std.proofs.Common.{◌≡◌, ◌∙◌, refl, sym, ap, subst, ℕ, ℤ, true, false, not, Bool, ◌&&◌, ◌||◌, List, [], ◌∷◌, ◌++◌, arith}
+use Rattle.std.specs.Prelude.{Some, None, Ok, codes, pos, ◌==◌, if◌then◌else◌}
 use Rattle.std.specs.List.{list_all}
 use Rattle.std.specs.Ordering.{int_eq}
 use Rattle.std.specs.declared.option.Option.{Option}
@@ -13,14 +13,14 @@ use Rattle.gui_base.specs.declared.props.Prop.TheVariants as prop
 use Rattle.gui_base.specs.declared.words.Kind.{Kind}
 use Rattle.run_defs.specs.Commands.{command_says, handle, kind, property, value_for}
 use Rattle.run_defs.specs.Fields.{or_syntax}
-use Rattle.run_defs.specs.Language.{Word, Reading}
+use Rattle.run_defs.specs.Language.{Word}
 use Rattle.scene_defs.specs.declared.Change.{Change}
 use Rattle.scene_defs.specs.declared.Change.TheVariants as change
 use Rattle.scene_defs.specs.Row.{has_text as kind_has_text}
 use Rattle.serde_json.specs.Data.{Data, Items, no_items, item, Members, no_members, member}
 use Rattle.serde_json.specs.Find.{get, as_str, as_array, as_object}
 use Rattle.line_texts.specs.Commands.{Says, asks}
-use Rattle.line_texts.specs.LineTexts.{is_plain, is_text, is_name, are_words}
+use Rattle.line_texts.specs.LineTexts.{is_plain, is_name, are_words}
 use Rattle.line_texts.specs.Quoting.{quoted, is_in_text}
 use Rattle.line_texts.proofs.Plain.{prints_words}
 use Rattle.scene_json.specs.Scenes.{two, put_two, put_pair, size_line, pos_line, put_flag, flag_lines, has_text, put_text, text_line, put_value, put_prop, prop_lines, local_lines, own_lines}
@@ -32,7 +32,7 @@ use Rattle.scene_check.specs.Trees.{is_own}
 use Rattle.scene_check.proofs.Fielded.{lines_are_fielded}
 use Rattle.scene_check.proofs.Holding.{both_hold, Or}
 use Rattle.scene_check.proofs.Integers.{short_array, short_object, some_below}
-use Rattle.scene_check.proofs.Lined.{Lined, lined_none, lined_more, Put, PutOr, put_or}
+use Rattle.scene_check.proofs.Lined.{Lined, lined_none, lined_more, PutOr, put_or}
 use Rattle.scene_check.proofs.Own.{own_words_say}
 use Rattle.scene_check.proofs.PlainWords.{PlainOr, plain_prop, plain_selector, plain_number, plain_string, plain_extent, plain_value}
 

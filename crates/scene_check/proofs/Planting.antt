@@ -1,38 +1,38 @@
 -- The lines of nodes ask for the changes that make their trees.
-use Rattle.std.proofs.Common.{◌≡◌, ◌∙◌, refl, sym, ap, ap₂, subst, ℕ, zero, suc, ℤ, ◌+◌, ◌≤◌, ◌<◌, ◌^◌, true, false, not, Bool, ◌&&◌, List, [], ◌∷◌, ◌++◌, append_assoc, map, arith}
+use Rattle.std.proofs.Common.{◌≡◌, ◌∙◌, refl, sym, ap, ap₂, subst, ℕ, zero, suc, ℤ, ◌+◌, ◌≤◌, ◌<◌, ◌^◌, true, false, not, ◌&&◌, List, [], ◌∷◌, ◌++◌, append_assoc, map, arith}
 use Rattle.std.specs.Prelude.{Some, None, codes, pos, unsigned_abs, max}
 use Rattle.std.specs.Fmt.{signed_decimal}
 use Rattle.std.specs.List.{list_all, list_any}
 use Rattle.std.specs.Ordering.{int_eq}
 use Rattle.std.specs.declared.option.Option.{Option}
 use Rattle.std.proofs.lemmas.List.{map-append, append-nil}
-use Rattle.gui_base.specs.Forest.{Forest, Empty, Tree, and_then, all_by, height, map_forest}
+use Rattle.gui_base.specs.Forest.{Forest, Empty, Tree, and_then, all_by, height}
 use Rattle.gui_base.specs.declared.Handle.{Handle}
 use Rattle.gui_base.specs.declared.words.Kind.{Kind}
-use Rattle.run_defs.specs.Commands.{command_says, handle, kind}
+use Rattle.run_defs.specs.Commands.{handle, kind}
 use Rattle.run_defs.specs.Fields.{value_or}
 use Rattle.run_defs.specs.Language.{Word, Reading}
 use Rattle.scene_defs.specs.declared.Change.{Change}
 use Rattle.scene_defs.specs.declared.Change.TheVariants as change
 use Rattle.serde_json.specs.Data.{Data, Items, no_items, item}
 use Rattle.serde_json.specs.Find.{get, as_array}
-use Rattle.line_texts.specs.Commands.{Says, asks}
-use Rattle.line_texts.specs.LineTexts.{is_plain, are_words}
+use Rattle.line_texts.specs.Commands.{Says}
+use Rattle.line_texts.specs.LineTexts.{is_plain}
 use Rattle.scene_json.specs.Scenes.{own_lines, node_itself, head, in_nodes, node_of, node_lines}
 use Rattle.scene_json.specs.Writing.{Writing, ◌>>=◌, put_line, put_id, each, in_list, if_there}
 use Rattle.scene_json.proofs.Asking.{new_fits}
 use Rattle.scene_check.specs.Integers.{are_short, items_short}
-use Rattle.scene_check.specs.Made.{is_among, is_other, ids_after, are_other}
+use Rattle.scene_check.specs.Made.{is_among, are_other}
 use Rattle.scene_check.specs.Nodes.{node_named, trees_of_items, trees_in, children_in, tree_of, tree_at}
 use Rattle.scene_check.specs.Outlines.{Node}
-use Rattle.scene_check.specs.Trees.{Wanted, is_own, is_wanted, making, node_wanted, outline_wanted}
+use Rattle.scene_check.specs.Trees.{Wanted, is_own, is_wanted, making, outline_wanted}
 use Rattle.scene_check.proofs.Fielded.{lines_are_fielded}
 use Rattle.scene_check.proofs.Holding.{both_hold, Or}
 use Rattle.scene_check.proofs.Ids.{ids_say}
 use Rattle.scene_check.proofs.Integers.{short_array, some_below}
-use Rattle.scene_check.proofs.Lined.{Lined, lined_none, lined_more, lined_after, Put, PutOr, put_or}
+use Rattle.scene_check.proofs.Lined.{Lined, lined_none, lined_more, lined_after, PutOr, put_or}
 use Rattle.scene_check.proofs.Noting.{all_ids, ids_append, other_append, all_quiet, noted_among, Noted, NotedOr, noted_or}
-use Rattle.scene_check.proofs.Owning.{Means, Own, OwnOr, own_is_set}
+use Rattle.scene_check.proofs.Owning.{Means, OwnOr, own_is_set}
 use Rattle.scene_check.proofs.PlainWords.{HeadOr, plain_head, plain_id}
 use lib.Signed.{mag}
 

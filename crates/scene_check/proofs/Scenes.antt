@@ -1,6 +1,6 @@
 -- The lines of a scene make its trees on a store as it is opened.
-use Rattle.std.proofs.Common.{◌≡◌, ◌∙◌, refl, sym, ap, ap₂, subst, ℕ, ℤ, ◌<◌, ◌^◌, true, false, Bool, List, [], ◌∷◌, ◌++◌, map, arith}
-use Rattle.std.specs.Prelude.{Some, None, Ok, Err, codes, pos, if◌then◌else◌}
+use Rattle.std.proofs.Common.{◌≡◌, ◌∙◌, refl, sym, ap, ap₂, ℕ, true, false, Bool, List, [], ◌∷◌, map, arith}
+use Rattle.std.specs.Prelude.{Some, None, Ok, codes, pos, if◌then◌else◌}
 use Rattle.std.specs.List.{list_all}
 use Rattle.std.specs.Fmt.{digits}
 use Rattle.std.specs.Str.{is_utf8}
@@ -8,7 +8,6 @@ use Rattle.std.specs.declared.option.Option.{Option}
 use Rattle.std.specs.declared.result.Result.{Result}
 use Rattle.gui_base.specs.Limits.{Bounds}
 use Rattle.gui_base.specs.Refusing.{result_of}
-use Rattle.gui_base.specs.declared.Handle.{Handle}
 use Rattle.gui_base.specs.declared.refusal.Refusal.{Refusal}
 use Rattle.scene_defs.specs.declared.Change.{Change}
 use Rattle.scene_defs.specs.Deeds.{is_in_range}
@@ -17,20 +16,19 @@ use Rattle.run_defs.specs.Script.{Said, parse, says, Whole}
 use Rattle.serde_json.specs.Data.{Data}
 use Rattle.serde_json.specs.Find.{get, as_array, as_object}
 use Rattle.serde_json.specs.Read.{read}
-use Rattle.line_texts.specs.LineTexts.{ended_lines}
 use Rattle.line_texts.specs.Commands.{asks}
-use Rattle.scene_json.specs.Scenes.{node_lines, first_nodes, has_one, scene_lines, scene, scene_in, scene_text, text_or}
+use Rattle.scene_json.specs.Scenes.{node_lines, first_nodes, has_one, scene, scene_in, scene_text, text_or}
 use Rattle.scene_json.specs.Writing.{Writing, ◌>>=◌, nothing_written}
 use Rattle.scene_json.proofs.Asking.{ranged}
 use Rattle.scene_json.proofs.Scripts.{says_asked}
 use Rattle.scene_check.specs.Checking.{refusal_of_all, changed_by_all}
 use Rattle.scene_check.specs.Fitting.{only_full}
 use Rattle.scene_check.specs.Integers.{are_short}
-use Rattle.scene_check.specs.Made.{screen, on_screen, MayStand}
+use Rattle.scene_check.specs.Made.{screen, on_screen}
 use Rattle.scene_check.specs.Nodes.{tree_at, children_in, trees_of_scene, trees_of_value, trees_of}
 use Rattle.scene_check.specs.Scenes.{AreOfScene, MakeTrees, ScenesAreMade, refusal_in, MakesScenes}
-use Rattle.scene_check.specs.Trees.{Wanted, making, outline_wanted}
-use Rattle.scene_check.proofs.Holding.{both_hold, Or}
+use Rattle.scene_check.specs.Trees.{making}
+use Rattle.scene_check.proofs.Holding.{Or}
 use Rattle.scene_check.proofs.Ids.{ids_say}
 use Rattle.scene_check.proofs.Integers.{integers_are_short, short_array, some_below}
 use Rattle.scene_check.proofs.Made.{trees_are_made}

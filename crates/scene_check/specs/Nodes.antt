@@ -5,7 +5,6 @@ use Rattle.serde_json.specs.Data.{Data, Items, no_items, item}
 use Rattle.serde_json.specs.Find.{get, as_array}
 use Rattle.serde_json.specs.Read.{read}
 use Rattle.gui_base.specs.Forest.{Forest, Empty, Tree, and_then}
-use Rattle.gui_base.specs.declared.words.Kind.{Kind}
 use Rattle.run_defs.specs.Commands.{kind}
 use Rattle.run_defs.specs.Fields.{value_or}
 use Rattle.run_defs.specs.Language.{Word}

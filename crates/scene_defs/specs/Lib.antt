@@ -11,7 +11,7 @@ pub mod Picture
 pub mod Place
 pub mod Quoted
 pub mod Row
-pub mod Rows
+pub mod RowBytes
 pub mod Scene
 pub mod Shown
 pub mod Styling

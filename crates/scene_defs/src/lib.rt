@@ -5,17 +5,16 @@
 ghost use Rattle.std.specs.Prelude.{◌≡◌};
 
 pub mod laws;
-mod rows;
+mod row_bytes;
 mod texts;
 
 use gui_base::{
     Align, Bits, Flag, Flow, Format, Handle, Kind, Length, Placing, Prop, Selector, State,
 };
 use gui_pool::TextId;
-pub use rows::{MOST_BYTES, Rows};
+pub use row_bytes::{MOST_BYTES, RowBytes};
 use text_defs::GlyphBox;
 pub use texts::{MOST_TEXT, Text};
-use widget_defs::kinds::facts;
 
 /// A change of the scene. No change holds a kind that only roots have.
 #[derive(Drop)]
@@ -83,13 +82,13 @@ pub enum Change<'a> {
     /// the next one, in pixels.
     Font(u8, u8, u8),
     /// Gives a font the glyph of a character: its box, and its bits row by row, each row in whole bytes.
-    Glyph(u8, char, GlyphBox, Rows<'a>),
+    Glyph(u8, char, GlyphBox, RowBytes<'a>),
     /// Finishes a font, which takes no more glyphs then.
     EndFont(u8),
     /// Begins an image with this number: its format, and its width and height in pixels.
     Image(u16, Format, u16, u16),
     /// Gives an image its next row: which it is, from 0, and its bytes. The last row finishes the image.
-    ImageRow(u16, u16, Rows<'a>),
+    ImageRow(u16, u16, RowBytes<'a>),
 }
 
 /// What objects of some kinds have and others have not: their kind's row says which.
@@ -101,21 +100,6 @@ pub enum Feature {
     Value,
     /// A picture.
     Picture,
-}
-
-impl Feature {
-    ghost use Rattle.scene_defs.specs.Row.{has_feature};
-
-    /// Whether objects of a kind have it.
-    pub fn is_of(self, kind: Kind) -> bool
-        ensures { result ≡ has_feature self kind }
-    {
-        match self {
-            Feature::Text => facts(kind).text,
-            Feature::Value => facts(kind).value,
-            Feature::Picture => facts(kind).picture,
-        }
-    }
 }
 
 /// What an object is and what is wanted of it. Only screens and layers are roots; all else is a plain object.

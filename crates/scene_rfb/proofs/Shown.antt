@@ -11,7 +11,7 @@ use Rattle.gui_refresh.specs.Stages.{Refreshing, stage}
 use Rattle.gui_refresh.specs.declared.Refreshed.{Refreshed}
 use Rattle.gui_refresh.specs.declared.Refreshed.TheVariants.{Done, Fault}
 use Rattle.rfb_view.specs.ViewPanel.{ViewState, view_state}
-use Rattle.run_debts.specs.Owing.{slice_limit}
+use Rattle.run_laws.specs.Owing.{slice_limit}
 use Rattle.run_defs.specs.Machine.{Machine}
 use Rattle.run_defs.specs.Step.{step}
 use Rattle.run_defs.specs.declared.Command.{Command}

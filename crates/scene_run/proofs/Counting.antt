@@ -1,5 +1,5 @@
 -- What is counted of a line of the made script.
-use Rattle.std.proofs.Common.{◌≡◌, ◌∙◌, ap, true, ◌+◌, List, [], ◌∷◌, ◌++◌, length, length-append, arith, refl, option_to_list, Option, None, Some, Ok, Err}
+use Rattle.std.proofs.Common.{◌≡◌, ◌∙◌, ap, true, ◌+◌, List, [], ◌∷◌, ◌++◌, length, length-append, refl, option_to_list, Option, None, Some, Ok, Err}
 use Rattle.std.proofs.lemmas.List.Elements.{filter_map-append}
 use Rattle.run_defs.specs.declared.FrameEnd.TheVariants.{Done, Fault}
 use Rattle.run_defs.specs.declared.Line.TheVariants.{Blank, Frame, Make}

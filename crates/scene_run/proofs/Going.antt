@@ -19,10 +19,9 @@ use Rattle.gui_damage.specs.Pending.{Pending}
 use Rattle.gui_refresh.specs.Owing.{standing_of, flight_of}
 use Rattle.gui_refresh.specs.Stages.{Refreshing, Stage, stage}
 use Rattle.gui_play.specs.Panels.{ShowsScene, AgreesWith, CanSend}
-use Rattle.owed_defs.specs.Flights.{opening_flight}
-use Rattle.run_debts.specs.Accounts.{LineCounts}
-use Rattle.run_debts.specs.Owing.{slice_limit}
-use Rattle.run_debts.specs.Pumping.{LineFlies, IsRunFlown}
+use Rattle.run_laws.specs.Accounts.{LineCounts}
+use Rattle.run_laws.specs.Owing.{slice_limit}
+use Rattle.run_laws.specs.Pumping.{LineFlies}
 use Rattle.scene_run.specs.Counting.{frames_in}
 use Rattle.scene_run.specs.Effects.{Output, Effects, LineBreaks, WriteFailed, Halted, PumpsAsAllowed, GrewBy}
 use Rattle.scene_run.specs.Running.{Running, stage_at, IsReady, Answered, GoesOn, Halts}

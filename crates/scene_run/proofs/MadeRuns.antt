@@ -1,6 +1,6 @@
 -- How a run of the made script begins, and how it ends.
 use Rattle.std.proofs.Common.{◌≡◌, ap, refl, ℕ, zero, suc, Bool, true, false, List, [], ◌∷◌, length, replicate, arith, rules, inl, inr, if◌then◌else◌}
-use Rattle.std.specs.Prelude.{Ok, Err, ◌<◌}
+use Rattle.std.specs.Prelude.{Ok, Err}
 use Rattle.std.specs.List.{flat_map, list_all}
 use Rattle.gui_core.specs.Machines.{machine_of, pending_in, refresher_in, stage_of}
 use Rattle.gui_core.specs.declared.gui.Gui.{Gui}

@@ -1,6 +1,6 @@
 -- What a run sends against what its lines owe, and how its pumps answer.
-use Rattle.std.proofs.Common.{◌≡◌, ◌∙◌, refl, sym, ap, subst, false, ◌-◌, ◌≤◌, List, [], ◌∷◌, ◌++◌, length, append-nil, arith}
-use Rattle.std.specs.Prelude.{None, is_some}
+use Rattle.std.proofs.Common.{◌≡◌, ◌∙◌, refl, ap, subst, false, ◌-◌, ◌≤◌, List, [], ◌∷◌, ◌++◌, length, append-nil, arith}
+use Rattle.std.specs.Prelude.{is_some}
 use Rattle.std.proofs.lemmas.Int.{ints}
 use Rattle.std.proofs.lemmas.List.Sums.{sum_by-cons}
 use Rattle.gui_base.specs.Area.{size_of}
@@ -18,11 +18,11 @@ use Rattle.run_defs.proofs.Runs.{after_all-limits}
 use Rattle.owed_defs.specs.Flights.{Flight, opening_flight}
 use Rattle.owed_defs.specs.Standings.{Standing}
 use Rattle.owed_defs.proofs.Flights.{flights_go_on}
-use Rattle.run_debts.specs.Accounts.{IsRunAccounted, LineCounts}
-use Rattle.run_debts.specs.Owing.{panel_size}
-use Rattle.run_debts.specs.Pumping.{IsRunFlown, LineFlies}
-use Rattle.run_debts.proofs.Flying.{line_keeps_flight, flights_bound}
-use Rattle.run_debts.proofs.Runs.{run_opens, line_keeps_account, account_bounds}
+use Rattle.run_laws.specs.Accounts.{IsRunAccounted, LineCounts}
+use Rattle.run_laws.specs.Owing.{panel_size}
+use Rattle.run_laws.specs.Pumping.{IsRunFlown, LineFlies}
+use Rattle.run_laws.proofs.Flying.{line_keeps_flight, flights_bound}
+use Rattle.run_laws.proofs.Runs.{run_opens, line_keeps_account, account_bounds}
 use Rattle.scene_run.specs.Effects.{SinceOpening, SendsAsOwed, PumpsAsAllowed, GrewBy}
 use Rattle.scene_run.specs.Running.{IsStill, opening}
 

@@ -1,5 +1,5 @@
 -- What a pump line does to the panel, and how a line leaves the buffers.
-use Rattle.std.proofs.Common.{◌≡◌, sym, subst, ℕ, ◌+◌, ◌≤◌, List, [], ◌∷◌, arith, Option}
+use Rattle.std.proofs.Common.{◌≡◌, sym, subst, ℕ, ◌+◌, ◌≤◌, [], ◌∷◌, arith, Option}
 use Rattle.std.specs.Prelude.{is_some}
 use Rattle.std.proofs.KnownBytes.{Appends-nil}
 use Rattle.gui_damage.specs.Pending.{Pending}

@@ -19,9 +19,9 @@ use Rattle.gui_refresh.specs.Owing.{standing_of, flight_of}
 use Rattle.gui_refresh.specs.Stages.{Stage}
 use Rattle.gui_play.specs.Panels.{ShowsScene}
 use Rattle.owed_defs.specs.Flights.{Flight, grown}
-use Rattle.run_debts.specs.Accounts.{LineCounts}
-use Rattle.run_debts.specs.Owing.{may_send}
-use Rattle.run_debts.specs.Pumping.{LineFlies, PumpsAsOwed}
+use Rattle.run_laws.specs.Accounts.{LineCounts}
+use Rattle.run_laws.specs.Owing.{may_send}
+use Rattle.run_laws.specs.Pumping.{LineFlies, PumpsAsOwed}
 
 -- what a run writes to
 pub record Output : Type 0 where

@@ -20,9 +20,9 @@ ghost use Rattle.gui_core.specs.Machines.{machine_of, pending_in, refresher_in, 
 ghost use Rattle.gui_play.specs.Panels.{ShowsScene, AgreesWith, CanSend, GoesOnAgreeing, Pumps, Refreshes};
 ghost use Rattle.owed_defs.specs.Happenings.{debt_of};
 ghost use Rattle.owed_defs.specs.Progress.{Changing};
-ghost use Rattle.run_debts.specs.Accounts.{FrameCounts, LineCounts};
-ghost use Rattle.run_debts.specs.Owing.{command_owes};
-ghost use Rattle.run_debts.specs.Pumping.{LineFlies};
+ghost use Rattle.run_laws.specs.Accounts.{FrameCounts, LineCounts};
+ghost use Rattle.run_laws.specs.Owing.{command_owes};
+ghost use Rattle.run_laws.specs.Pumping.{LineFlies};
 ghost use Rattle.scene_run.specs.Counting.{is_no_pump};
 ghost use Rattle.scene_run.specs.Effects.{output, PanelEffects, Effects, FrameFlies};
 ghost use Rattle.scene_run.specs.Effects.{LineBreaks, FrameBroke};

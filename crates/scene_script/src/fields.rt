@@ -26,7 +26,7 @@ use gui_base::{
     Var, named,
 };
 use run_defs::{ACTIONS, ActionName, Line, LineFault};
-use scene_defs::{Rows, Text};
+use scene_defs::{RowBytes, Text};
 use std::marker::Model;
 
 /// The words of a line to come, and the worst fault of the fields before.
@@ -156,7 +156,7 @@ impl<'a> Fields<'a> {
 
     /// Bytes.
     #[tactic(auto, unfolding(run_defs::specs::Fields::value, run_defs::specs::Fields::past))]
-    pub(crate) fn bytes(&mut self) -> Rows<'a>
+    pub(crate) fn bytes(&mut self) -> RowBytes<'a>
         ensures value { result ≡ value bytes self.old }
         ensures state { self.new ≡ past bytes self.old }
     {
@@ -165,7 +165,7 @@ impl<'a> Fields<'a> {
             Ok(bytes) => bytes,
             Err(fault) => {
                 self.fail(fault);
-                Rows::plain(b"")
+                RowBytes::plain(b"")
             }
         }
     }

@@ -9,7 +9,7 @@ ghost use Rattle.scene_script.specs.Numbers.{capped, beyond};
 use gui_base::intervals::{CODE, Count, Interval};
 use hex::FromHex;
 use run_defs::LineFault;
-use scene_defs::Rows;
+use scene_defs::RowBytes;
 
 /// Beyond the ends of every interval: a number that is farther from 0 is read as this one.
 const BEYOND: i64 = 4_294_967_296;
@@ -171,14 +171,14 @@ pub(crate) fn code(word: &[u8]) -> Result<char, LineFault>
 
 /// Bytes: two hexadecimal digits of either case for each, or a dash for none.
 #[tactic(auto, unfolding(run_defs::specs::Numbers::bytes_said))]
-pub(crate) fn bytes(word: &[u8]) -> Result<Rows, LineFault>
+pub(crate) fn bytes(word: &[u8]) -> Result<RowBytes, LineFault>
     ensures { result ≡ bytes_said word.now }
 {
     if word == b"-".as_slice() {
-        return Ok(Rows::plain(b""));
+        return Ok(RowBytes::plain(b""));
     }
     if word.is_empty() {
         return Err(LineFault::Syntax);
     }
-    Rows::hex(word).ok_or(LineFault::Syntax)
+    RowBytes::hex(word).ok_or(LineFault::Syntax)
 }

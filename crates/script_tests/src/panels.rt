@@ -1,86 +1,13 @@
 //! The areas in which a frame comes to a panel, and what a panel shows that was never sent anything.
-ghost use Rattle.std.specs.Prelude.{◌≡◌, ◌≤◌};
 
-use arrayvec::ArrayVec;
-use gui_base::{Block, Rgb565};
-use gui_color::DrawBuf;
-use gui_edge::{Failed, MemSink, OpenFault, Panel, Polled, SimPanel};
+use gui_base::Rgb565;
 use scene_run::Status;
 use std::alloc::Global;
 use std::process::Abort;
 use std::test::Fail;
+use test_panels::ListingPanel;
 use test_runs::Fault::{self, Start};
 use test_runs::{Outside, WHITE_FRAME, WORDS, run_over};
-
-/// A panel in memory that lists the corners of the areas of the buffers that it is asked to start, and knows
-/// the sizes that it was opened with.
-#[derive(Drop)]
-struct ListingPanel {
-    corners: ArrayVec<[i32; 4], 8>,
-    width: u16,
-    height: u16,
-    panel: SimPanel<MemSink>,
-    ghost wide: { width ≤ panel.width },
-    ghost high: { height ≤ panel.height },
-}
-
-impl ListingPanel {
-    fn new(panel: SimPanel<MemSink>) -> ListingPanel
-        ensures { result.panel ≡ panel }
-    {
-        ListingPanel {
-            corners: ArrayVec::new(),
-            width: 0,
-            height: 0,
-            panel,
-        }
-    }
-}
-
-impl Panel for ListingPanel {
-    ghost use Rattle.std.specs.Prelude.{Some};
-    ghost use Rattle.gui_base.specs.Corners.{rect_of};
-
-    ghost state = { λ p. ⟦<SimPanel<MemSink> as Panel>⟧.state p.panel };
-
-    fn open(
-        &mut self,
-        alloc: Global,
-        width: u16,
-        height: u16,
-        limit: u32,
-        block: Block,
-    ) -> Result<(), OpenFault> {
-        self.width = 0;
-        self.height = 0;
-        self.panel.open(alloc, width, height, limit, block)?;
-        self.width = width;
-        self.height = height;
-        Ok(())
-    }
-
-    fn start(&mut self, buf: DrawBuf) -> Result<(), (Failed, DrawBuf)> {
-        let area = buf.area();
-        let _ = self.corners.try_push([area.x1, area.y1, area.x2, area.y2]);
-        self.panel.start(buf)
-    }
-
-    fn poll(&mut self) -> Polled {
-        self.panel.poll()
-    }
-
-    fn present(&mut self) -> Result<(), Failed> {
-        self.panel.present()
-    }
-
-    ghost each = { λ p. p.panel.each };
-
-    ghost flying = { λ p buf is. let f = p.panel.flying buf is in record {
-      inside = f.inside;
-      small = f.small;
-      blocks = f.blocks;
-    } };
-}
 
 /// Whether a script of which a frame is done starts these areas, has this log, and presents one white frame.
 fn starts(
@@ -111,7 +38,7 @@ fn starts(
         }
     );
     assert_eq!(rt; outside.log.bytes(), log.as_bytes());
-    assert_eq!(rt; panel.corners.as_slice(), corners);
+    assert_eq!(rt; panel.starts.as_slice(), corners);
     assert_eq!(rt; panel.panel.into_frames().bytes(), WHITE_FRAME);
     Ok(())
 }
@@ -180,7 +107,7 @@ fn a_pixel_that_changes_is_sent_with_its_block(rt: HostRuntime) -> Result<(), Fa
         &mut panel,
     );
     assert_eq!(rt; status, Status::Done);
-    assert_eq!(rt; panel.corners.as_slice(), &[[0, 0, 7, 3], [4, 0, 7, 1]][..]);
+    assert_eq!(rt; panel.starts.as_slice(), &[[0, 0, 7, 3], [4, 0, 7, 1]][..]);
     assert_eq!(rt; panel.panel.sent(), 40);
     Ok(())
 }

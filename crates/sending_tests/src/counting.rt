@@ -1,76 +1,11 @@
-//! A panel that counts what each frame is sent.
-ghost use Rattle.std.specs.Prelude.{◌≡◌, IfOk};
+//! Runs over a panel that counts what each frame is sent.
 
 use arrayvec::ArrayVec;
-use gui_base::Block;
-use gui_color::DrawBuf;
-use gui_edge::{Failed, MemSink, MemSource, OpenFault, Panel, Polled, SimPanel, SimPlan};
+use gui_edge::{MemSink, MemSource, SimPanel, SimPlan};
 use scene_run::{Status, run_scene};
 use std::alloc::Global;
 use std::test::Fail;
-
-/// A panel in memory that lists at each presented frame how many pixels were sent since the one before.
-#[derive(Drop)]
-pub(crate) struct CountingPanel {
-    counts: ArrayVec<u64, 8>,
-    // What was sent since the last presented frame.
-    since: u64,
-    panel: SimPanel<MemSink>,
-}
-
-impl CountingPanel {
-    /// A panel over one that is not opened.
-    fn new(panel: SimPanel<MemSink>) -> CountingPanel
-        ensures { result.panel ≡ panel }
-    {
-        CountingPanel {
-            counts: ArrayVec::new(),
-            since: 0,
-            panel,
-        }
-    }
-}
-
-impl Panel for CountingPanel {
-    ghost use Rattle.std.specs.Prelude.{Some};
-    ghost use Rattle.gui_base.specs.Corners.{rect_of};
-
-    ghost state = { λ p. ⟦<SimPanel<MemSink> as Panel>⟧.state p.panel };
-
-    fn open(
-        &mut self,
-        alloc: Global,
-        width: u16,
-        height: u16,
-        limit: u32,
-        block: Block,
-    ) -> Result<(), OpenFault> {
-        self.panel.open(alloc, width, height, limit, block)
-    }
-
-    fn start(&mut self, buf: DrawBuf) -> Result<(), (Failed, DrawBuf)> {
-        self.since = self.since.saturating_add(buf.area().size());
-        self.panel.start(buf)
-    }
-
-    fn poll(&mut self) -> Polled {
-        self.panel.poll()
-    }
-
-    fn present(&mut self) -> Result<(), Failed> {
-        let _ = self.counts.try_push(self.since);
-        self.since = 0;
-        self.panel.present()
-    }
-
-    ghost each = { λ p. p.panel.each };
-
-    ghost flying = { λ p buf is. let f = p.panel.flying buf is in record {
-      inside = f.inside;
-      small = f.small;
-      blocks = f.blocks;
-    } };
-}
+use test_panels::ListingPanel;
 
 /// What a run came to.
 #[derive(Drop)]
@@ -99,7 +34,7 @@ pub(crate) fn run(
         moves: Vec::new(alloc),
     };
     let frames = MemSink::with_capacity(alloc, 4096, Vec::new(alloc))?;
-    let mut panel = CountingPanel::new(SimPanel::new(frames, plan));
+    let mut panel = ListingPanel::new(SimPanel::new(frames, plan));
     let status = run_scene(alloc, words, &mut source, &mut log, &mut panel);
     let sent = panel.panel.sent();
     Ok(Ran {

@@ -8,9 +8,9 @@ use std::test::Fail;
 
 /// The word of a pool, and a script that takes its last slot, asks for a frame, is refused one slot more, and asks for
 /// a frame again.
-type Row = (&'static str, &'static str);
+type Case = (&'static str, &'static str);
 
-const SCENES: &[Row] = &[
+const SCENES: &[Case] = &[
     ("objects=4", "new 10 3 obj\nframe\nnew 11 3 obj\nframe\n"),
     ("styles=1", "style 1\nframe\nstyle 2\nframe\n"),
     (
@@ -28,7 +28,7 @@ const SCENES: &[Row] = &[
     ),
 ];
 
-const FONTS_AND_IMAGES: &[Row] = &[
+const FONTS_AND_IMAGES: &[Case] = &[
     ("fonts=1", "font 1 8 6\nframe\nfont 2 8 6\nframe\n"),
     (
         "glyphs=1",
@@ -48,7 +48,7 @@ const FONTS_AND_IMAGES: &[Row] = &[
     ),
 ];
 
-const RULES: &[Row] = &[
+const RULES: &[Case] = &[
     (
         "handlers=1",
         "on 3 clicked say\nframe\non 3 clicked say\nframe\n",
@@ -61,10 +61,10 @@ const RULES: &[Row] = &[
     ),
 ];
 
-/// Runs each of these rows: the first frame sends the panel, the second nothing.
-fn try_rows(rt: &impl Abort, alloc: Global, rows: &[Row]) -> Result<(), Fail> {
-    for row in rows {
-        let (pool, script) = *row;
+/// Runs each of these cases: the first frame sends the panel, the second nothing.
+fn try_cases(rt: &impl Abort, alloc: Global, cases: &[Case]) -> Result<(), Fail> {
+    for case in cases {
+        let (pool, script) = *case;
         let ran = run(alloc, &["4", "2", "1", pool], script.as_bytes(), &[])?;
         assert!(rt; ran.status == Status::Noted, "{pool}");
         assert_eq!(rt; ran.counts.as_slice(), [8, 0].as_slice(), "{pool}");
@@ -74,15 +74,15 @@ fn try_rows(rt: &impl Abort, alloc: Global, rows: &[Row]) -> Result<(), Fail> {
 
 #[test]
 fn a_full_pool_of_the_scene_sends_nothing(rt: HostRuntime) -> Result<(), Fail> {
-    try_rows(&rt, rt.alloc(), SCENES)
+    try_cases(&rt, rt.alloc(), SCENES)
 }
 
 #[test]
 fn a_full_pool_of_fonts_or_images_sends_nothing(rt: HostRuntime) -> Result<(), Fail> {
-    try_rows(&rt, rt.alloc(), FONTS_AND_IMAGES)
+    try_cases(&rt, rt.alloc(), FONTS_AND_IMAGES)
 }
 
 #[test]
 fn a_full_pool_of_rules_sends_nothing(rt: HostRuntime) -> Result<(), Fail> {
-    try_rows(&rt, rt.alloc(), RULES)
+    try_cases(&rt, rt.alloc(), RULES)
 }

@@ -2,9 +2,6 @@
 //! of an object, and which of those wins.
 #![tactic(auto)]
 
-ghost use Rattle.std.specs.Prelude.{◌≡◌};
-
-pub mod cascade;
 pub mod kinds;
 pub mod laws;
 
@@ -27,20 +24,6 @@ pub struct Entry {
     pub states: u16,
     /// In the range of the property.
     pub value: i32,
-}
-
-impl Entry {
-    ghost use Rattle.style_defs.specs.Cascade.{selector_of};
-
-    /// What the property is set for.
-    pub fn selector(&self) -> Selector
-        ensures { result ≡ selector_of self.now }
-    {
-        Selector {
-            part: self.part,
-            states: self.states,
-        }
-    }
 }
 
 /// A shared style that is added to an object.

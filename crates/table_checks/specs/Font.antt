@@ -1,7 +1,7 @@
 -- The built-in font.
 use Rattle.std.specs.Prelude.{◌≡◌, ℕ, zero, suc, ◌+◌, true, false, if◌then◌else◌, List, [], ◌∷◌, ◌++◌}
 use Rattle.std.specs.Prelude.{map, length, codes, pos, negsuc, Some}
-use Rattle.scene_defs.specs.Rows.{bytes_in_hex}
+use Rattle.scene_defs.specs.RowBytes.{bytes_in_hex}
 use Rattle.run_defs.specs.Language.{words_of}
 use Rattle.text_defs.specs.BuiltIn.{built_in, column_of, dot_in, has_built_in}
 

@@ -3,7 +3,7 @@ use Rattle.std.proofs.Common.{◌≡◌, ◌∙◌, ◌⊎◌, refl, sym, ap, su
 use Rattle.std.proofs.lemmas.Bool.{cases_Bool, cases_lt, false≢true}
 use Rattle.std.proofs.lemmas.Bool.Decides.{nat_tests}
 use Rattle.text_defs.specs.Laws.{IsAfterSpace, IsWithoutSpace, LinesEndByRule, unbounded, bounded, WideLinesEndAtNewlines}
-use Rattle.text_defs.specs.Lines.{Setting, TextLine, run_width, segment_length, is_fit, fitting, ends_in_space, after_space, or_else, is_broken, lines_of, lines, widest, greatest, byte_count, after_newline}
+use Rattle.text_defs.specs.Lines.{LineSetting, TextLine, run_width, segment_length, is_fit, fitting, ends_in_space, after_space, or_else, is_broken, lines_of, lines, widest, greatest, byte_count, after_newline}
 use Rattle.text_defs.proofs.Greatest.{greatest_test, greatest_most, greatest-le}
 
 not_less : (a b : ℕ) → b ≤ a → ltb a b ≡ false
@@ -19,7 +19,7 @@ fails_above test n k h l = elim (cases_Bool (test k)) [
   | inr fails ↦ fails
 ]
 
-unbroken : (s : Setting) (cs : List ℕ) → segment_length cs ≤ 1 ⊎ (is_fit s cs (segment_length cs) ≡ true) → is_broken s cs ≡ false
+unbroken : (s : LineSetting) (cs : List ℕ) → segment_length cs ≤ 1 ⊎ (is_fit s cs (segment_length cs) ≡ true) → is_broken s cs ≡ false
 unbroken s cs (inl short) = not_less (fitting s cs) (segment_length cs) (omega arith)
 unbroken s cs (inr fits) = let m = greatest_most (is_fit s cs) (segment_length cs) (segment_length cs) (omega arith) fits in not_less (fitting s cs) (segment_length cs) (omega arith)
 
@@ -64,12 +64,12 @@ line_ends s cs = record {
 }
 
 -- the width of a run does not go by the width that it may have
-same_width : (s : Setting) (width : ℕ) (cs : List ℕ) → run_width (bounded s width) cs ≡ run_width (unbounded s) cs
+same_width : (s : LineSetting) (width : ℕ) (cs : List ℕ) → run_width (bounded s width) cs ≡ run_width (unbounded s) cs
 unfolding run_width
 same_width s width cs = refl
 
 -- a segment that goes into one line, and the lines after it
-whole_lines : (t : Setting) (n at : ℕ) (cs : List ℕ) → is_broken t cs ≡ false →
+whole_lines : (t : LineSetting) (n at : ℕ) (cs : List ℕ) → is_broken t cs ≡ false →
     lines_of t (suc n) at (Some cs) ≡ record { start = at; chars = take (segment_length cs) cs } ∷ lines_of t n (at + (byte_count (take (segment_length cs) cs) + 1)) (after_newline (drop (segment_length cs) cs))
 whole_lines t n at cs e =
     let before = or_else (after_space cs (fitting t cs)) (fitting t cs) in
@@ -79,7 +79,7 @@ whole_lines t n at cs e =
     ∷ lines_of t n (at + (byte_count (take (if b then before else all) cs) + (if b then 0 else 1)))
     (if b then Some (drop (if b then before else all) cs) else after_newline (drop (if b then before else all) cs))) e
 
-wide_lines : (s : Setting) (width n at : ℕ) (left : Option (List ℕ)) → widest (unbounded s) (lines_of (unbounded s) n at left) ≤ width → lines_of (bounded s width) n at left ≡ lines_of (unbounded s) n at left
+wide_lines : (s : LineSetting) (width n at : ℕ) (left : Option (List ℕ)) → widest (unbounded s) (lines_of (unbounded s) n at left) ≤ width → lines_of (bounded s width) n at left ≡ lines_of (unbounded s) n at left
 wide_lines s width n at None h = refl
 wide_lines s width zero at (Some cs) h = refl
 wide_lines s width (suc n) at (Some cs) h =

@@ -11,7 +11,7 @@ use Rattle.text_defs.specs.Face.{Face}
 use Rattle.text_defs.specs.Fonts.{Glyph, face}
 use Rattle.text_defs.specs.Images.{Image, with_image, with_row, finished, size_in, texel_of}
 use Rattle.text_defs.specs.Ink.{inked}
-use Rattle.text_defs.specs.Lines.{Setting, TextLine, lines, run_width, byte_count, measured}
+use Rattle.text_defs.specs.Lines.{LineSetting, TextLine, lines, run_width, byte_count, measured}
 
 -- Texts are given as the codes of their characters.
 
@@ -19,13 +19,13 @@ use Rattle.text_defs.specs.Lines.{Setting, TextLine, lines, run_width, byte_coun
 abbrev pub Row : Type 0
 Row = ℕ × ℕ × ℕ
 
-abbrev pub row_of : Setting → TextLine → Row
+abbrev pub row_of : LineSetting → TextLine → Row
 row_of s line = (line.start, byte_count line.chars, run_width s line.chars)
 
-abbrev pub set_in : Face → ℕ → Option ℕ → Setting
+abbrev pub set_in : Face → ℕ → Option ℕ → LineSetting
 set_in face letter most = record { face = face; letter = letter; most = most }
 
-abbrev plain : Option ℕ → Setting
+abbrev plain : Option ℕ → LineSetting
 plain most = set_in built_in 0 most
 
 -- the lines of a text in the built-in font, in so many pixels

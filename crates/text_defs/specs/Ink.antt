@@ -5,7 +5,7 @@ use Rattle.std.specs.Int.Signed.{le_z, lt_z}
 use Rattle.gui_base.specs.declared.words.TextAlign.{TextAlign}
 use Rattle.gui_base.specs.declared.words.TextAlign.TheVariants.{Left, Center, Right}
 use Rattle.text_defs.specs.Face.{Cell, Face}
-use Rattle.text_defs.specs.Lines.{Setting, TextLine, run_width, lines}
+use Rattle.text_defs.specs.Lines.{LineSetting, TextLine, run_width, lines}
 
 -- where a line of this width stands in the whole width, to the left of it where it is wider
 abbrev pub line_at : TextAlign → ℤ → ℤ → ℤ
@@ -30,7 +30,7 @@ run_inked face letter (c ∷ cs) x y =
     || run_inked face letter cs (x -ℤ pos ((face.cell c).advance + letter)) y
 
 -- the same of lines one below the other, with so many pixels from one to the next
-abbrev pub lines_inked : Setting → TextAlign → ℕ → ℕ → List TextLine → ℤ → ℤ → Bool
+abbrev pub lines_inked : LineSetting → TextAlign → ℕ → ℕ → List TextLine → ℤ → ℤ → Bool
 lines_inked s align pitch whole [] x y = false
 lines_inked s align pitch whole (line ∷ rest) x y =
     run_inked s.face s.letter line.chars (x -ℤ line_at align (pos whole) (pos (run_width s line.chars))) y
@@ -39,5 +39,5 @@ lines_inked s align pitch whole (line ∷ rest) x y =
 -- whether a point is inked, counted from the top left of a text that is set in so many pixels
 unfoldable pub inked : Face → ℕ → ℕ → TextAlign → List ℕ → ℕ → ℤ → ℤ → Bool
 inked face letter line align cs width x y =
-    let s : Setting = record { face = face; letter = letter; most = Some width } in
+    let s : LineSetting = record { face = face; letter = letter; most = Some width } in
     lines_inked s align (face.height + line) width (lines s cs) x y

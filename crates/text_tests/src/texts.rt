@@ -10,13 +10,13 @@ use std::test::Fail;
 type Wanted = (usize, usize, i32);
 
 /// A text, its width, and its lines.
-type Row = (&'static str, u16, &'static [Wanted]);
+type Case = (&'static str, u16, &'static [Wanted]);
 
 /// A font that is not built in: its `i` takes no room, its `m` 9 pixels, and all others 4.
 const UNEVEN: u8 = 7;
 
 /// In the built-in font.
-const EVEN_ROWS: [Row; 8] = [
+const EVEN_CASES: [Case; 8] = [
     ("ab cd", 24, &[(0, 3, 18), (3, 5, 12)]),
     ("abcdef", 24, &[(0, 4, 24), (4, 6, 12)]),
     ("é", 5, &[(0, 2, 6)]),
@@ -27,7 +27,7 @@ const EVEN_ROWS: [Row; 8] = [
     ("   a", 12, &[(0, 2, 12), (2, 4, 12)]),
 ];
 
-const UNEVEN_ROWS: [Row; 3] = [
+const UNEVEN_CASES: [Case; 3] = [
     ("iiiiii", 0, &[(0, 6, 0)]),
     ("mi mi", 13, &[(0, 3, 13), (3, 5, 9)]),
     ("mm", 8, &[(0, 1, 9), (1, 2, 9)]),
@@ -52,9 +52,9 @@ pub(crate) fn plain(font: u8) -> TextLook
     }
 }
 
-/// Whether the text of a row has its lines.
-fn has_lines(fonts: &Fonts, font: u8, row: &Row) -> bool {
-    let (text, width, wanted) = *row;
+/// Whether the text of a case has its lines.
+fn has_lines(fonts: &Fonts, font: u8, case: &Case) -> bool {
+    let (text, width, wanted) = *case;
     if text.len() > 1000 {
         return false;
     }
@@ -66,21 +66,21 @@ fn has_lines(fonts: &Fonts, font: u8, row: &Row) -> bool {
     same && wanted.next().is_none()
 }
 
-fn all_have_lines(fonts: &Fonts, font: u8, rows: &[Row]) -> bool {
-    rows.iter().all(|row| has_lines(fonts, font, row))
+fn all_have_lines(fonts: &Fonts, font: u8, cases: &[Case]) -> bool {
+    cases.iter().all(|case| has_lines(fonts, font, case))
 }
 
 #[test]
 fn texts_are_cut_into_lines(rt: HostRuntime) -> Result<(), Fail> {
     let mut fonts = opened(rt.alloc(), 2)?;
-    assert!(rt; all_have_lines(&fonts, 0, &EVEN_ROWS));
+    assert!(rt; all_have_lines(&fonts, 0, &EVEN_CASES));
     let answers = [
         fonts.begin(UNEVEN, 3, 4),
         fonts.glyph(UNEVEN, 'i', crate::fonts::blank(0), &[]),
         fonts.glyph(UNEVEN, 'm', crate::fonts::blank(9), &[]),
     ];
     assert_eq!(rt; answers, [Ok(()); 3]);
-    assert!(rt; all_have_lines(&fonts, UNEVEN, &UNEVEN_ROWS));
+    assert!(rt; all_have_lines(&fonts, UNEVEN, &UNEVEN_CASES));
     Ok(())
 }
 

@@ -10,7 +10,7 @@ use Rattle.gui_base.specs.declared.props.Prop.TheVariants as prop
 use Rattle.gui_base.specs.Props.{is_value}
 use Rattle.text_defs.specs.declared.TextLook.{TextLook}
 use Rattle.text_defs.specs.Face.{Face}
-use Rattle.text_defs.specs.Lines.{Setting}
+use Rattle.text_defs.specs.Lines.{LineSetting}
 use Rattle.widget_defs.specs.declared.ImageLook.{ImageLook}
 use Rattle.widget_defs.specs.declared.Values.{Values}
 
@@ -97,6 +97,6 @@ abbrev pub left_look : PartValues → TextLook
 left_look values = record (text_look values) { align = Left }
 
 -- the setting of its lines, in so many pixels at most
-abbrev pub text_setting : Look → Option ℕ → Setting
+abbrev pub text_setting : Look → Option ℕ → LineSetting
 text_setting look most =
     record { face = look.face; letter = number_of (look.main prop.TextLetterSpace); most = most }

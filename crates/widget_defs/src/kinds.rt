@@ -1,7 +1,4 @@
 //! What a kind of object is: one row for each, which definitions and code cite.
-ghost use Rattle.std.specs.Prelude.{◌≡◌};
-ghost use Rattle.widget_defs.specs.Kinds.{facts, shows, first_flags, first_width, first_height};
-ghost use Rattle.widget_defs.specs.Kinds.{first_flow};
 
 use gui_base::{Flow, Kind, Length};
 
@@ -18,38 +15,6 @@ pub enum Shown {
     ShareAndKnob,
     /// The indicator as a box, and the text beside it.
     BoxAndText,
-}
-
-impl Shown {
-    ghost use Rattle.widget_defs.specs.Kinds.{is_something, has_indicator, has_knob, has_size};
-
-    /// Whether anything is painted there.
-    pub fn is_something(self) -> bool
-        ensures { result ≡ is_something self }
-    {
-        !matches!(self, Shown::Nothing)
-    }
-
-    /// Whether the indicator is a part of it.
-    pub fn has_indicator(self) -> bool
-        ensures { result ≡ has_indicator self }
-    {
-        matches!(self, Shown::Share | Shown::ShareAndKnob | Shown::BoxAndText)
-    }
-
-    /// Whether the knob is.
-    pub fn has_knob(self) -> bool
-        ensures { result ≡ has_knob self }
-    {
-        matches!(self, Shown::ShareAndKnob)
-    }
-
-    /// Whether it is of a size by itself: a text and a picture are, a share is as large as the area makes it.
-    pub fn has_size(self) -> bool
-        ensures { result ≡ has_size self }
-    {
-        matches!(self, Shown::Text | Shown::Picture | Shown::BoxAndText)
-    }
 }
 
 /// What is so of all objects of a kind.
@@ -154,56 +119,3 @@ pub const LIST: KindFacts = KindFacts {
     flow: Flow::Column,
     ..PLAIN
 };
-
-/// The row of a kind.
-pub fn facts(kind: Kind) -> &'static KindFacts
-    ensures { result.now ≡ facts kind }
-{
-    match kind {
-        Kind::Screen => &SCREEN,
-        Kind::Layer => &LAYER,
-        Kind::Obj => &OBJ,
-        Kind::Label => &LABEL,
-        Kind::Button => &BUTTON,
-        Kind::Image => &IMAGE,
-        Kind::Bar => &BAR,
-        Kind::Slider => &SLIDER,
-        Kind::Checkbox => &CHECKBOX,
-        Kind::List => &LIST,
-    }
-}
-
-/// What objects of a kind paint in their content area.
-pub fn shows(kind: Kind) -> Shown
-    ensures { result ≡ shows kind }
-{
-    facts(kind).shows
-}
-
-/// The flags that are on, a bit for each, as [`gui_base::Flag::bit`] says.
-pub fn first_flags(kind: Kind) -> u8
-    ensures { result ≡ first_flags kind }
-{
-    facts(kind).flags
-}
-
-/// The wanted width. Roots have the panel's size, whatever theirs is.
-pub fn first_width(kind: Kind) -> Length
-    ensures { result ≡ first_width kind }
-{
-    facts(kind).width
-}
-
-/// The wanted height.
-pub fn first_height(kind: Kind) -> Length
-    ensures { result ≡ first_height kind }
-{
-    facts(kind).height
-}
-
-/// The flow: only a list has one.
-pub fn first_flow(kind: Kind) -> Flow
-    ensures { result ≡ first_flow kind }
-{
-    facts(kind).flow
-}

@@ -2,12 +2,10 @@
 //! what it shows is by itself.
 #![tactic(auto)]
 
-ghost use Rattle.std.specs.Prelude.{◌≡◌};
-
 pub mod kinds;
 pub mod laws;
 
-use gui_base::{Prop, Rgb565};
+use gui_base::Rgb565;
 use text_defs::TextLook;
 
 /// What an item of an object paints in its area.
@@ -42,17 +40,6 @@ pub enum ItemPaint {
 /// The value of each property of a part, in the order of [`gui_base::props::PROPS`].
 #[derive(Clone, Copy, Debug, PartialEq, Eq)]
 pub struct Values(pub [i32; 19]);
-
-impl Values {
-    ghost use Rattle.widget_defs.specs.Looks.{value_in};
-
-    /// The value of a property.
-    pub fn get(&self, prop: Prop) -> i32
-        ensures { result ≡ value_in self.now prop }
-    {
-        self.0[prop as usize]
-    }
-}
 
 /// An image with its size in pixels.
 #[derive(Clone, Copy, Debug, PartialEq, Eq)]

@@ -1,7 +1,7 @@
 use Rattle.std.proofs.Common.{refl}
 use Rattle.hex.specs.Hex.{decode_pairs}
 use Rattle.text_defs.specs.BuiltIn.{column_of}
-use Rattle.scene_defs.specs.Rows.{bytes_in_hex}
+use Rattle.scene_defs.specs.RowBytes.{bytes_in_hex}
 use Rattle.table_checks.proofs.built_in_font.Goals as goal
 
 pub returns-clause-sheet : goal.returns-clause-sheet

@@ -1,4 +1,4 @@
-use Rattle.std.proofs.Common.{◌≡◌, ◌<◌, ◌≤◌, ◌+◌, ◌*◌, ◌∙◌, ◌++◌, ◌∷◌, [], sym, ap, ℕ, vec_len, vec_capacity, arith, rules}
+use Rattle.std.proofs.Common.{◌≡◌, ◌<◌, ◌≤◌, ◌+◌, ◌*◌, ◌∙◌, ◌++◌, ◌∷◌, [], sym, ap, ℕ, vec_len, arith, rules}
 use Rattle.std.proofs.lemmas.List.{map-append, append-nil}
 use Rattle.gui_base.specs.Forest.{Forest, Tree, size}
 use Rattle.gui_tree.specs.Walks.{Walk}

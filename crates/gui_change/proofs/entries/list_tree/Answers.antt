@@ -1,6 +1,6 @@
-use Rattle.std.proofs.Common.{◌≡◌, ◌≤◌, ◌+◌, ◌*◌, ◌∙◌, ◌++◌, ◌∷◌, [], sym, ap, ℕ, vec_len, vec_capacity, arith}
+use Rattle.std.proofs.Common.{◌≡◌, ◌+◌, ◌*◌, ◌∙◌, ◌++◌, ◌∷◌, [], sym, ap, ℕ, vec_len, arith}
 use Rattle.std.proofs.lemmas.List.{map-append, append-nil}
-use Rattle.gui_base.specs.Forest.{Forest, Empty, Tree, size, children_of}
+use Rattle.gui_base.specs.Forest.{Forest, size, children_of}
 use Rattle.gui_tree.specs.Walks.{Walk}
 use Rattle.gui_tree.proofs.Below.{tree_is}
 use Rattle.scene_defs.specs.Shown.{bars_over, entries_in, own}

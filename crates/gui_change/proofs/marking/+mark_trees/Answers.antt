@@ -1,4 +1,4 @@
-use Rattle.std.proofs.Common.{◌≡◌, ◌<◌, ◌≤◌, ◌∙◌, sym, ap, subst, refl, ℕ, Bool, eqb, ◌||◌, arith, rules}
+use Rattle.std.proofs.Common.{◌≡◌, ◌<◌, ◌≤◌, ◌∙◌, sym, ap, refl, ℕ, Bool, eqb, ◌||◌, arith, rules}
 use Rattle.gui_base.specs.Forest.{Forest, Tree, has, size}
 use Rattle.gui_tree.specs.Walks.{Walk}
 use Rattle.gui_tree.proofs.Steps.{IsChild, child_in}

@@ -1,6 +1,6 @@
 use Rattle.std.proofs.Common.{◌≡◌, ◌∙◌, sym, ap, subst, ℕ, Bool, true, ◌||◌, Some, None, length, arith}
 use Rattle.std.proofs.lemmas.List.{length-map}
-use Rattle.debt_defs.specs.Look.{is_among}
+use Rattle.debt_defs.specs.SceneLook.{is_among}
 use Rattle.gui_base.specs.declared.Handle.{Handle}
 use Rattle.gui_store.specs.Views.{removed_of}
 use Rattle.gui_tree.specs.Handles.{numbers}

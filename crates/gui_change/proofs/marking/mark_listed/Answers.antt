@@ -1,6 +1,6 @@
 use Rattle.std.proofs.Common.{◌≡◌, ◌∙◌, [], ◌+◌, ◌≤◌, sym, ap, refl, ℕ, Bool, true, false, eqb, cond, ◌||◌, List, drop, get_or, arith}
 use Rattle.std.proofs.lemmas.List.{drop_all}
-use Rattle.debt_defs.specs.Look.{is_among}
+use Rattle.debt_defs.specs.SceneLook.{is_among}
 use Rattle.gui_base.specs.declared.Handle.{Handle}
 use Rattle.gui_tree.specs.Handles.{numbers}
 use Rattle.gui_layout.specs.Marks.{is_changed, is_marked, mark_count}

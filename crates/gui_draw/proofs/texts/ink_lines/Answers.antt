@@ -1,6 +1,6 @@
 use Rattle.gui_draw.proofs.Common.{pos, ◌≡◌, ◌∙◌, refl, sym, subst, ◌+◌, ◌≤◌, arith, ints, Rect, rect_of, face_in, IsInside, chars}
 use Rattle.std.proofs.Common.{◌+ℤ◌}
-use Rattle.text_defs.specs.Lines.{Setting}
+use Rattle.text_defs.specs.Lines.{LineSetting}
 use Rattle.gui_font.specs.LinesLeft.{runs_left, setting_of}
 use Rattle.gui_font.specs.Runs.{GivesRun}
 use Rattle.gui_draw.proofs.Lining.{lining_none, lining_more, lining_all, run_count}
@@ -19,7 +19,7 @@ lines-preserved g c =
     let before = runs_left c.lines.lines in
     let after = runs_left c.next_run.new.self in
     let run = c.in-Some.run' in
-    let given : GivesRun s before after run = subst (λ (t : Setting). GivesRun t before after run) inv.same c.in-Some.ensures.run in
+    let given : GivesRun s before after run = subst (λ (t : LineSetting). GivesRun t before after run) inv.same c.in-Some.ensures.run in
     let face = face_in c.args.lettering.fonts.now c.args.lettering.look.font in
     let pitch = face.height + c.args.lettering.look.line in
     let height = c.height.ensures in

@@ -11,7 +11,7 @@ use Rattle.layout_defs.specs.Boxes.{Box, course_of}
 use Rattle.layout_defs.specs.Solving.{Tall, natural_height}
 use Rattle.layout_defs.specs.Tables.{KeepsOthers}
 use Rattle.gui_layout.specs.declared.measuring.Run.{Run}
-use Rattle.gui_layout.specs.Rows.{Sum, row_of, run_down, down_kid, with_kid, sum_of}
+use Rattle.gui_layout.specs.Totals.{Sum, total_of, run_down, down_kid, with_kid, sum_of}
 use Rattle.gui_layout.proofs.Kids.{named, kid_told}
 use Rattle.gui_layout.proofs.Passes.{Pass, Finds, finds_none, finds_top, Gathers, gathers_none, gathers_more, trees_by, heights_pass}
 use Rattle.gui_layout.proofs.heights.+find_natural_heights.Goals as goal
@@ -24,13 +24,13 @@ loop-child-init t c =
     let begins = begins_below f c.args.h.0 _ (c.into_iter-child-iterator.ensures.into_iter_gives ∙ c.children-child-items.ensures.walk) in
     let few = begins.few in
     let most = c.requires.few in
-    let none : c.no_kids-row.result.count ≡ 0 = ap (λ (s : Sum). s.count) c.no_kids-row.ensures in
+    let none : c.no_kids-total.result.count ≡ 0 = ap (λ (s : Sum). s.count) c.no_kids-total.ensures in
     record {
       below = begins.is;
       few = omega arith;
       listed = refl;
       rest = refl;
-      gathered = rw begins.all (gathers_none (heights_pass was) tall_of down_kid c.run_down-run.result was.natural_heights (children_of f c.args.h.0) (row_of c.no_kids-row.result) c.no_kids-row.ensures);
+      gathered = rw begins.all (gathers_none (heights_pass was) tall_of down_kid c.run_down-run.result was.natural_heights (children_of f c.args.h.0) (total_of c.no_kids-total.result) c.no_kids-total.ensures);
     }
 
 pub find_natural_heights-requires : goal.find_natural_heights-requires
@@ -69,21 +69,21 @@ loop-child-preserved t c =
       found = subst (λ (l : Layout). EachKids NaturalHeightFits (told_trees l (Tree h g.children Empty))) rest (subst (λ (t : Forest ℕ). EachKids NaturalHeightFits (told_trees now t)) g.tree done.found);
       others = subst (KeepsOthers 0 a now.natural_heights) g.tree done.others;
     } in
-    let few : c.loop-child.row.count + size (Tree h g.children trees) ≤ 4000 = rw g.left at inv.few in
-    let more = c.with_kid-row.ensures.count in
+    let few : c.loop-child.total.count + size (Tree h g.children trees) ≤ 4000 = rw g.left at inv.few in
+    let more = c.with_kid-total.ensures.count in
     let kid = ap tall_of (kid_told now h c.entry_of-kid.result.now c.entry_of-kid.ensures.told ∙ ap (λ (l : Layout). known_at (box_at l.boxes) l h) rest) in
     let run = c.run_down-run.result in
     let cs = children_of c.args.tree.now.forest c.args.h.0 in
-    let row = row_of c.loop-child.row in
+    let total = total_of c.loop-child.total in
     record {
       below = g.is;
       few = omega arith;
       listed = done.listed ∙ inv.listed;
       rest = rest;
       gathered =
-          gathers_more p tall_of down_kid run was.natural_heights cs a now.natural_heights row (row_of c.with_kid-row.result) h g.children trees g.once first
-          (c.with_kid-row.ensures.value h ∙ ap (λ (k : Tall). with_kid run row (down_kid k)) kid)
-          (subst (Gathers p tall_of down_kid run was.natural_heights cs a row) g.left inv.gathered);
+          gathers_more p tall_of down_kid run was.natural_heights cs a now.natural_heights total (total_of c.with_kid-total.result) h g.children trees g.once first
+          (c.with_kid-total.ensures.value h ∙ ap (λ (k : Tall). with_kid run total (down_kid k)) kid)
+          (subst (Gathers p tall_of down_kid run was.natural_heights cs a total) g.left inv.gathered);
     }
 
 -- once all below the object are found
@@ -109,8 +109,8 @@ module _ (t : ℕ) (c : In-None t) where
   abbrev kids : List Tall
   kids = map tall_of (roots (trees_by p now cs))
 
-  gathered : Gathers p tall_of down_kid c.run_down-run.result was.natural_heights cs now (row_of c.loop-child.row) Empty
-  gathered = subst (Gathers p tall_of down_kid c.run_down-run.result was.natural_heights cs now (row_of c.loop-child.row)) c.in-None.ensures.steps.0 c.loop-child.invariant.gathered
+  gathered : Gathers p tall_of down_kid c.run_down-run.result was.natural_heights cs now (total_of c.loop-child.total) Empty
+  gathered = subst (Gathers p tall_of down_kid c.run_down-run.result was.natural_heights cs now (total_of c.loop-child.total)) c.in-None.ensures.steps.0 c.loop-child.invariant.gathered
 
   still : AreListed (listing_of c.loop-child.entries) (tree_at f h)
   still k i = subst (λ (ks : Listing). IsListed ks k) (sym c.loop-child.invariant.listed) (c.requires.listed k i)
@@ -127,9 +127,9 @@ set_natural_height-requires-clause-listed t c = still_own t (goal.at.set_natural
 pub natural_height-natural-requires-clause-listed : goal.natural_height-natural-requires-clause-listed
 natural_height-natural-requires-clause-listed t c = still t (goal.at.natural_height-natural-requires-clause-listed t c).In-None
 
-pub natural_height-natural-requires-clause-row : goal.natural_height-natural-requires-clause-row
-natural_height-natural-requires-clause-row t c =
-    let d = (goal.at.natural_height-natural-requires-clause-row t c).In-None in
+pub natural_height-natural-requires-clause-total : goal.natural_height-natural-requires-clause-total
+natural_height-natural-requires-clause-total t c =
+    let d = (goal.at.natural_height-natural-requires-clause-total t c).In-None in
     let own : box_of (h t d) c.entry_of-own.result.now.wanted ≡ box_at (was t d).boxes (h t d) = c.entry_of-own.ensures.told.wanted ∙ ap (λ (l : Layout). box_at l.boxes (h t d)) c.loop-child.invariant.rest in
     let course = c.course_of.ensures ∙ ap (λ (b : Box). course_of b.flow) (c.entry_of.ensures.told.wanted ∙ sym own) in
     (gathered t d).sums (now t d) (finds_none (p t d) (now t d))

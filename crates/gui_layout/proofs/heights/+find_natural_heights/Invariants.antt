@@ -1,7 +1,7 @@
 use Rattle.std.proofs.Common.{◌≡◌, ◌≤◌, ◌+◌}
 use Rattle.gui_base.specs.Forest.{size, tree_at, children_of}
 use Rattle.gui_tree.proofs.Below.{IsBelow}
-use Rattle.gui_layout.specs.Rows.{row_of, down_kid}
+use Rattle.gui_layout.specs.Totals.{total_of, down_kid}
 use Rattle.gui_layout.specs.Settled.{tall_of}
 use Rattle.gui_layout.specs.Tables.{told, listing_of}
 use Rattle.gui_layout.specs.Layouts.{ButNaturalHeights}
@@ -18,8 +18,8 @@ invariant-loop-child l =
     let trees = l.child-iterator.left in
     record {
       below : IsBelow f l.h.0 l.child-iterator;
-      few : l.row.count + size trees ≤ 4000;
+      few : l.total.count + size trees ≤ 4000;
       listed : listing_of l.entries ≡ listing_of l.fn.entries;
       rest : ButNaturalHeights was (told l.entries);
-      gathered : Gathers (heights_pass was) tall_of down_kid l.run was.natural_heights (children_of f l.h.0) (told l.entries).natural_heights (row_of l.row) trees;
+      gathered : Gathers (heights_pass was) tall_of down_kid l.run was.natural_heights (children_of f l.h.0) (told l.entries).natural_heights (total_of l.total) trees;
     }

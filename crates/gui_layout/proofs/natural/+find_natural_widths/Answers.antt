@@ -11,7 +11,7 @@ use Rattle.layout_defs.specs.Boxes.{Box, course_of}
 use Rattle.layout_defs.specs.Solving.{Wide, natural_width}
 use Rattle.layout_defs.specs.Tables.{KeepsOthers}
 use Rattle.gui_layout.specs.declared.measuring.Run.{Run}
-use Rattle.gui_layout.specs.Rows.{Sum, row_of, run_across, across_kid, with_kid, sum_of}
+use Rattle.gui_layout.specs.Totals.{Sum, total_of, run_across, across_kid, with_kid, sum_of}
 use Rattle.gui_layout.proofs.Kids.{named, kid_told}
 use Rattle.gui_layout.proofs.Passes.{Pass, Finds, finds_none, finds_top, Gathers, gathers_none, gathers_more, trees_by, naturals_pass}
 use Rattle.gui_layout.proofs.natural.+find_natural_widths.Goals as goal
@@ -24,13 +24,13 @@ loop-child-init t c =
     let begins = begins_below f c.args.h.0 _ (c.into_iter-child-iterator.ensures.into_iter_gives ∙ c.children-child-items.ensures.walk) in
     let few = begins.few in
     let most = c.requires.few in
-    let none : c.no_kids-row.result.count ≡ 0 = ap (λ (s : Sum). s.count) c.no_kids-row.ensures in
+    let none : c.no_kids-total.result.count ≡ 0 = ap (λ (s : Sum). s.count) c.no_kids-total.ensures in
     record {
       below = begins.is;
       listed = refl;
       rest = refl;
       few = omega arith;
-      gathered = rw begins.all (gathers_none (naturals_pass was) wide_of across_kid c.run_across-run.result was.natural_widths (children_of f c.args.h.0) (row_of c.no_kids-row.result) c.no_kids-row.ensures);
+      gathered = rw begins.all (gathers_none (naturals_pass was) wide_of across_kid c.run_across-run.result was.natural_widths (children_of f c.args.h.0) (total_of c.no_kids-total.result) c.no_kids-total.ensures);
     }
 
 pub find_natural_widths-requires : goal.find_natural_widths-requires
@@ -53,11 +53,11 @@ entry_of-kid-requires t c =
     subst (λ (ks : Listing). IsListed ks c.in-Some.child.0) (sym (c.find_natural_widths.ensures.listed ∙ inv.listed)) (c.requires.listed c.in-Some.child.0 g.own)
 
 -- each child before this one has added one at most
-pub with_kid-row-requires : goal.with_kid-row-requires
-with_kid-row-requires t c =
+pub with_kid-total-requires : goal.with_kid-total-requires
+with_kid-total-requires t c =
     let inv = c.loop-child.invariant in
     let g = steps_below c.args.tree.now.forest c.args.h.0 _ _ _ inv.below c.in-Some.ensures.steps in
-    let few : c.loop-child.row.count + size (Tree c.in-Some.child.0 g.children c.next.new.self.left) ≤ 4000 = rw g.left at inv.few in
+    let few : c.loop-child.total.count + size (Tree c.in-Some.child.0 g.children c.next.new.self.left) ≤ 4000 = rw g.left at inv.few in
     record { count = omega arith }
 
 pub loop-child-preserved : goal.loop-child-preserved
@@ -76,21 +76,21 @@ loop-child-preserved t c =
       found = subst (λ (l : Layout). EachKids NaturalWidthFits (told_trees l (Tree h g.children Empty))) rest (subst (λ (t : Forest ℕ). EachKids NaturalWidthFits (told_trees now t)) g.tree done.found);
       others = subst (KeepsOthers 0 a now.natural_widths) g.tree done.others;
     } in
-    let few : c.loop-child.row.count + size (Tree h g.children trees) ≤ 4000 = rw g.left at inv.few in
-    let more = c.with_kid-row.ensures.count in
+    let few : c.loop-child.total.count + size (Tree h g.children trees) ≤ 4000 = rw g.left at inv.few in
+    let more = c.with_kid-total.ensures.count in
     let kid = ap wide_of (kid_told now h c.entry_of-kid.result.now c.entry_of-kid.ensures.told ∙ ap (λ (l : Layout). known_at (box_at l.boxes) l h) rest) in
     let run = c.run_across-run.result in
     let cs = children_of c.args.tree.now.forest c.args.h.0 in
-    let row = row_of c.loop-child.row in
+    let total = total_of c.loop-child.total in
     record {
       below = g.is;
       listed = done.listed ∙ inv.listed;
       rest = rest;
       few = omega arith;
       gathered =
-          gathers_more p wide_of across_kid run was.natural_widths cs a now.natural_widths row (row_of c.with_kid-row.result) h g.children trees g.once first
-          (c.with_kid-row.ensures.value h ∙ ap (λ (k : Wide). with_kid run row (across_kid k)) kid)
-          (subst (Gathers p wide_of across_kid run was.natural_widths cs a row) g.left inv.gathered);
+          gathers_more p wide_of across_kid run was.natural_widths cs a now.natural_widths total (total_of c.with_kid-total.result) h g.children trees g.once first
+          (c.with_kid-total.ensures.value h ∙ ap (λ (k : Wide). with_kid run total (across_kid k)) kid)
+          (subst (Gathers p wide_of across_kid run was.natural_widths cs a total) g.left inv.gathered);
     }
 
 still : (t : ℕ) (c : In-None t) → IsListed (listing_of c.loop-child.entries) c.args.h.0
@@ -125,17 +125,17 @@ module _ (t : ℕ) (c : After-set_natural_width t) where
   abbrev n : ℕ
   n = c.natural_width-natural.result
 
-  gathered : Gathers p wide_of across_kid c.run_across-run.result was.natural_widths cs now (row_of c.loop-child.row) Empty
-  gathered = subst (Gathers p wide_of across_kid c.run_across-run.result was.natural_widths cs now (row_of c.loop-child.row)) c.in-None.ensures.steps.0 c.loop-child.invariant.gathered
+  gathered : Gathers p wide_of across_kid c.run_across-run.result was.natural_widths cs now (total_of c.loop-child.total) Empty
+  gathered = subst (Gathers p wide_of across_kid c.run_across-run.result was.natural_widths cs now (total_of c.loop-child.total)) c.in-None.ensures.steps.0 c.loop-child.invariant.gathered
 
   fits : NaturalWidthFits (p.by (set now h n) h) (roots (trees_by p now cs))
   fits =
       let kids = map wide_of (roots (trees_by p now cs)) in
       let own : box_of h c.entry_of-own.result.now.wanted ≡ box_at was.boxes h = c.entry_of-own.ensures.told.wanted ∙ ap (λ (l : Layout). box_at l.boxes h) c.loop-child.invariant.rest in
       let course = c.course_of.ensures ∙ ap (λ (b : Box). course_of b.flow) (c.entry_of.ensures.told.wanted ∙ sym own) in
-      let row = gathered.sums now (finds_none p now) ∙ ap (λ (run : Run). sum_of across_kid run kids) (c.run_across-run.ensures ∙ ap run_across course) in
+      let total = gathered.sums now (finds_none p now) ∙ ap (λ (run : Run). sum_of across_kid run kids) (c.run_across-run.ensures ∙ ap run_across course) in
       get_or-set_same now h n 0 (told_short natural_width_or c.loop-child.entries h (still t (goal.at.After-set_natural_width t c).In-None))
-      ∙ (c.natural_width-natural.ensures.value h kids row ∙ ap (λ (b : Box). natural_width b kids) (own ∙ sym (named was.boxes h)))
+      ∙ (c.natural_width-natural.ensures.value h kids total ∙ ap (λ (b : Box). natural_width b kids) (own ∙ sym (named was.boxes h)))
 
   top : Finds p was.natural_widths (set now h n) (tree_at f h)
   top =

@@ -2,7 +2,7 @@ use Rattle.std.proofs.Common.{◌≤◌, ◌+◌, ◌≡◌}
 use Rattle.gui_base.specs.Forest.{size, tree_at, children_of}
 use Rattle.gui_tree.proofs.Below.{IsBelow}
 use Rattle.gui_layout.specs.Layouts.{ButNaturalWidths}
-use Rattle.gui_layout.specs.Rows.{row_of, across_kid}
+use Rattle.gui_layout.specs.Totals.{total_of, across_kid}
 use Rattle.gui_layout.specs.Settled.{wide_of}
 use Rattle.gui_layout.specs.Tables.{told, listing_of}
 use Rattle.gui_layout.proofs.Passes.{Gathers, naturals_pass}
@@ -20,6 +20,6 @@ invariant-loop-child l =
       below : IsBelow f l.h.0 l.child-iterator;
       listed : listing_of l.entries ≡ listing_of l.fn.entries;
       rest : ButNaturalWidths was (told l.entries);
-      few : l.row.count + size trees ≤ 4000;
-      gathered : Gathers (naturals_pass was) wide_of across_kid l.run was.natural_widths (children_of f l.h.0) (told l.entries).natural_widths (row_of l.row) trees;
+      few : l.total.count + size trees ≤ 4000;
+      gathered : Gathers (naturals_pass was) wide_of across_kid l.run was.natural_widths (children_of f l.h.0) (told l.entries).natural_widths (total_of l.total) trees;
     }

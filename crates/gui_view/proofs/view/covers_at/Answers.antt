@@ -1,4 +1,4 @@
-use Rattle.std.proofs.Common.{◌∙◌, ap, subst, sym, ◌≤◌, ◌+◌, ℕ, arith, get_or}
+use Rattle.std.proofs.Common.{◌∙◌, subst, sym, ◌≤◌, ◌+◌, arith, get_or}
 use Rattle.gui_base.specs.Corners.{rect_of}
 use Rattle.gui_change.specs.Canvas.{scene_in}
 use Rattle.scene_defs.specs.Shown.{Entry, entries, own}

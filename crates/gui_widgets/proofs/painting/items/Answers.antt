@@ -1,6 +1,6 @@
 use Rattle.gui_base.specs.Corners.{rect_of}
 use Rattle.gui_widgets.specs.Looks.{widget_of}
-use Rattle.gui_widgets.proofs.Setting.{texts-fit}
+use Rattle.gui_widgets.proofs.TextsFit.{texts-fit}
 use Rattle.gui_widgets.proofs.painting.items.Goals as goal
 
 pub returns-clause-texts : goal.returns-clause-texts

@@ -1,6 +1,5 @@
-use Rattle.std.proofs.Common.{◌≡◌, ◌∙◌, ◌+◌, ap, List, drop}
+use Rattle.std.proofs.Common.{◌∙◌, ◌+◌, ap, drop}
 use Rattle.gui_store.specs.Views.{scene_of}
-use Rattle.scene_defs.specs.declared.Change.{Change}
 use Rattle.scene_defs.specs.Scene.{Scene}
 use Rattle.scene_check.specs.Checking.{changed_by_all, refusal_of_all}
 use Rattle.scene_check.proofs.Steps.{done_at, refused_at}

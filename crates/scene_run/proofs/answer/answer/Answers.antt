@@ -1,15 +1,12 @@
-use Rattle.std.proofs.Common.{refl, ap, subst, [], ◌∷◌, append-nil, arith, None, inl, inr}
-use Rattle.std.proofs.KnownBytes.{Appends-nil}
+use Rattle.std.proofs.Common.{refl, [], ◌∷◌, append-nil, arith, None, inl, inr}
 use Rattle.run_defs.specs.Run.{frame_line, pump_line}
 use Rattle.run_defs.specs.declared.Outcome.TheVariants.{Frame as OfFrame, Pump as OfPump}
 use Rattle.gui_edge.proofs.Prefixes.{on_err}
-use Rattle.gui_core.specs.Machines.{machine_of, pending_in, refresher_in, stage_of}
-use Rattle.gui_refresh.specs.Owing.{standing_of}
+use Rattle.gui_core.specs.Machines.{machine_of, pending_in, stage_of}
 use Rattle.gui_refresh.proofs.Owing.{adding_counts}
-use Rattle.gui_refresh.specs.Stages.{Refreshing, stage}
 use Rattle.scene_run.proofs.Effects.{AppendsPrefix-nothing, breaks_reply, reply_effects}
 use Rattle.scene_run.proofs.Owing.{panel_is}
-use Rattle.scene_run.proofs.Pumping.{pump_faults, pump_effects, can_keeps, agrees_keeps}
+use Rattle.scene_run.proofs.Pumping.{pump_effects}
 use Rattle.scene_run.proofs.answer.answer.Goals as goal
 
 -- the log did not take the lines of a reply whole

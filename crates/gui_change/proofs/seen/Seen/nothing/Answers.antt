@@ -1,5 +1,5 @@
 use Rattle.std.proofs.Common.{◌∙◌, [], None, ap}
-use Rattle.gui_change.specs.Bars.{Kept, items_in}
+use Rattle.gui_change.specs.Bars.{items_in}
 use Rattle.gui_change.specs.Kept.{Packed, narrow, wide}
 use Rattle.gui_change.specs.Owed.{Sight}
 use Rattle.gui_change.proofs.seen.Seen.nothing.Goals as goal

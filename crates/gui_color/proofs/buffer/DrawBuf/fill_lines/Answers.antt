@@ -1,4 +1,4 @@
-use Rattle.std.proofs.Common.{◌≡◌, ◌+◌, ◌*◌, ◌^◌, ◌<◌, refl, subst, rules, arith, FitsSigned, w32}
+use Rattle.std.proofs.Common.{◌≡◌, ◌^◌, ◌<◌, refl, subst, rules, arith, FitsSigned, w32}
 use Rattle.std.proofs.lemmas.Int.{to_z-of_z}
 use Rattle.gui_base.specs.Area.{Rect, width_of}
 use Rattle.gui_base.specs.Corners.{rect_of}

@@ -2,7 +2,7 @@ use Rattle.std.proofs.Common.{◌≡◌, ◌∙◌, refl, sym, ap, subst, ◌+�
 use Rattle.std.specs.Prelude.{pos}
 use Rattle.std.proofs.lemmas.Int.{ints}
 use Rattle.text_defs.specs.Ink.{run_inked, line_at}
-use Rattle.text_defs.specs.Lines.{Setting}
+use Rattle.text_defs.specs.Lines.{LineSetting}
 use Rattle.gui_font.specs.LinesLeft.{runs_left, setting_of}
 use Rattle.gui_font.specs.Runs.{GivesRun}
 use Rattle.gui_font.specs.Sets.{face_in}
@@ -17,7 +17,7 @@ lines-preserved c =
     let before = runs_left c.lines.lines in
     let after = runs_left c.next_run.new.self in
     let run = c.in-Some.run' in
-    let given : GivesRun s before after run = subst (λ (t : Setting). GivesRun t before after run) inv.same c.in-Some.ensures.run in
+    let given : GivesRun s before after run = subst (λ (t : LineSetting). GivesRun t before after run) inv.same c.in-Some.ensures.run in
     let align = c.args.look.align in
     let x : point.x -ℤ line_at align (pos c.args.whole) run.line.width ≡ c.moved.result.x = omega (arith, ints, c.moved.ensures.x, c.left_of-left.ensures.value) in
     let empty : run_inked s.face s.letter given.first.chars (point.x -ℤ line_at align (pos c.args.whole) run.line.width) point.y ≡ false =

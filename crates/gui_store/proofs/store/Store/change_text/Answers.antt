@@ -4,7 +4,7 @@ use Rattle.gui_store.proofs.Common.{◌≡◌, ◌<◌, ◌≤◌, ◌+◌, ◌�
 use Rattle.std.specs.Prelude.{IsErr, ◌↔◌}
 use Rattle.gui_pool.specs.declared.chains.NoChunks.{NoChunks}
 use Rattle.gui_pool.specs.Texts.{need_of}
-use Rattle.gui_rows.specs.Rows.{with_text}
+use Rattle.gui_store.specs.RowSets.{with_text}
 use Rattle.scene_defs.specs.declared.Change.TheVariants as change
 use Rattle.scene_defs.specs.declared.Feature.TheVariants.{Text}
 use Rattle.scene_defs.specs.Deeds.{is_in_range}
@@ -35,12 +35,12 @@ returns-in_default c =
     let off = read-off p k c.args.h.0 (ap (option_map seen) (sym c.in_default.is) ∙ c.get.ensures.value) in
     refused p k (change.Text c.args.h c.args.text.now) Unknown (text-absent p k c.args.h c.args.text.now off)
 
-pub returns-then-not-is_of : goal.returns-then-not-is_of
-returns-then-not-is_of c =
+pub returns-then-not-has_feature : goal.returns-then-not-has_feature
+returns-then-not-has_feature c =
     let p = parts_of c.args.self.now in
     let k = c.args.self.now.kept in
-    let at = (goal.at.returns-then-not-is_of c).In-Some in
-    let other = sym (kind-is at) ∙ (sym c.is_of.ensures ∙ c.if-not-is_of.true) in
+    let at = (goal.at.returns-then-not-has_feature c).In-Some in
+    let other = sym (kind-is at) ∙ (sym c.has_feature.ensures ∙ c.if-not-has_feature.true) in
     refused p k (change.Text c.args.h c.args.text.now) WrongKind (text-kind p k c.args.h c.args.text.now (there at) other)
 
 -- what a call of the rows answers
@@ -69,16 +69,16 @@ done c on kind =
 pub invariant_of-self : goal.invariant_of-self
 invariant_of-self c =
     let at = goal.at.invariant_of-self c in
-    record { kept = (done at.After-set_text (there at.In-Some) (sym (kind-is at.In-Some) ∙ (sym c.is_of.ensures ∙ c.if-not-is_of.false))).kept }
+    record { kept = (done at.After-set_text (there at.In-Some) (sym (kind-is at.In-Some) ∙ (sym c.has_feature.ensures ∙ c.if-not-has_feature.false))).kept }
 
 pub returns-in-Ok : goal.returns-in-Ok
 returns-in-Ok c =
     let at = goal.at.returns-in-Ok c in
-    let left = done at.After-set_text (there at.In-Some) (sym (kind-is at.In-Some) ∙ (sym c.is_of.ensures ∙ c.if-not-is_of.false)) in
+    let left = done at.After-set_text (there at.In-Some) (sym (kind-is at.In-Some) ∙ (sym c.has_feature.ensures ∙ c.if-not-has_feature.false)) in
     rw c.in-Ok.is at left.is
 
 pub returns-in-Err : goal.returns-in-Err
 returns-in-Err c =
     let at = goal.at.returns-in-Err c in
-    let left = done at.After-set_text (there at.In-Some) (sym (kind-is at.In-Some) ∙ (sym c.is_of.ensures ∙ c.if-not-is_of.false)) in
+    let left = done at.After-set_text (there at.In-Some) (sym (kind-is at.In-Some) ∙ (sym c.has_feature.ensures ∙ c.if-not-has_feature.false)) in
     rw c.in-Err.is at left.is

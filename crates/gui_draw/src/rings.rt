@@ -12,9 +12,9 @@ use gui_base::{Area, Rgb565, Steps};
 use gui_color::DrawBuf;
 use std::sync::ledger::Ledger;
 
+// Each parameter by itself, as in all calls of this library: callers have them from different places.
 /// Mixes a colour with an opacity from 0 to 255 over the pixels of the buffer that are in the clip and among
 /// the outermost `width` pixels of the area at each side.
-// Each parameter by itself, as in all calls of this library: callers have them from different places.
 pub fn ring<L: Ledger>(
     buf: &mut DrawBuf,
     clip: Area,

@@ -32,10 +32,10 @@ pub(crate) struct Texels<'a> {
     pub(crate) row: u32,
 }
 
+// Each parameter by itself, as in all calls of this library: callers have them from different places.
 /// Mixes an image over the pixels of the buffer that are in the clip and in the area, at whose top left it
 /// stands. Each texel is mixed with its own opacity and then with `opa`, from 0 to 255; one without a colour
 /// has `recolor`. Nothing is drawn of an image that is not there or not finished.
-// Each parameter by itself, as in all calls of this library: callers have them from different places.
 pub fn picture<L: Ledger>(
     buf: &mut DrawBuf,
     clip: Area,

@@ -24,10 +24,10 @@ use gui_color::DrawBuf;
 use gui_font::{Fonts, Line, Lines, Run, TextAlign, TextLook};
 use std::sync::ledger::Ledger;
 
+// Each parameter by itself, as in all calls of this library: callers have them from different places.
 /// Mixes a colour with an opacity from 0 to 255 over the pixels of the buffer that are in the clip, in the
 /// area and in the ink of a text, which is set in the area's width from its top left on. Besides the steps of
 /// the mixes there is one at most for each character.
-// Each parameter by itself, as in all calls of this library: callers have them from different places.
 pub fn ink<L: Ledger>(
     buf: &mut DrawBuf,
     clip: Area,

@@ -133,11 +133,11 @@ fn place_tracks(items: &mut [FlexItem], wrap: bool, places: FlexPlaces, extents:
     }
 }
 
+// Each size by itself, as a container has them: the sizes of its content area and its gaps.
 /// Places items whose shares are given: tracks one after another across the flow, and the items of each along
 /// it. `extent` and `cross_extent` are the sizes of the container along the flow and across it, from 0 to
 /// 8191; `gap` and `track_gap` are the spaces between two items and between two tracks, from 0 to 1000. There
 /// are at most 4,000 items.
-// Each size by itself, as a container has them: the sizes of its content area and its gaps.
 pub fn place(
     items: &mut [FlexItem],
     wrap: bool,

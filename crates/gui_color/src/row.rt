@@ -8,11 +8,11 @@ use crate::lanes::{GROUP, mix_one};
 use crate::mixing::{ALL_PARTS, Veil, parts_of};
 use gui_base::Rgb565;
 
-/// The pixels of two groups.
-const PAIR: usize = 2 * GROUP;
+/// The pixels of the groups that are mixed in one turn.
+const TURN: usize = 4 * GROUP;
 
 /// Mixes `fg` over each pixel with an opacity from 0 to 255.
-#[inline]
+#[inline(always)]
 pub fn fill_row(row: &mut [Rgb565], fg: Rgb565, opa: u8)
     ensures { row.new ≡ map (λ bg. mix fg bg opa) row.old }
 {
@@ -35,7 +35,7 @@ fn cover_row(row: &mut [Rgb565], fg: Rgb565)
 /// Mixes `fg` over each pixel, a group at a time. Where whole groups leave pixels over, those are mixed
 /// together with some before them, as the row's last group: from what the row was, and written when the whole
 /// groups are mixed.
-#[inline(never)]
+#[inline(always)]
 fn blend_row(row: &mut [Rgb565], fg: Rgb565, opa: u8)
     ensures { row.new ≡ map (λ bg. mix fg bg opa) row.old }
 {
@@ -52,30 +52,30 @@ fn blend_row(row: &mut [Rgb565], fg: Rgb565, opa: u8)
     }
 }
 
-/// Mixes a colour over the pixels of whole groups, two groups a turn: no group waits for another.
+/// Mixes a colour over the pixels of whole groups, four groups a turn: no group waits for another, and what
+/// they have in common is made ready once for all of them.
 #[inline(always)]
 fn blend_groups(row: &mut [Rgb565], fg: Rgb565, opa: u8)
     ensures { (k : ℕ) → k < length row.old / 8 * 8 → slice_index_or row.new k black
         ≡ mix fg (slice_index_or row.old k black) opa }
 {
-    let pairs = row.len() / PAIR;
-    for i in 0..pairs {
-        blend_pair(&mut row[i * PAIR..i * PAIR + PAIR], fg, opa);
+    let turns = row.len() / TURN;
+    for i in 0..turns {
+        blend_turn(&mut row[i * TURN..i * TURN + TURN], fg, opa);
     }
-    let from = pairs * PAIR;
-    if from + GROUP <= row.len() {
-        mix_one(&mut row[from..from + GROUP], fg, opa);
+    for j in turns * 4..row.len() / GROUP {
+        mix_one(&mut row[j * GROUP..j * GROUP + GROUP], fg, opa);
     }
 }
 
-/// Mixes a colour over the pixels of two groups.
+/// Mixes a colour over the pixels of four groups.
 #[inline(always)]
-fn blend_pair(groups: &mut [Rgb565], fg: Rgb565, opa: u8)
-    requires { length groups.old ≡ 16 }
-    ensures { (k : ℕ) → k < 16 → slice_index_or groups.new k black
+fn blend_turn(groups: &mut [Rgb565], fg: Rgb565, opa: u8)
+    requires { length groups.old ≡ 32 }
+    ensures { (k : ℕ) → k < 32 → slice_index_or groups.new k black
         ≡ mix fg (slice_index_or groups.old k black) opa }
 {
-    for i in 0..2 {
+    for i in 0..4 {
         let from = i * GROUP;
         mix_one(&mut groups[from..from + GROUP], fg, opa);
     }

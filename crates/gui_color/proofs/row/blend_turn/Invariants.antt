@@ -1,6 +1,6 @@
 use Rattle.std.proofs.Common.{◌≡◌, ℕ, ◌<◌, ◌≤◌, ◌*◌, slice_index_or}
 use Rattle.gui_base.specs.Color.{mix, black}
-use Rattle.gui_color.proofs.row.blend_pair.Given as goal
+use Rattle.gui_color.proofs.row.blend_turn.Given as goal
 
 abbrev pub invariant-loop-i : goal.invariant-loop-i
 invariant-loop-i l = record {

@@ -2,14 +2,14 @@
 ghost use Rattle.std.specs.Prelude.{◌≡◌, ◌+◌, ◌^◌, ◌<◌, ◌≤◌, [], true, false, length, replicate, slice_range, IfOk, ◌≤ℤ◌};
 ghost use Rattle.std.specs.Borrow.{sem};
 ghost use Rattle.gui_base.specs.Area.{has, is_empty, width_of, size_of, count_between};
-ghost use Rattle.gui_base.specs.Color.{black};
+ghost use Rattle.gui_base.specs.Color.{black, parts};
 ghost use Rattle.gui_base.specs.Corners.{rect_of};
 ghost use Rattle.gui_color.specs.Buffer.{no_pixel, distance, place, row_of};
 ghost use Rattle.gui_color.specs.Buffer.{IsWhole, IsBlack, IsMixed, HoldsRow};
 ghost use Rattle.gui_color.specs.Lending.{LendsRow, LendsRun};
 
-use crate::mixing::parts_of;
-use crate::row::fill_row;
+use crate::mixing::{ALL_PARTS, parts_of};
+use crate::row::lay_row;
 use gui_base::{Area, NoMemory, Rgb565, Steps};
 use std::alloc::Global;
 use std::marker::Model;
@@ -116,18 +116,35 @@ impl DrawBuf {
         ensures limit { self.new.limit ≡ self.old.limit }
         ensures pixels { IsMixed self.old self.new (has (rect_of part)) fg opa }
     {
-        if parts_of(opa) == 0 {
-            return;
+        match parts_of(opa) {
+            0 => {}
+            ALL_PARTS => self.lay::<true>(part, fg, opa),
+            _ => self.lay::<false>(part, fg, opa),
         }
+    }
+
+    /// The same with a colour that covers what it is mixed over, or with one that may not. Each has code of its
+    /// own, so what mixing makes ready is not made for what covers.
+    #[inline(never)]
+    fn lay<const COVERS: bool>(&mut self, part: Area, fg: Rgb565, opa: u8)
+        requires covers { COVERS ≡ true → parts opa ≡ 32 }
+        requires some { is_empty (rect_of part) ≡ false }
+        requires first { has self.old.area part.x1 part.y1 ≡ true }
+        requires last { has self.old.area part.x2 part.y2 ≡ true }
+        ensures area { self.new.area ≡ self.old.area }
+        ensures limit { self.new.limit ≡ self.old.limit }
+        ensures pixels { IsMixed self.old self.new (has (rect_of part)) fg opa }
+    {
         if part.width() == self.area().width() {
-            self.fill_whole_lines(part, fg, opa);
+            self.lay_whole_lines::<COVERS>(part, fg, opa);
         } else {
-            self.fill_lines(part, fg, opa);
+            self.lay_lines::<COVERS>(part, fg, opa);
         }
     }
 
     /// The same of a part as wide as the area, whose lines lie one after another.
-    fn fill_whole_lines(&mut self, part: Area, fg: Rgb565, opa: u8)
+    fn lay_whole_lines<const COVERS: bool>(&mut self, part: Area, fg: Rgb565, opa: u8)
+        requires covers { COVERS ≡ true → parts opa ≡ 32 }
         requires wide { width_of (rect_of part) ≡ width_of self.old.area }
         requires some { is_empty (rect_of part) ≡ false }
         requires first { has self.old.area part.x1 part.y1 ≡ true }
@@ -138,11 +155,12 @@ impl DrawBuf {
     {
         let from = place_of(self.area(), part.x1, part.y1);
         let len = part.width() as usize * part.height() as usize;
-        fill_row(self.run_mut(from, len), fg, opa);
+        lay_row::<COVERS>(self.run_mut(from, len), fg, opa);
     }
 
     /// The same of any part, line by line.
-    fn fill_lines(&mut self, part: Area, fg: Rgb565, opa: u8)
+    fn lay_lines<const COVERS: bool>(&mut self, part: Area, fg: Rgb565, opa: u8)
+        requires covers { COVERS ≡ true → parts opa ≡ 32 }
         requires some { is_empty (rect_of part) ≡ false }
         requires first { has self.old.area part.x1 part.y1 ≡ true }
         requires last { has self.old.area part.x2 part.y2 ≡ true }
@@ -155,7 +173,7 @@ impl DrawBuf {
         let from = place_of(area, part.x1, part.y1);
         let len = part.width() as usize;
         for line in 0..part.height() as usize {
-            fill_row(self.run_mut(from + line * whole, len), fg, opa);
+            lay_row::<COVERS>(self.run_mut(from + line * whole, len), fg, opa);
         }
     }
 

@@ -1,7 +1,7 @@
 //! Mixing a colour over rows of pixels.
-ghost use Rattle.std.specs.Prelude.{◌≡◌, ℕ, ◌≤◌, ◌<◌, ◌-◌, ◌*◌, ◌/◌, ◌++◌};
+ghost use Rattle.std.specs.Prelude.{◌≡◌, true, ℕ, ◌≤◌, ◌<◌, ◌-◌, ◌*◌, ◌/◌, ◌++◌};
 ghost use Rattle.std.specs.Prelude.{length, map, take, slice_index_or};
-ghost use Rattle.gui_base.specs.Color.{mix, black};
+ghost use Rattle.gui_base.specs.Color.{mix, parts, black};
 
 use crate::ends::{HALF, ends_of, write_ends};
 use crate::lanes::{GROUP, mix_one};
@@ -12,7 +12,7 @@ use gui_base::Rgb565;
 const TURN: usize = 4 * GROUP;
 
 /// Mixes `fg` over each pixel with an opacity from 0 to 255.
-#[inline(always)]
+#[inline]
 pub fn fill_row(row: &mut [Rgb565], fg: Rgb565, opa: u8)
     ensures { row.new ≡ map (λ bg. mix fg bg opa) row.old }
 {
@@ -20,6 +20,19 @@ pub fn fill_row(row: &mut [Rgb565], fg: Rgb565, opa: u8)
         0 => {}
         ALL_PARTS => cover_row(row, fg),
         _ => blend_row(row, fg, opa),
+    }
+}
+
+/// Mixes `fg` over each pixel with an opacity from 0 to 255, which covers it or may not.
+#[inline(always)]
+pub(crate) fn lay_row<const COVERS: bool>(row: &mut [Rgb565], fg: Rgb565, opa: u8)
+    requires covers { COVERS ≡ true → parts opa ≡ 32 }
+    ensures { row.new ≡ map (λ bg. mix fg bg opa) row.old }
+{
+    if COVERS {
+        cover_row(row, fg);
+    } else {
+        blend_row(row, fg, opa);
     }
 }
 

@@ -4,13 +4,13 @@ use Rattle.gui_base.specs.Area.{Rect, width_of}
 use Rattle.gui_base.specs.Corners.{rect_of}
 use Rattle.gui_color.specs.Buffer.{place}
 use Rattle.gui_color.proofs.Filling.{HasPart, height_fits, line_within, mixed_start, mixed_more, mixed_all, place_small}
-use Rattle.gui_color.proofs.buffer.DrawBuf.fill_lines.Goals as goal
+use Rattle.gui_color.proofs.buffer.DrawBuf.lay_lines.Goals as goal
 
 pub loop-line-init : goal.loop-line-init
-loop-line-init c = record { area = refl; limit = refl; mixed = mixed_start c.args.self.now (rect_of c.args.part) c.args.fg c.args.opa }
+loop-line-init g c = record { area = refl; limit = refl; mixed = mixed_start c.args.self.now (rect_of c.args.part) c.args.fg c.args.opa }
 
 pub overflow_add-from : goal.overflow_add-from
-overflow_add-from c =
+overflow_add-from g c =
     let x : FitsSigned w32 c.args.part.x1 = search rules in
     let y : FitsSigned w32 c.args.part.y1 = search rules in
     let area = rect_of c.area-area.result in
@@ -22,7 +22,7 @@ overflow_add-from c =
     omega (arith, small)
 
 pub run_mut-requires : goal.run_mut-requires
-run_mut-requires c =
+run_mut-requires g c =
     let x : FitsSigned w32 c.args.part.x1 = search rules in
     let y : FitsSigned w32 c.args.part.y1 = search rules in
     let now = c.args.self.now.area in
@@ -34,7 +34,7 @@ run_mut-requires c =
     (line_within now (rect_of c.args.part) c.loop-line.line here (omega (arith, c.height-line-end.ensures)) c.place_of-from.result c.width-whole.result c.width-len.result from whole c.width-len.ensures)
 
 pub loop-line-preserved : goal.loop-line-preserved
-loop-line-preserved c =
+loop-line-preserved g c =
     let x : FitsSigned w32 c.args.part.x1 = search rules in
     let y : FitsSigned w32 c.args.part.y1 = search rules in
     let now = c.args.self.now.area in
@@ -46,9 +46,9 @@ loop-line-preserved c =
       area = c.loop-line.invariant.area;
       limit = c.loop-line.invariant.limit;
       mixed = mixed_more c.args.self.now c.loop-line.self (rect_of c.args.part) c.loop-line.line c.place_of-from.result c.width-whole.result c.width-len.result c.args.fg c.args.opa c.loop-line.invariant.area c.run_mut.ensures.whole here
-          (omega (arith, c.height-line-end.ensures)) from whole c.width-len.ensures c.run_mut.result.now c.fill_row.new.row c.run_mut.ensures.run c.fill_row.ensures c.loop-line.invariant.mixed;
+          (omega (arith, c.height-line-end.ensures)) from whole c.width-len.ensures c.run_mut.result.now c.lay_row.new.row c.run_mut.ensures.run c.lay_row.ensures c.loop-line.invariant.mixed;
     }
 
 pub returns-clause-pixels : goal.returns-clause-pixels
-returns-clause-pixels c =
+returns-clause-pixels g c =
     mixed_all c.args.self.now c.loop-line.self (rect_of c.args.part) c.loop-line.line c.args.fg c.args.opa (omega (arith, c.height-line-end.ensures)) c.loop-line.invariant.mixed

@@ -19,7 +19,7 @@ entries_turn old below beside first last =
     append_assoc ((old ++ first ∷ []) ++ below) (last ∷ []) beside
     ∙ (append_assoc (old ++ first ∷ []) below (last ∷ beside) ∙ append_assoc old (first ∷ []) (below ++ (last ∷ beside)))
 
-entries-and_then : (f g : Forest ℕ) → entries_in (and_then f g) ≡ entries_in f ++ entries_in g
+pub entries-and_then : (f g : Forest ℕ) → entries_in (and_then f g) ≡ entries_in f ++ entries_in g
 entries-and_then Empty g = refl
 entries-and_then (Tree h cs rest) g =
     ap (λ es. own h ∷ (entries_in cs ++ (bars_over h ∷ es))) (entries-and_then rest g)

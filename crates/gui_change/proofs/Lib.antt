@@ -17,6 +17,7 @@ pub mod Orderless
 pub mod Orders
 pub mod Owing
 pub mod Parents
+pub mod Placing
 pub mod SeenAgain
 pub mod SeenBelow
 pub mod Sighted
@@ -39,4 +40,6 @@ pub mod Unmoved
 pub mod Dues
 pub mod Edited
 pub mod Entering
+pub mod Fronted
+pub mod Fronting
 pub mod Still

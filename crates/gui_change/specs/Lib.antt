@@ -6,6 +6,7 @@ pub mod Concerned
 pub mod Dues
 pub mod Edits
 pub mod Entries
+pub mod Fronts
 pub mod Gone
 pub mod Handles
 pub mod Kept

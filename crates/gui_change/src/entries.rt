@@ -1,10 +1,12 @@
 //! What is painted of the trees that are shown, in paint order.
-ghost use Rattle.std.specs.Prelude.{◌≡◌, ◌≤◌, ◌+◌, ◌*◌, ◌++◌, [], true, IfOk, length, vec_len, vec_capacity};
+ghost use Rattle.std.specs.Prelude.{◌≡◌, ◌≤◌, ◌<◌, ◌+◌, ◌*◌, ◌++◌, ◌∷◌, List, [], true, false, IfOk, IfSome};
+ghost use Rattle.std.specs.Prelude.{drop, length, position, take, vec_len, vec_capacity};
 ghost use Rattle.gui_base.specs.Forest.{has, size, tree_at};
 ghost use Rattle.gui_store.specs.Views.{scene_of};
 ghost use Rattle.gui_tree.specs.Handles.{numbers};
-ghost use Rattle.scene_defs.specs.Shown.{entries, entries_in};
+ghost use Rattle.scene_defs.specs.Shown.{Entry as Painted, bars_over, entries, entries_in, own};
 ghost use Rattle.gui_change.specs.Entries.{IsEntryRoom, all_entries, own_handles};
+ghost use Rattle.gui_change.specs.Fronts.{Fronts, is_of, names};
 
 use gui_base::{Handle, NoMemory};
 use gui_store::{SYSTEM_LAYER, Store, TOP_LAYER};
@@ -84,4 +86,52 @@ pub(crate) fn list_entries(store: &Store, listed: &mut Vec<Entry>)
     list_tree(tree, listed, store.active());
     list_tree(tree, listed, TOP_LAYER);
     list_tree(tree, listed, SYSTEM_LAYER);
+}
+
+/// How many of these entries stand before the first of an object, if there is one.
+fn place_of(listed: &[Entry], h: Handle) -> Option<usize>
+    ensures place { result ≡ position (λ e. is_of h.0 e) listed.now }
+    ensures within { IfSome result (λ n. n < length listed.now) }
+{
+    listed.iter().position(|entry| entry.h == h)
+}
+
+/// Brings so many entries at the head behind so many that follow them.
+fn bring_behind(listed: &mut [Entry], len: usize, more: usize)
+    requires { len + more ≤ length listed.old }
+    ensures { listed.new
+        ≡ drop len (take (len + more) listed.old) ++ (take len listed.old ++ drop (len + more) listed.old) }
+{
+    listed[..len + more].rotate_left(len);
+}
+
+/// Brings the tree of an object, whose entries come first, right before the bars of its parent.
+fn bring_to_bars(listed: &mut [Entry], h: Handle, parent: Handle)
+    requires some { 0 < length listed.old }
+    ensures { (inside beside after : List Painted) → names h.0 inside ≡ false → names parent.0 beside ≡ false →
+        all_entries listed.old
+        ≡ own h.0 ∷ (inside ++ (bars_over h.0 ∷ (beside ++ (bars_over parent.0 ∷ after)))) →
+        all_entries listed.new
+        ≡ beside ++ (own h.0 ∷ (inside ++ (bars_over h.0 ∷ (bars_over parent.0 ∷ after)))) }
+{
+    let Some(below) = place_of(&listed[1..], h) else {
+        return;
+    };
+    let len = below + 2;
+    let Some(more) = place_of(&listed[len..], parent) else {
+        return;
+    };
+    bring_behind(listed, len, more);
+}
+
+/// Brings the tree of an object behind those that stand beside it, where it is listed.
+pub(crate) fn bring_to_front(listed: &mut Vec<Entry>, h: Handle, parent: Handle)
+    ensures listed { (after : List Painted) → Fronts h.0 parent.0 (all_entries listed.old.items) after →
+        all_entries listed.new.items ≡ after }
+    ensures capacity { vec_capacity listed.new ≡ vec_capacity listed.old }
+{
+    let Some(start) = place_of(listed.as_slice(), h) else {
+        return;
+    };
+    bring_to_bars(&mut listed.as_mut_slice()[start..], h, parent);
 }

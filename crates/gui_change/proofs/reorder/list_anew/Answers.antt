@@ -11,28 +11,28 @@ use Rattle.gui_change.specs.declared.entries.Entry.{Entry}
 use Rattle.gui_change.proofs.Entering.{own_is}
 use Rattle.gui_change.proofs.Orders.{shown_fit}
 use Rattle.gui_change.proofs.reorder.list_anew.Goals as goal
-use Rattle.gui_change.proofs.reorder.list_anew.Goals.{After-list_entries}
+use Rattle.gui_change.proofs.reorder.list_anew.Goals.{After-relist}
 
 -- those that are painted by themselves are what is shown
-shown : (c : After-list_entries) (es : List Entry) → es ≡ c.list_entries.new.listed.items → own_handles (all_entries es) ≡ order (scene_of c.args.store.now)
+shown : (c : After-relist) (es : List Entry) → es ≡ c.relist.new.listed.items → own_handles (all_entries es) ≡ order (scene_of c.args.store.now)
 shown c es is =
     ap (λ (l : List Entry). own_handles (all_entries l)) is
-    ∙ (ap own_handles c.list_entries.ensures.entries ∙ own_is (handles_of (shown_trees (scene_of c.args.store.now))))
+    ∙ (ap own_handles c.relist.ensures.entries ∙ own_is (handles_of (shown_trees (scene_of c.args.store.now))))
 
 pub list_own-requires : goal.list_own-requires
 list_own-requires c =
-    let d = (goal.at.list_own-requires c).After-list_entries in
+    let d = (goal.at.list_own-requires c).After-relist in
     let scene = scene_of c.args.store.now in
     let count = ap length (shown d c.as_slice.result.now c.as_slice.ensures.value) ∙ length-preorder (handles_of (shown_trees scene)) in
     let few = shown_fit scene c.tree-tree.ensures.valid in
     let room = c.requires.order_room in
-    let empty = c.clear-2.ensures.len in
-    let same = c.clear-2.ensures.capacity in
+    let empty = c.clear.ensures.len in
+    let same = c.clear.ensures.capacity in
     omega (arith, count, few, room, empty, same)
 
 pub returns-clause-order : goal.returns-clause-order
 returns-clause-order c =
-    let d = (goal.at.returns-clause-order c).After-list_entries in
+    let d = (goal.at.returns-clause-order c).After-relist in
     c.list_own.ensures.listed
-    ∙ (ap (λ (hs : List Handle). numbers hs ++ own_handles (all_entries c.as_slice.result.now)) c.clear-2.ensures.items
+    ∙ (ap (λ (hs : List Handle). numbers hs ++ own_handles (all_entries c.as_slice.result.now)) c.clear.ensures.items
     ∙ shown d c.as_slice.result.now c.as_slice.ensures.value)

@@ -46,3 +46,4 @@ pub mod Entered
 pub mod Staying
 pub mod Closing
 pub mod Pendings
+pub mod Reordered

@@ -1,5 +1,7 @@
 //! The commands, each by its fields in their order.
 ghost use Rattle.std.specs.Prelude.{◌≡◌};
+ghost use Rattle.gui_base.specs.Names.{named, table};
+ghost use Rattle.run_defs.specs.declared.names.TheConstants.{COMMANDS};
 ghost use Rattle.run_defs.specs.Commands.{tree_fields, row_fields, style_fields, asset_fields};
 ghost use Rattle.run_defs.specs.Commands.{line_fields, command_says};
 ghost use Rattle.run_defs.specs.Language.{words_of};
@@ -16,21 +18,42 @@ use gui_base::named;
 use gui_base::words::{
     CROSS_PLACINGS, FLAGS, FORMATS, Flag, Format, KINDS, Kind, ON_OFF, PLACINGS, Placing,
 };
-use run_defs::{AssetName, COMMANDS, Command, Line, LineFault, Name, RowName, StyleName, TreeName};
+use run_defs::{
+    AssetName, COMMANDS, Command, DeviceName, Line, LineFault, Name, RowName, StyleName, TreeName,
+};
 use scene_defs::Change;
 use text_defs::GlyphBox;
 
 /// What a name and the words after it say.
 #[tactic(auto, unfolding(run_defs::specs::Commands::command_says))]
+#[inline(always)]
 pub(crate) fn say_command<'a>(name: &[u8], words: &'a [u8]) -> Result<Line<'a>, LineFault>
     ensures { result ≡ command_says name.now (words_of words.now) }
 {
-    let Some(name) = named(&COMMANDS, name) else {
+    let Some(name) = command_named(name) else {
         return Err(LineFault::Syntax);
     };
     let mut fields = Fields::new(words);
     let line = line(name, &mut fields);
     fields.end(line)
+}
+
+/// The command of a name. The names that most lines begin with are found without a search.
+#[tactic(auto, unfolding(gui_base::specs::Names::named))]
+fn command_named(word: &[u8]) -> Option<Name>
+    ensures { result ≡ named (table {A = Name} COMMANDS) word.now }
+{
+    match word {
+        b"pos" => Some(Name::Row(RowName::Pos)),
+        b"size" => Some(Name::Row(RowName::Size)),
+        b"local" => Some(Name::Style(StyleName::Local)),
+        b"front" => Some(Name::Tree(TreeName::Front)),
+        b"set" => Some(Name::Style(StyleName::Set)),
+        b"text" => Some(Name::Row(RowName::Text)),
+        b"value" => Some(Name::Row(RowName::Value)),
+        b"tick" => Some(Name::Device(DeviceName::Tick)),
+        _ => named(&COMMANDS, word),
+    }
 }
 
 fn line<'a>(name: Name, fields: &mut Fields<'a>) -> Line<'a>

@@ -72,72 +72,70 @@ fn push_hex(text: &mut MadeText, byte: u32)
     text.push(hex_digit(byte % 16));
 }
 
-/// Two numbers of an object, after this name and a space.
-fn pair_text(name: &str, h: u32, a: u32, b: u32) -> MadeText
-    requires { length name.now ≤ 8 }
-    ensures { result.bytes ≡ pair_text name.now h a b }
+/// Writes two numbers of an object, after this name and a space.
+fn push_pair(text: &mut MadeText, name: &str, h: u32, a: u32, b: u32)
+    requires empty { text.old.bytes ≡ [] }
+    requires name { length name.now ≤ 8 }
+    ensures { text.new.bytes ≡ pair_text name.now h a b }
 {
-    let mut text = ArrayString::new();
     text.push_str(name);
-    push_number(&mut text, h);
+    push_number(text, h);
     text.push_str(" ");
-    push_number(&mut text, a);
+    push_number(text, a);
     text.push_str(" ");
-    push_number(&mut text, b);
-    text
+    push_number(text, b);
 }
 
-/// A number, between these texts.
-fn number_text(before: &str, number: u32, behind: &str) -> MadeText
+/// Writes a number between these texts.
+fn push_between(text: &mut MadeText, before: &str, number: u32, behind: &str)
+    requires empty { text.old.bytes ≡ [] }
     requires before { length before.now ≤ 8 }
     requires behind { length behind.now ≤ 16 }
-    ensures bytes { result.bytes ≡ number_text before.now number behind.now }
-    ensures len { array_string_len result ≤ 34 }
+    ensures bytes { text.new.bytes ≡ number_text before.now number behind.now }
+    ensures len { array_string_len text.new ≤ 34 }
 {
-    let mut text = ArrayString::new();
     text.push_str(before);
-    push_number(&mut text, number);
+    push_number(text, number);
     text.push_str(behind);
-    text
 }
 
-/// A command on this object of a panel of this width and height.
+/// Writes a command on this object of a panel of this width and height.
 #[tactic(auto, using(crate::proofs::MadeLemmas::three_bytes))]
-fn command_text(
+fn push_command(
+    text: &mut MadeText,
     command: MadeCommand,
     h: u32,
     width: u32,
     height: u32,
     draws: &mut Draws,
-) -> MadeText
+)
+    requires empty { text.old.bytes ≡ [] }
     requires width { 1 ≤ width }
     requires height { 1 ≤ height }
-    ensures text { result.bytes ≡ (command_drawn width height command h draws.old.x).text }
+    ensures text { text.new.bytes ≡ (command_drawn width height command h draws.old.x).text }
     ensures draws { draws.new.x ≡ (command_drawn width height command h draws.old.x).x }
 {
     match command {
-        MadeCommand::New => number_text("new ", h, " 3 obj"),
+        MadeCommand::New => push_between(text, "new ", h, " 3 obj"),
         MadeCommand::Size => {
             let w = 1 + draws.draw(width);
-            pair_text("size ", h, w, 1 + draws.draw(height))
+            push_pair(text, "size ", h, w, 1 + draws.draw(height));
         }
         MadeCommand::Pos => {
             let x = draws.draw(width);
-            pair_text("pos ", h, x, draws.draw(height))
+            push_pair(text, "pos ", h, x, draws.draw(height));
         }
         MadeCommand::Color => {
-            let mut text = number_text("local ", h, " main bg_color #");
-            push_hex(&mut text, draws.draw(256));
-            push_hex(&mut text, draws.draw(256));
-            push_hex(&mut text, draws.draw(256));
-            text
+            push_between(text, "local ", h, " main bg_color #");
+            push_hex(text, draws.draw(256));
+            push_hex(text, draws.draw(256));
+            push_hex(text, draws.draw(256));
         }
         MadeCommand::Opacity => {
-            let mut text = number_text("local ", h, " main bg_opa ");
-            push_number(&mut text, draws.draw(256));
-            text
+            push_between(text, "local ", h, " main bg_opa ");
+            push_number(text, draws.draw(256));
         }
-        MadeCommand::Front => number_text("front ", h, ""),
+        MadeCommand::Front => push_between(text, "front ", h, ""),
     }
 }
 
@@ -153,31 +151,23 @@ fn command_at(t: u32) -> MadeCommand
     }
 }
 
-/// The text of a line on a panel of this width and height.
-fn line_text(line: MadeLine, width: u32, height: u32, draws: &mut Draws) -> MadeText
+/// Writes a line on a panel of this width and height.
+fn push_line(text: &mut MadeText, line: MadeLine, width: u32, height: u32, draws: &mut Draws)
+    requires empty { text.old.bytes ≡ [] }
     requires width { 1 ≤ width }
     requires height { 1 ≤ height }
-    ensures text { result.bytes ≡ (line_drawn width height line draws.old.x).text }
+    ensures text { text.new.bytes ≡ (line_drawn width height line draws.old.x).text }
     ensures draws { draws.new.x ≡ (line_drawn width height line draws.old.x).x }
 {
     match line {
-        MadeLine::Object(command, h) => command_text(command, h, width, height, draws),
+        MadeLine::Object(command, h) => push_command(text, command, h, width, height, draws),
         MadeLine::Drawn => {
             let h = 10 + draws.draw(50);
             let command = command_at(draws.draw(4));
-            command_text(command, h, width, height, draws)
+            push_command(text, command, h, width, height, draws);
         }
-        MadeLine::Frame => frame_text(),
+        MadeLine::Frame => text.push_str("frame"),
     }
-}
-
-/// The line of a frame.
-fn frame_text() -> MadeText
-    ensures { result.bytes ≡ codes "frame" }
-{
-    let mut text = ArrayString::new();
-    text.push_str("frame");
-    text
 }
 
 /// The nth of the commands that make an object.
@@ -256,6 +246,8 @@ impl Maker {
         }
         let line = line_at(self.place);
         self.place += 1;
-        Some(line_text(line, self.width, self.height, &mut self.draws))
+        let mut text = ArrayString::new();
+        push_line(&mut text, line, self.width, self.height, &mut self.draws);
+        Some(text)
     }
 }

@@ -1,6 +1,6 @@
 //! Numbers, colours, codes of characters, and bytes.
 ghost use Rattle.std.specs.Prelude.{◌≡◌, ◌≤◌, ◌<◌, ◌≤ℤ◌, ◌<ℤ◌, ◌+ℤ◌, ◌&&◌, int_le, min, pos, neg_ℤ};
-ghost use Rattle.std.specs.Prelude.{option_map, IfOk};
+ghost use Rattle.std.specs.Prelude.{option_map, IfOk, Some, None, if◌then◌else◌};
 ghost use Rattle.std.specs.List.{list_all};
 ghost use Rattle.run_defs.specs.Numbers.{is_number, value_of, is_digit, within, number, number_of, natural};
 ghost use Rattle.run_defs.specs.Numbers.{color, code_said, bytes_said};
@@ -101,47 +101,37 @@ fn is_between(low: i64, n: i64, high: i64) -> bool
 fn capped_number(word: &[u8]) -> Option<i64>
     ensures { result ≡ option_map capped (number_of word.now) }
 {
-    if is_number(word) {
-        return Some(capped_value(word));
+    if let [b'-', digits @ ..] = word {
+        let value = capped_natural(digits)?;
+        return if value == 0 { None } else { Some(-value) };
     }
-    let [b'-', digits @ ..] = word else {
-        return None;
-    };
-    if !is_number(digits) {
-        return None;
-    }
-    let value = capped_value(digits);
-    if value == 0 { None } else { Some(-value) }
+    capped_natural(word)
 }
 
-/// Whether it is `0`, or digits that begin with 1 to 9.
-#[tactic(auto, using(crate::proofs::NumberLemmas::long_number))]
-fn is_number(word: &[u8]) -> bool
-    ensures { result ≡ is_number word.now }
+/// What `0`, or digits that begin with 1 to 9, come to, or 2^32 where that is more; None where it is neither.
+fn capped_natural(word: &[u8]) -> Option<i64>
+    ensures { result ≡ (if is_number word.now then Some (pos (min (value_of word.now) beyond)) else None) }
 {
     match word {
-        [] => false,
-        [digit] => digit.is_ascii_digit(),
-        [first, ..] => *first >= b'1' && are_digits(word),
+        [] => None,
+        [first, _, ..] if *first < b'1' => None,
+        _ => capped_value(word),
     }
 }
 
-/// Whether all bytes are digits.
-fn are_digits(bytes: &[u8]) -> bool
-    ensures { result ≡ list_all is_digit bytes.now }
-{
-    bytes.iter().all(|b| b.is_ascii_digit())
-}
-
-/// What digits come to, or 2^32 where that is more.
-fn capped_value(digits: &[u8]) -> i64
-    ensures { result ≡ pos (min (value_of digits.now) beyond) }
+/// What digits come to, or 2^32 where that is more; None where a byte is no digit.
+fn capped_value(digits: &[u8]) -> Option<i64>
+    ensures { result ≡ (if list_all is_digit digits.now
+        then Some (pos (min (value_of digits.now) beyond)) else None) }
 {
     let mut value = 0;
     for digit in digits {
-        value = (value * 10 + i64::from(digit.saturating_sub(b'0'))).min(BEYOND);
+        if !digit.is_ascii_digit() {
+            return None;
+        }
+        value = (value * 10 + i64::from(*digit - b'0')).min(BEYOND);
     }
-    value
+    Some(value)
 }
 
 /// A colour, 65536 * red + 256 * green + blue: `#` and two hexadecimal digits of either case for each of the

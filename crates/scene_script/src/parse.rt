@@ -25,6 +25,7 @@ pub fn parse_line(line: &[u8]) -> Result<Line, LineFault>
 
 /// What a line says that is not too long.
 #[tactic(auto, unfolding(run_defs::specs::Script::line_says))]
+#[inline(always)]
 fn say_line(line: &[u8]) -> Result<Line, LineFault>
     ensures { result ≡ line_says line.now }
 {
@@ -38,6 +39,7 @@ fn say_line(line: &[u8]) -> Result<Line, LineFault>
 }
 
 /// What the words of these bytes say.
+#[inline(always)]
 fn say_words(bytes: &[u8]) -> Result<Line, LineFault>
     ensures { result ≡ words_say (words_of bytes.now) }
 {
@@ -54,9 +56,32 @@ fn is_comment(line: &[u8]) -> bool
     matches!(from_first_word(line), [b'#', ..])
 }
 
-/// Whether there is a control character.
+/// Whether there is a control character. Eight bytes are looked at together.
+#[tactic(auto, using(crate::proofs::ControlLemmas::eight))]
 fn has_control(line: &[u8]) -> bool
     ensures { result ≡ list_any is_control line.now }
 {
-    line.iter().any(|b| *b < b' ')
+    let mut rest = line;
+    while let [a, b, c, d, e, f, g, h, others @ ..] = rest {
+        let low = is_control(*a) | is_control(*b) | is_control(*c) | is_control(*d);
+        if low | is_control(*e) | is_control(*f) | is_control(*g) | is_control(*h) {
+            return true;
+        }
+        rest = others;
+    }
+    any_control(rest)
+}
+
+/// Whether one of a few bytes is a control character.
+fn any_control(bytes: &[u8]) -> bool
+    ensures { result ≡ list_any is_control bytes.now }
+{
+    bytes.iter().any(|b| *b < b' ')
+}
+
+/// Whether a byte is a control character.
+fn is_control(b: u8) -> bool
+    ensures { result ≡ is_control b }
+{
+    b < b' '
 }

@@ -5,11 +5,24 @@ ghost use Rattle.run_defs.specs.Selectors.{is_plus, with_states, selector_named}
 
 use crate::words::cut;
 use gui_base::words::{PARTS, STATES};
-use gui_base::{Bits, Selector, named};
+use gui_base::{Bits, Part, Selector, named};
 
 /// A selector: a part alone, or a part, a colon, and names of states with a plus sign between each two.
-#[tactic(auto, unfolding(run_defs::specs::Selectors::selector_named))]
 pub(crate) fn selector(word: &[u8]) -> Option<Selector>
+    ensures { result ≡ selector_named word.now }
+{
+    match word {
+        b"main" => Some(Selector {
+            part: Part::Main,
+            states: 0,
+        }),
+        _ => part_and_states(word),
+    }
+}
+
+/// A part, and the states after its colon where it has one.
+#[tactic(auto, unfolding(run_defs::specs::Selectors::selector_named))]
+fn part_and_states(word: &[u8]) -> Option<Selector>
     ensures { result ≡ selector_named word.now }
 {
     let (part, states) = cut(word, b':');

@@ -1,6 +1,8 @@
 //! The areas in which a frame comes to a panel, and what a panel shows that was never sent anything.
+ghost use Rattle.std.specs.Prelude.{◌<◌};
 
 use gui_base::Rgb565;
+use gui_edge::{MemSink, SimPanel};
 use scene_run::Status;
 use std::alloc::Global;
 use std::process::Abort;
@@ -67,6 +69,13 @@ fn a_slice_whose_start_failed_is_started_again(rt: HostRuntime) -> Result<(), Fa
     )
 }
 
+/// The colour that a pixel of a panel shows.
+fn shown(panel: &ListingPanel<SimPanel<MemSink>>, x: u16, y: u16) -> Rgb565
+    requires { (x < panel.now.width) × (y < panel.now.height) }
+{
+    panel.panel.shown(x, y)
+}
+
 #[test]
 fn the_empty_script_leaves_the_panel_as_it_was_opened(rt: HostRuntime) -> Result<(), Fail> {
     let alloc = rt.alloc();
@@ -85,7 +94,7 @@ fn the_empty_script_leaves_the_panel_as_it_was_opened(rt: HostRuntime) -> Result
     assert_eq!(rt; panel.height, 2);
     for y in 0..2 {
         for x in 0..4 {
-            assert_eq!(rt; panel.panel.shown(x, y), Rgb565(0xA5A5), "at {x}, {y}");
+            assert_eq!(rt; shown(&panel, x, y), Rgb565(0xA5A5), "at {x}, {y}");
         }
     }
     assert_eq!(rt; panel.panel.into_frames().bytes(), &b""[..]);

@@ -76,8 +76,10 @@ fn blend_groups(row: &mut [Rgb565], fg: Rgb565, opa: u8)
     for i in 0..turns {
         blend_turn(&mut row[i * TURN..i * TURN + TURN], fg, opa);
     }
-    for j in turns * 4..row.len() / GROUP {
-        mix_one(&mut row[j * GROUP..j * GROUP + GROUP], fg, opa);
+    let from = turns * TURN;
+    for j in 0..(row.len() - from) / GROUP {
+        let at = from + j * GROUP;
+        mix_one(&mut row[at..at + GROUP], fg, opa);
     }
 }
 

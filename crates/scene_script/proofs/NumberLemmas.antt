@@ -1,17 +1,12 @@
 -- How numbers are read.
-use Rattle.std.proofs.Common.{◌≡◌, refl, ℕ, ◌+◌, ◌*◌, ◌≤◌, true, false, ◌&&◌, List, length, get_or, arith}
-use Rattle.std.specs.Prelude.{ℤ, pos, neg_ℤ, ◌<ℤ◌, int_le, Some, None, Ok, Err, option_map, nat_le}
+use Rattle.std.proofs.Common.{◌≡◌, refl, ℕ, ◌+◌, ◌*◌, true, false, ◌&&◌, List, length, get_or, arith}
+use Rattle.std.specs.Prelude.{ℤ, pos, neg_ℤ, ◌<ℤ◌, int_le, Some, None, Ok, Err, option_map}
 use Rattle.std.specs.declared.option.Option.{Option}
-use Rattle.std.specs.List.{list_all}
 use Rattle.std.proofs.lemmas.Int.{ints}
 use Rattle.std.proofs.lemmas.Bool.Decides.{nat_tests}
 use Rattle.run_defs.specs.declared.LineFault.TheVariants.{Syntax, Range}
-use Rattle.run_defs.specs.Numbers.{is_number, is_digit, within, color_from}
+use Rattle.run_defs.specs.Numbers.{within, color_from}
 use Rattle.scene_script.specs.Numbers.{beyond, capped}
-
--- a number of two digits and more
-pub long_number : (word : List ℕ) → 2 ≤ length word → is_number word ≡ (nat_le 49 (get_or word 0 0) && list_all is_digit word)
-long_number word h = grind arith
 
 -- an interval may be asked about the capped number
 within_capped : (low high : ℤ) (o : Option ℤ) → neg_ℤ (pos beyond) <ℤ low → high <ℤ pos beyond → within low high o ≡ within low high (option_map capped o)

@@ -44,6 +44,7 @@ fn named_action<'a>(name: ActionName, line: &mut Fields<'a>) -> Action
 }
 
 /// A command on events or on focus groups.
+#[inline(never)]
 pub(crate) fn play_command<'a>(name: PlayName, line: &mut Fields<'a>) -> Command<'a>
     ensures made { result ≡ (play_fields name line.old).made }
     ensures state { line.new ≡ (play_fields name line.old).at }

@@ -8,6 +8,7 @@ use play_defs::AnimSpec;
 use run_defs::{AnimName, Command};
 
 /// A command on animations.
+#[inline(never)]
 pub(crate) fn anim_command<'a>(name: AnimName, line: &mut Fields<'a>) -> Command<'a>
     ensures made { result ≡ (anim_fields name line.old).made }
     ensures state { line.new ≡ (anim_fields name line.old).at }

@@ -162,6 +162,7 @@ fn style_change<'a>(name: StyleName, line: &mut Fields<'a>) -> Change<'a>
     }
 }
 
+#[inline(never)]
 fn asset_change<'a>(name: AssetName, line: &mut Fields<'a>) -> Change<'a>
     ensures made { result ≡ (asset_fields name line.old).made }
     ensures state { line.new ≡ (asset_fields name line.old).at }

@@ -8,6 +8,7 @@ use gui_base::intervals::{COORDINATE, DEVICE_GROUP, TICK};
 use run_defs::{Command, DeviceName};
 
 /// A command on input devices, or the time.
+#[inline(never)]
 pub(crate) fn device_command<'a>(name: DeviceName, line: &mut Fields<'a>) -> Command<'a>
     ensures made { result ≡ (device_fields name line.old).made }
     ensures state { line.new ≡ (device_fields name line.old).at }

@@ -1,10 +1,11 @@
 //! Tables and lists by their public calls, full, with one slot and with none.
 ghost use Rattle.std.specs.Prelude.{◌≡◌, length};
 
+use crate::checks::same;
 use gui_pool::{Lists, NoMemory, Table};
 use std::alloc::Global;
+use std::process::Abort;
 use std::sync::atomic::{AtomicU32, Ordering};
-use std::test::Fail;
 
 /// Keys and owners are below this number.
 const KEYS: u32 = 9;
@@ -17,10 +18,10 @@ struct NineKeys<T> {
 }
 
 impl<T> NineKeys<T> {
-    fn open(alloc: Global, size: u32) -> Result<NineKeys<T>, &'static str> {
+    fn open(rt: &impl Abort, alloc: Global, size: u32) -> NineKeys<T> {
         match Table::open(alloc, KEYS, size) {
-            Ok(table) => Ok(NineKeys { table }),
-            Err(NoMemory) => Err("no memory"),
+            Ok(table) => NineKeys { table },
+            Err(NoMemory) => panic!(rt; "no memory"),
         }
     }
 
@@ -49,10 +50,10 @@ struct NineOwners<T> {
 }
 
 impl<T> NineOwners<T> {
-    fn open(alloc: Global, slots: u32) -> Result<NineOwners<T>, &'static str> {
+    fn open(rt: &impl Abort, alloc: Global, slots: u32) -> NineOwners<T> {
         match Lists::open(alloc, KEYS, slots) {
-            Ok(lists) => Ok(NineOwners { lists }),
-            Err(NoMemory) => Err("no memory"),
+            Ok(lists) => NineOwners { lists },
+            Err(NoMemory) => panic!(rt; "no memory"),
         }
     }
 
@@ -112,26 +113,25 @@ impl NineOwners<u32> {
 }
 
 #[test]
-fn containers_without_slots_are_full(rt: HostRuntime) -> Result<(), Fail> {
-    let mut keys = NineKeys::open(rt.alloc(), 0)?;
+fn containers_without_slots_are_full(rt: HostRuntime) {
+    let mut keys = NineKeys::open(&rt, rt.alloc(), 0);
     let answers = [
         keys.insert(8, 7),
         keys.table.remove(8),
         keys.table.get(9).copied(),
         Some(keys.table.spare()),
     ];
-    assert_eq!(rt; answers, [Some(7), None, None, Some(0)]);
+    same(&rt, &answers, &[Some(7), None, None, Some(0)]);
 
-    let mut owners = NineOwners::open(rt.alloc(), 0)?;
-    assert_eq!(rt; owners.push(8, 7), Some(7));
+    let mut owners = NineOwners::open(&rt, rt.alloc(), 0);
+    same(&rt, &owners.push(8, 7), &Some(7));
     owners.clear(8);
-    assert_eq!(rt; owners.walked(8), [None; 3]);
-    Ok(())
+    same(&rt, &owners.walked(8), &[None; 3]);
 }
 
 #[test]
-fn one_slot_is_used_again(rt: HostRuntime) -> Result<(), Fail> {
-    let mut keys = NineKeys::open(rt.alloc(), 1)?;
+fn one_slot_is_used_again(rt: HostRuntime) {
+    let mut keys = NineKeys::open(&rt, rt.alloc(), 1);
     let answers = [
         keys.insert(3, 30),
         // A full table hands the value back.
@@ -141,9 +141,13 @@ fn one_slot_is_used_again(rt: HostRuntime) -> Result<(), Fail> {
         keys.insert(4, 41),
         keys.table.get(4).copied(),
     ];
-    assert_eq!(rt; answers, [None, Some(40), Some(30), None, None, Some(41)]);
+    same(
+        &rt,
+        &answers,
+        &[None, Some(40), Some(30), None, None, Some(41)],
+    );
 
-    let mut owners = NineOwners::open(rt.alloc(), 1)?;
+    let mut owners = NineOwners::open(&rt, rt.alloc(), 1);
     let answers = [
         owners.push(3, 30),
         // Full lists hand the value back.
@@ -152,22 +156,21 @@ fn one_slot_is_used_again(rt: HostRuntime) -> Result<(), Fail> {
         owners.remove(3, 0),
         owners.push(4, 41),
     ];
-    assert_eq!(rt; answers, [None, Some(40), Some(30), None, None]);
-    assert_eq!(rt; owners.placed(4), [Some(41), None, None]);
-    Ok(())
+    same(&rt, &answers, &[None, Some(40), Some(30), None, None]);
+    same(&rt, &owners.placed(4), &[Some(41), None, None]);
 }
 
 /// Two slots have two buckets, so the keys 1, 3 and 5 share one.
 #[test]
-fn keys_share_a_bucket(rt: HostRuntime) -> Result<(), Fail> {
-    let mut keys = NineKeys::open(rt.alloc(), 2)?;
+fn keys_share_a_bucket(rt: HostRuntime) {
+    let mut keys = NineKeys::open(&rt, rt.alloc(), 2);
     let answers = [
         keys.insert(1, 10),
         keys.insert(3, 30),
         keys.replace(3, 31),
         keys.table.get(5).copied(),
     ];
-    assert_eq!(rt; answers, [None, None, Some(30), None]);
+    same(&rt, &answers, &[None, None, Some(30), None]);
     if let Some(value) = keys.table.get_mut(1) {
         *value = 11;
     }
@@ -179,17 +182,17 @@ fn keys_share_a_bucket(rt: HostRuntime) -> Result<(), Fail> {
         keys.table.remove(3),
         keys.table.get(5).copied(),
     ];
-    assert_eq!(rt;
-        answers,
-        [Some(11), Some(31), Some(1), None, Some(31), Some(50)]
+    same(
+        &rt,
+        &answers,
+        &[Some(11), Some(31), Some(1), None, Some(31), Some(50)],
     );
-    Ok(())
 }
 
 /// Four slots have four buckets, so the owners 1 and 5 share one.
 #[test]
-fn owners_share_a_bucket(rt: HostRuntime) -> Result<(), Fail> {
-    let mut owners = NineOwners::open(rt.alloc(), 4)?;
+fn owners_share_a_bucket(rt: HostRuntime) {
+    let mut owners = NineOwners::open(&rt, rt.alloc(), 4);
     let answers = [
         owners.push(1, 10),
         owners.push(5, 50),
@@ -198,18 +201,22 @@ fn owners_share_a_bucket(rt: HostRuntime) -> Result<(), Fail> {
         owners.push(2, 20),
         owners.replace(1, 1, 12),
     ];
-    assert_eq!(rt; answers, [None, None, None, None, Some(20), Some(11)]);
-    assert_eq!(rt; owners.walked(1), [Some(10), Some(12), None]);
-    assert_eq!(rt; [owners.remove(1, 0), owners.push(5, 51)], [Some(10), None]);
-    assert_eq!(rt; owners.placed(5), [Some(50), Some(51), None]);
+    same(&rt, &answers, &[None, None, None, None, Some(20), Some(11)]);
+    same(&rt, &owners.walked(1), &[Some(10), Some(12), None]);
+    same(
+        &rt,
+        &[owners.remove(1, 0), owners.push(5, 51)],
+        &[Some(10), None],
+    );
+    same(&rt, &owners.placed(5), &[Some(50), Some(51), None]);
     owners.clear(5);
     let answers = [owners.walked(1), owners.walked(5), owners.walked(8)];
-    assert_eq!(rt;
-        answers,
-        [[Some(12), None, None], [None; 3], [Some(80), None, None]]
+    same(
+        &rt,
+        &answers,
+        &[[Some(12), None, None], [None; 3], [Some(80), None, None]],
     );
-    assert_eq!(rt; owners.lists.spare(), 2);
-    Ok(())
+    same(&rt, &owners.lists.spare(), &2);
 }
 
 /// A value that counts how often it is dropped.
@@ -225,28 +232,30 @@ impl Drop for Counted<'_> {
 }
 
 #[test]
-fn values_are_dropped_once(rt: HostRuntime) -> Result<(), Fail> {
+fn values_are_dropped_once(rt: HostRuntime) {
     let gone = AtomicU32::new(0);
     let left = AtomicU32::new(0);
     {
-        let mut keys = NineKeys::open(rt.alloc(), 2)?;
+        let mut keys = NineKeys::open(&rt, rt.alloc(), 2);
         drop(keys.insert(1, Counted { drops: &gone }));
         drop(keys.insert(2, Counted { drops: &gone }));
         // Refused, replaced and removed.
         drop(keys.insert(3, Counted { drops: &gone }));
         drop(keys.replace(1, Counted { drops: &left }));
         drop(keys.table.remove(2));
-        assert_eq!(rt;
-            [gone.load(Ordering::SeqCst), left.load(Ordering::SeqCst)],
-            [3, 0]
+        same(
+            &rt,
+            &[gone.load(Ordering::SeqCst), left.load(Ordering::SeqCst)],
+            &[3, 0],
         );
     }
-    assert_eq!(rt;
-        [gone.load(Ordering::SeqCst), left.load(Ordering::SeqCst)],
-        [3, 1]
+    same(
+        &rt,
+        &[gone.load(Ordering::SeqCst), left.load(Ordering::SeqCst)],
+        &[3, 1],
     );
     {
-        let mut owners = NineOwners::open(rt.alloc(), 3)?;
+        let mut owners = NineOwners::open(&rt, rt.alloc(), 3);
         drop(owners.push(1, Counted { drops: &gone }));
         drop(owners.push(1, Counted { drops: &left }));
         drop(owners.push(5, Counted { drops: &gone }));
@@ -254,14 +263,15 @@ fn values_are_dropped_once(rt: HostRuntime) -> Result<(), Fail> {
         drop(owners.push(2, Counted { drops: &gone }));
         drop(owners.remove(1, 0));
         owners.clear(5);
-        assert_eq!(rt;
-            [gone.load(Ordering::SeqCst), left.load(Ordering::SeqCst)],
-            [6, 1]
+        same(
+            &rt,
+            &[gone.load(Ordering::SeqCst), left.load(Ordering::SeqCst)],
+            &[6, 1],
         );
     }
-    assert_eq!(rt;
-        [gone.load(Ordering::SeqCst), left.load(Ordering::SeqCst)],
-        [6, 2]
+    same(
+        &rt,
+        &[gone.load(Ordering::SeqCst), left.load(Ordering::SeqCst)],
+        &[6, 2],
     );
-    Ok(())
 }

@@ -1,6 +1,7 @@
 //! Fills and rings.
 
 use crate::canvas::{Item, SHADES, Shape, WHOLE, draw, first_number, number_at, seen, white};
+use crate::checks::same_at;
 use gui_base::{Area, Rgb565};
 use gui_color::DrawBuf;
 use std::test::Fail;
@@ -16,12 +17,11 @@ fn fills_are_cut_at_each_side(rt: HostRuntime) -> Result<(), Fail> {
         (Area::at(0, 0, 8, 3), [0, 0x3C, 0x3C, 0, 0, 0]),
         (Area::at(3, 3, 0, 2), [0; 6]),
     ] {
-        assert_eq!(rt;
-            seen(rt.alloc(), clip, fill)?,
-            want,
-            "clip from {}, {}",
-            clip.x1,
-            clip.y1
+        same_at(
+            &rt,
+            &(clip.x1, clip.y1),
+            &seen(rt.alloc(), clip, fill)?,
+            &want,
         );
     }
     Ok(())
@@ -36,12 +36,11 @@ fn fills_end_with_the_buffer(rt: HostRuntime) -> Result<(), Fail> {
         (Area::at(2, 1, 4, 0), [0; 6]),
     ] {
         let fill = white(Shape::Fill, area);
-        assert_eq!(rt;
-            seen(rt.alloc(), WHOLE, fill)?,
-            want,
-            "from {}, {}",
-            area.x1,
-            area.y1
+        same_at(
+            &rt,
+            &(area.x1, area.y1),
+            &seen(rt.alloc(), WHOLE, fill)?,
+            &want,
         );
     }
     Ok(())
@@ -57,7 +56,7 @@ fn rings_have_their_width(rt: HostRuntime) -> Result<(), Fail> {
         (255, [0, 0x7E, 0x7E, 0x7E, 0x7E, 0]),
     ] {
         let ring = white(Shape::Ring { width }, Area::at(1, 1, 6, 4));
-        assert_eq!(rt; seen(rt.alloc(), WHOLE, ring)?, want, "width {width}");
+        same_at(&rt, &width, &seen(rt.alloc(), WHOLE, ring)?, &want);
     }
     Ok(())
 }
@@ -72,12 +71,11 @@ fn rings_are_cut_at_each_side(rt: HostRuntime) -> Result<(), Fail> {
         (Area::at(0, 3, 8, 3), [0, 0, 0, 0xC3, 0xFF, 0xFF]),
         (Area::at(0, 0, 8, 3), [0xFF, 0xFF, 0xC3, 0, 0, 0]),
     ] {
-        assert_eq!(rt;
-            seen(rt.alloc(), clip, ring)?,
-            want,
-            "clip from {}, {}",
-            clip.x1,
-            clip.y1
+        same_at(
+            &rt,
+            &(clip.x1, clip.y1),
+            &seen(rt.alloc(), clip, ring)?,
+            &want,
         );
     }
     Ok(())
@@ -91,12 +89,11 @@ fn rings_end_with_the_buffer(rt: HostRuntime) -> Result<(), Fail> {
         (Area::at(4, 4, 3, 0), [0; 6]),
     ] {
         let ring = white(Shape::Ring { width: 1 }, area);
-        assert_eq!(rt;
-            seen(rt.alloc(), WHOLE, ring)?,
-            want,
-            "from {}, {}",
-            area.x1,
-            area.y1
+        same_at(
+            &rt,
+            &(area.x1, area.y1),
+            &seen(rt.alloc(), WHOLE, ring)?,
+            &want,
         );
     }
     Ok(())
@@ -116,7 +113,7 @@ fn shade(shape: Shape<'_>, opa: u8) -> Item<'_> {
 fn fills_are_mixed_once(rt: HostRuntime) -> Result<(), Fail> {
     for (opa, want) in SHADES {
         let number = first_number(rt.alloc(), &[shade(Shape::Fill, opa)])?;
-        assert_eq!(rt; number, want, "opacity {opa}");
+        same_at(&rt, &opa, &number, &want);
     }
     Ok(())
 }
@@ -132,7 +129,7 @@ fn corners_are_mixed_once(rt: HostRuntime) -> Result<(), Fail> {
             &[shade(Shape::Ring { width: 1 }, opa)],
         );
         let numbers = [0, 1, 7, 8, 47].map(|i| number_at(buf.pixels(), i));
-        assert_eq!(rt; numbers, [want; 5], "opacity {opa}");
+        same_at(&rt, &opa, &numbers, &[want; 5]);
     }
     Ok(())
 }

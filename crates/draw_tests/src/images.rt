@@ -1,6 +1,7 @@
 //! Images.
 
 use crate::canvas::{Item, SHADES, Shape, WHOLE, draw, first_number, number_at, white};
+use crate::checks::same_at;
 use gui_base::{Area, NoMemory, Rgb565};
 use gui_color::DrawBuf;
 use gui_font::{Format, Images};
@@ -50,7 +51,7 @@ fn images_are_cut_at_each_side(rt: HostRuntime) -> Result<(), Fail> {
         (Area::at(0, 0, 4, 1), [1, 2, 3, 0, 0, 0, 0, 0]),
     ] {
         let numbers = shown(rt.alloc(), &images, clip, WHOLE)?;
-        assert_eq!(rt; numbers, want, "clip from {}, {}", clip.x1, clip.y1);
+        same_at(&rt, &(clip.x1, clip.y1), &numbers, &want);
     }
     Ok(())
 }
@@ -64,7 +65,7 @@ fn images_stand_at_the_top_left_of_their_area(rt: HostRuntime) -> Result<(), Fai
         (Area::at(1, 0, 0, 2), [0; 8]),
     ] {
         let numbers = shown(rt.alloc(), &images, WHOLE, area)?;
-        assert_eq!(rt; numbers, want, "from {}, {}", area.x1, area.y1);
+        same_at(&rt, &(area.x1, area.y1), &numbers, &want);
     }
     Ok(())
 }
@@ -84,7 +85,7 @@ fn images_are_mixed_once(rt: HostRuntime) -> Result<(), Fail> {
     let images = images(rt.alloc())?;
     for (opa, want) in SHADES {
         let number = first_number(rt.alloc(), &[image(&images, 2, opa)])?;
-        assert_eq!(rt; number, want, "opacity {opa}");
+        same_at(&rt, &opa, &number, &want);
     }
     Ok(())
 }
@@ -101,7 +102,7 @@ fn texels_have_their_opacity(rt: HostRuntime) -> Result<(), Fail> {
         (5, 255, 0xFFFF),
     ] {
         let number = first_number(rt.alloc(), &[under, image(&images, id, opa)])?;
-        assert_eq!(rt; number, want, "image {id}, opacity {opa}");
+        same_at(&rt, &(id, opa), &number, &want);
     }
     Ok(())
 }

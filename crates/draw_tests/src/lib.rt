@@ -6,6 +6,8 @@ mod areas;
 #[cfg(test)]
 mod canvas;
 #[cfg(test)]
+mod checks;
+#[cfg(test)]
 mod images;
 #[cfg(test)]
 mod rows;

@@ -2,6 +2,7 @@
 ghost use Rattle.std.specs.Prelude.{length, ◌*◌, ◌+◌, ◌≤◌};
 
 use crate::canvas::lines_of;
+use crate::checks::same_at;
 use gui_base::Rgb565;
 use gui_color::{fill_row, mask_bit, mask_row, mix, mix_row};
 
@@ -18,7 +19,7 @@ fn masked(bits: &[u8], first: u32) -> u8
 fn masks_read_the_high_bit_first(rt: HostRuntime) {
     let bits = [0xA1, 0x0F];
     for (first, want) in [(0, 0xA1), (1, 0x42), (5, 0x21), (8, 0x0F)] {
-        assert_eq!(rt; masked(&bits, first), want, "from {first}");
+        same_at(&rt, &first, &masked(&bits, first), &want);
     }
 }
 
@@ -136,7 +137,7 @@ fn is_right(len: usize) -> bool
 #[test]
 fn rows_of_each_length_are_mixed(rt: HostRuntime) {
     for len in 0..41 {
-        assert!(rt; is_right(len), "rows of {len}");
+        same_at(&rt, &len, &is_right(len), &true);
     }
-    assert!(rt; is_right(LONGEST));
+    same_at(&rt, &LONGEST, &is_right(LONGEST), &true);
 }

@@ -2,6 +2,7 @@
 ghost use Rattle.std.specs.Prelude.{◌<◌};
 
 use crate::canvas::{Item, Shape, WHOLE, draw};
+use crate::checks::same_at;
 use gui_base::{Area, Rgb565};
 use gui_color::DrawBuf;
 use gui_font::{Fonts, Format, Images};
@@ -84,10 +85,11 @@ fn a_slice_is_a_line_of_the_whole(rt: HostRuntime) -> Result<(), Fail> {
     for y in 0..6u8 {
         let mut slice = DrawBuf::open(rt.alloc(), 8)?;
         draw(&mut slice, Area::at(0, i32::from(y), 8, 1), WHOLE, &items);
-        assert_eq!(rt;
-            slice.pixels(),
-            line(whole.pixels(), usize::from(y)),
-            "line {y}"
+        same_at(
+            &rt,
+            &y,
+            &slice.pixels(),
+            &line(whole.pixels(), usize::from(y)),
         );
     }
     Ok(())

@@ -1,6 +1,7 @@
 //! Texts.
 
 use crate::canvas::{Item, SHADES, Shape, WHOLE, first_number, seen, white};
+use crate::checks::same_at;
 use gui_base::{Area, Rgb565};
 use gui_font::{Fonts, GlyphBox};
 use std::alloc::Global;
@@ -52,12 +53,11 @@ fn letters_are_cut_at_each_side(rt: HostRuntime) -> Result<(), Fail> {
         (Area::at(0, 3, 8, 3), [0, 0, 0, 0xF8, 0x88, 0x88]),
         (Area::at(0, 0, 8, 2), [0x88, 0x88, 0, 0, 0, 0]),
     ] {
-        assert_eq!(rt;
-            seen(rt.alloc(), clip, letter)?,
-            want,
-            "clip from {}, {}",
-            clip.x1,
-            clip.y1
+        same_at(
+            &rt,
+            &(clip.x1, clip.y1),
+            &seen(rt.alloc(), clip, letter)?,
+            &want,
         );
     }
     Ok(())
@@ -86,12 +86,11 @@ fn texts_are_cut_at_their_area(rt: HostRuntime) -> Result<(), Fail> {
         (Area::at(0, 0, 8, 6), "é", [0; 6]),
     ] {
         let item = white(plain(&fonts, text), area);
-        assert_eq!(rt;
-            seen(rt.alloc(), WHOLE, item)?,
-            want,
-            "{text} from {}, {}",
-            area.x1,
-            area.y1
+        same_at(
+            &rt,
+            &(text, area.x1, area.y1),
+            &seen(rt.alloc(), WHOLE, item)?,
+            &want,
         );
     }
     Ok(())
@@ -107,7 +106,7 @@ fn ink_stays_in_its_cell(rt: HostRuntime) -> Result<(), Fail> {
     };
     for (clip, want) in [(WHOLE, 0xCC), (Area::at(1, 0, 4, 2), 0x48)] {
         let lines = seen(rt.alloc(), clip, white(bars, WHOLE))?;
-        assert_eq!(rt; lines, [want, 0, 0, 0, 0, 0], "clip from {}", clip.x1);
+        same_at(&rt, &clip.x1, &lines, &[want, 0, 0, 0, 0, 0]);
     }
     Ok(())
 }
@@ -122,7 +121,7 @@ fn ink_is_mixed_once(rt: HostRuntime) -> Result<(), Fail> {
             color: Rgb565::WHITE,
             opa,
         };
-        assert_eq!(rt; first_number(rt.alloc(), &[letter])?, want, "opacity {opa}");
+        same_at(&rt, &opa, &first_number(rt.alloc(), &[letter])?, &want);
     }
     Ok(())
 }

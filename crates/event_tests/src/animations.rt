@@ -2,9 +2,9 @@
 ghost use Rattle.std.specs.Prelude.{◌≡◌, true};
 ghost use Rattle.play_defs.specs.Animation.{IsAnim};
 
+use crate::checks::{holds, same};
 use gui_anim::{AnimSpec, AnimValue, Anims, Path, Var, value_of};
 use gui_base::{Handle, Pool, Refusal};
-use std::test::Fail;
 
 /// From 0 to 100 in a second, once.
 fn hundred(path: Path) -> AnimSpec
@@ -53,25 +53,25 @@ fn goes(path: Path, wanted: [i32; 4]) -> bool {
 
 #[test]
 fn five_paths_go_from_end_to_end(rt: HostRuntime) {
-    assert!(rt; goes(Path::Linear, [0, 25, 50, 99]));
-    assert!(rt; goes(Path::Step, [0, 0, 0, 0]));
-    assert!(rt; goes(Path::EaseIn, [0, 4, 17, 99]));
-    assert!(rt; goes(Path::EaseOut, [0, 51, 80, 99]));
-    assert!(rt; goes(Path::EaseInOut, [0, 16, 49, 99]));
+    holds(&rt, goes(Path::Linear, [0, 25, 50, 99]));
+    holds(&rt, goes(Path::Step, [0, 0, 0, 0]));
+    holds(&rt, goes(Path::EaseIn, [0, 4, 17, 99]));
+    holds(&rt, goes(Path::EaseOut, [0, 51, 80, 99]));
+    holds(&rt, goes(Path::EaseInOut, [0, 16, 49, 99]));
 }
 
 #[test]
 fn delay_playback_and_repeats(rt: HostRuntime) {
     let spec = there_and_back();
-    assert_eq!(rt; value_of(&spec, 39), AnimValue::Before);
-    assert_eq!(rt; value_of(&spec, 40), AnimValue::Now(100));
-    assert_eq!(rt; value_of(&spec, 211), AnimValue::Now(31));
-    assert_eq!(rt; value_of(&spec, 540), AnimValue::Now(-100));
-    assert_eq!(rt; value_of(&spec, 639), AnimValue::Now(-2));
-    assert_eq!(rt; value_of(&spec, 740), AnimValue::Now(100));
-    assert_eq!(rt; value_of(&spec, 2139), AnimValue::Now(98));
-    assert_eq!(rt; value_of(&spec, 2140), AnimValue::Last(100));
-    assert_eq!(rt; value_of(&spec, u64::MAX), AnimValue::Last(100));
+    same(&rt, &value_of(&spec, 39), &AnimValue::Before);
+    same(&rt, &value_of(&spec, 40), &AnimValue::Now(100));
+    same(&rt, &value_of(&spec, 211), &AnimValue::Now(31));
+    same(&rt, &value_of(&spec, 540), &AnimValue::Now(-100));
+    same(&rt, &value_of(&spec, 639), &AnimValue::Now(-2));
+    same(&rt, &value_of(&spec, 740), &AnimValue::Now(100));
+    same(&rt, &value_of(&spec, 2139), &AnimValue::Now(98));
+    same(&rt, &value_of(&spec, 2140), &AnimValue::Last(100));
+    same(&rt, &value_of(&spec, u64::MAX), &AnimValue::Last(100));
 }
 
 /// Whose the nth animation is, and when it was started.
@@ -81,24 +81,27 @@ fn nth(anims: &Anims, n: u32) -> Option<(u16, u64)> {
 }
 
 #[test]
-fn the_last_slot_and_a_replacement(rt: HostRuntime) -> Result<(), Fail> {
-    let mut anims = Anims::open(rt.alloc(), 2)?;
-    assert_eq!(rt; anims.start(hundred(Path::Step), 7), Ok(()));
-    assert_eq!(rt; anims.start(there_and_back(), 8), Ok(()));
+fn the_last_slot_and_a_replacement(rt: HostRuntime) {
+    let mut anims = Anims::open(rt.alloc(), 2).expect(&rt, "no memory");
+    same(&rt, &anims.start(hundred(Path::Step), 7), &Ok(()));
+    same(&rt, &anims.start(there_and_back(), 8), &Ok(()));
     let mut third = hundred(Path::Step);
     third.var = Var::Y;
-    assert_eq!(rt; anims.start(third, 9), Err(Refusal::Full(Pool::Anims)));
-    assert_eq!(rt; anims.start(hundred(Path::Linear), 9), Ok(()));
-    assert_eq!(rt; nth(&anims, 0), Some((11, 8)));
-    assert_eq!(rt; nth(&anims, 1), Some((10, 9)));
-    assert_eq!(rt; nth(&anims, 2), None);
-    assert_eq!(rt; anims.stop(Handle(11), Var::X), Err(Refusal::Unknown));
+    same(
+        &rt,
+        &anims.start(third, 9),
+        &Err(Refusal::Full(Pool::Anims)),
+    );
+    same(&rt, &anims.start(hundred(Path::Linear), 9), &Ok(()));
+    same(&rt, &nth(&anims, 0), &Some((11, 8)));
+    same(&rt, &nth(&anims, 1), &Some((10, 9)));
+    same(&rt, &nth(&anims, 2), &None);
+    same(&rt, &anims.stop(Handle(11), Var::X), &Err(Refusal::Unknown));
     anims.drop_ended(1008);
-    assert_eq!(rt; anims.spare(), 0);
+    same(&rt, &anims.spare(), &0);
     anims.drop_ended(1009);
-    assert_eq!(rt; nth(&anims, 0), Some((11, 8)));
-    assert_eq!(rt; anims.spare(), 1);
+    same(&rt, &nth(&anims, 0), &Some((11, 8)));
+    same(&rt, &anims.spare(), &1);
     anims.forget(Handle(11));
-    assert_eq!(rt; anims.spare(), 2);
-    Ok(())
+    same(&rt, &anims.spare(), &2);
 }

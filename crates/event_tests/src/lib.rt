@@ -4,6 +4,8 @@
 #[cfg(test)]
 mod animations;
 #[cfg(test)]
+mod checks;
+#[cfg(test)]
 mod focus;
 #[cfg(test)]
 mod handlers;

@@ -2,8 +2,10 @@
 ghost use Rattle.std.specs.Prelude.{IfSome};
 ghost use Rattle.gui_input.specs.Points.{IsPoint};
 
+use crate::checks::same;
 use gui_base::Key;
 use gui_input::{Encoder, EncoderReading, InputEvent, KeyReading, Keypad, Pointer, PointerReading};
+use std::process::Abort;
 
 /// A point that is touched or left.
 fn touch(down: bool) -> Option<PointerReading>
@@ -26,65 +28,112 @@ fn hold(from_x: i32, from_y: i32, step_x: i32, step_y: i32) -> InputEvent {
     }
 }
 
-/// Whether a pointer that is pressed at 0 tells these events at a tick.
-fn tells_at(pointer: &mut Pointer, now: u64, wanted: &[InputEvent]) -> bool {
-    pointer.feed(None, now).as_slice() == wanted
+/// A pointer tells these events at a tick.
+fn pointed(
+    rt: &impl Abort,
+    pointer: &mut Pointer,
+    reading: Option<PointerReading>,
+    now: u64,
+    wanted: &[InputEvent],
+)
+    requires { IfSome reading IsPoint }
+{
+    same(rt, &pointer.feed(reading, now).as_slice(), &wanted);
+}
+
+/// A pointer that is not read tells these events at a tick.
+fn waited(rt: &impl Abort, pointer: &mut Pointer, now: u64, wanted: &[InputEvent]) {
+    pointed(rt, pointer, None, now, wanted);
 }
 
 #[test]
 fn a_press_becomes_long_and_is_repeated(rt: HostRuntime) {
     let mut pointer = Pointer::new();
-    assert!(rt; pointer.feed(touch(true), 0).as_slice() == [InputEvent::Press].as_slice());
-    assert!(rt; tells_at(&mut pointer, 399, &[]));
-    assert!(rt; tells_at(&mut pointer, 400, &[InputEvent::Long]));
-    assert!(rt; tells_at(&mut pointer, 499, &[]));
-    assert!(rt; tells_at(&mut pointer, 500, &[InputEvent::Repeat]));
-    assert!(rt; tells_at(&mut pointer, 501, &[]));
-    assert!(rt; pointer.feed(touch(true), 502).as_slice() == [hold(0, 0, 0, 0)].as_slice());
+    pointed(&rt, &mut pointer, touch(true), 0, &[InputEvent::Press]);
+    waited(&rt, &mut pointer, 399, &[]);
+    waited(&rt, &mut pointer, 400, &[InputEvent::Long]);
+    waited(&rt, &mut pointer, 499, &[]);
+    waited(&rt, &mut pointer, 500, &[InputEvent::Repeat]);
+    waited(&rt, &mut pointer, 501, &[]);
+    pointed(&rt, &mut pointer, touch(true), 502, &[hold(0, 0, 0, 0)]);
     let ends = [InputEvent::Release { long: true }];
-    assert!(rt; pointer.feed(touch(false), 503).as_slice() == ends.as_slice());
-    assert!(rt; pointer.feed(touch(false), 504).is_empty());
+    pointed(&rt, &mut pointer, touch(false), 503, &ends);
+    pointed(&rt, &mut pointer, touch(false), 504, &[]);
 }
 
 #[test]
 fn a_pointer_tells_how_far_it_goes(rt: HostRuntime) {
     let mut pointer = Pointer::new();
     let down = |x: i32, y: i32| Some(PointerReading { x, y, down: true });
-    assert!(rt; pointer.feed(down(5, 15), 0).as_slice() == [InputEvent::Press].as_slice());
-    assert!(rt; pointer.feed(down(5, 10), 0).as_slice() == [hold(0, -5, 0, -5)].as_slice());
-    assert!(rt; pointer.feed(down(7, 4), 0).as_slice() == [hold(2, -11, 2, -6)].as_slice());
-    assert!(rt;
-        pointer.feed(touch(false), 0).as_slice() == [InputEvent::Release { long: false }].as_slice()
+    pointed(&rt, &mut pointer, down(5, 15), 0, &[InputEvent::Press]);
+    pointed(&rt, &mut pointer, down(5, 10), 0, &[hold(0, -5, 0, -5)]);
+    pointed(&rt, &mut pointer, down(7, 4), 0, &[hold(2, -11, 2, -6)]);
+    let ends = [InputEvent::Release { long: false }];
+    pointed(&rt, &mut pointer, touch(false), 0, &ends);
+    pointed(&rt, &mut pointer, down(-4000, 9), 0, &[InputEvent::Press]);
+    pointed(
+        &rt,
+        &mut pointer,
+        down(4000, 9),
+        0,
+        &[hold(8000, 0, 8000, 0)],
     );
-    assert!(rt; pointer.feed(down(-4000, 9), 0).as_slice() == [InputEvent::Press].as_slice());
-    assert!(rt; pointer.feed(down(4000, 9), 0).as_slice() == [hold(8000, 0, 8000, 0)].as_slice());
+}
+
+/// An encoder tells these events at a tick.
+fn turned(
+    rt: &impl Abort,
+    encoder: &mut Encoder,
+    reading: Option<EncoderReading>,
+    now: u64,
+    wanted: &[InputEvent],
+) {
+    same(rt, &encoder.feed(reading, now).as_slice(), &wanted);
 }
 
 #[test]
 fn a_push_is_long_once(rt: HostRuntime) {
     let mut encoder = Encoder::new();
-    let push = |down: bool| Some(EncoderReading::Push(down));
-    assert!(rt; encoder.feed(push(true), 0).as_slice() == [InputEvent::Press].as_slice());
-    assert!(rt; encoder.feed(push(true), 1).is_empty());
-    assert!(rt; encoder.feed(None, 400).as_slice() == [InputEvent::Long].as_slice());
-    assert!(rt; encoder.feed(None, 900).is_empty());
-    let turns = [InputEvent::Turn(-3)];
-    assert!(rt; encoder.feed(Some(EncoderReading::Turn(-3)), 901).as_slice() == turns.as_slice());
+    let (down, up) = (EncoderReading::Push(true), EncoderReading::Push(false));
+    turned(&rt, &mut encoder, Some(down), 0, &[InputEvent::Press]);
+    turned(&rt, &mut encoder, Some(down), 1, &[]);
+    turned(&rt, &mut encoder, None, 400, &[InputEvent::Long]);
+    turned(&rt, &mut encoder, None, 900, &[]);
+    let turn = Some(EncoderReading::Turn(-3));
+    turned(&rt, &mut encoder, turn, 901, &[InputEvent::Turn(-3)]);
     let ends = [InputEvent::Release { long: true }];
-    assert!(rt; encoder.feed(push(false), 902).as_slice() == ends.as_slice());
+    turned(&rt, &mut encoder, Some(up), 902, &ends);
+}
+
+/// A keypad tells these events at a tick.
+fn typed(
+    rt: &impl Abort,
+    keypad: &mut Keypad,
+    reading: Option<KeyReading>,
+    now: u64,
+    wanted: &[InputEvent],
+) {
+    same(rt, &keypad.feed(reading, now).as_slice(), &wanted);
 }
 
 #[test]
 fn a_second_key_lets_go_of_enter(rt: HostRuntime) {
     let mut keypad = Keypad::new();
-    assert!(rt; keypad.feed(key(Key::Enter, true), 0).as_slice() == [InputEvent::Press].as_slice());
-    assert!(rt; keypad.feed(key(Key::Enter, true), 399).is_empty());
+    let down = key(Key::Enter, true);
+    typed(&rt, &mut keypad, down, 0, &[InputEvent::Press]);
+    typed(&rt, &mut keypad, down, 399, &[]);
     let told = [
         InputEvent::Release { long: false },
         InputEvent::Key(Key::Left),
     ];
-    assert!(rt; keypad.feed(key(Key::Left, true), 399).as_slice() == told.as_slice());
-    assert!(rt; keypad.feed(None, 800).is_empty());
-    assert!(rt; keypad.feed(key(Key::Enter, false), 801).is_empty());
-    assert!(rt; keypad.feed(key(Key::Prev, true), 802).as_slice() == [InputEvent::Prev].as_slice());
+    typed(&rt, &mut keypad, key(Key::Left, true), 399, &told);
+    typed(&rt, &mut keypad, None, 800, &[]);
+    typed(&rt, &mut keypad, key(Key::Enter, false), 801, &[]);
+    typed(
+        &rt,
+        &mut keypad,
+        key(Key::Prev, true),
+        802,
+        &[InputEvent::Prev],
+    );
 }

@@ -1,8 +1,9 @@
 //! Cascades with winners that were worked out by hand, and each pool of the styles at its last slot.
-use gui_base::{Handle, NoMemory, Pool, Refusal};
+use crate::checks::same;
+use gui_base::{Handle, Pool, Refusal};
 use gui_style::{Part, Prop, Selector, Styles};
 use std::alloc::Global;
-use std::test::Fail;
+use std::process::Abort;
 
 const OBJECT: Handle = Handle(10);
 
@@ -11,11 +12,8 @@ const CHECKED: u16 = 0x0001;
 const PRESSED: u16 = 0x0020;
 
 /// Styles with so many slots in each pool.
-fn opened(alloc: Global, slots: u32) -> Result<Styles, &'static str> {
-    match Styles::open(alloc, slots, slots, slots) {
-        Ok(styles) => Ok(styles),
-        Err(NoMemory) => Err("no memory"),
-    }
+fn opened(rt: &impl Abort, alloc: Global, slots: u32) -> Styles {
+    Styles::open(alloc, slots, slots, slots).expect(rt, "no memory")
 }
 
 fn on(part: Part, states: u16) -> Selector {
@@ -23,14 +21,13 @@ fn on(part: Part, states: u16) -> Selector {
 }
 
 /// The styles 1 and 2, which set an opacity of 10 and of 20.
-fn two_styles(alloc: Global) -> Result<Styles, &'static str> {
-    let mut styles = opened(alloc, 8)?;
+fn two_styles(rt: &impl Abort, alloc: Global) -> Styles {
+    let mut styles = opened(rt, alloc, 8);
     for (id, opacity) in [(1, 10), (2, 20)] {
-        if styles.style(id).is_err() || styles.style_prop(id, Prop::BgOpa, opacity).is_err() {
-            return Err("refused");
-        }
+        let done = styles.style(id).is_ok() && styles.style_prop(id, Prop::BgOpa, opacity).is_ok();
+        same(rt, &done, &true);
     }
-    Ok(styles)
+    styles
 }
 
 /// The opacity that wins at the object in no state, checked, pressed, and in both.
@@ -51,74 +48,78 @@ fn spare(styles: &Styles) -> [u32; 3] {
 }
 
 #[test]
-fn greater_states_win(rt: HostRuntime) -> Result<(), Fail> {
-    let mut styles = two_styles(rt.alloc())?;
+fn greater_states_win(rt: HostRuntime) {
+    let mut styles = two_styles(&rt, rt.alloc());
     let answers = [
         styles.add_style(OBJECT, 1, on(Part::Main, PRESSED)),
         styles.set_local(OBJECT, on(Part::Main, CHECKED), Prop::BgOpa, 30),
     ];
-    assert_eq!(rt; answers, [Ok(()), Ok(())]);
-    assert_eq!(rt;
-        winners(&styles, Part::Main),
-        [None, Some(30), Some(10), Some(10)]
+    same(&rt, &answers, &[Ok(()), Ok(())]);
+    same(
+        &rt,
+        &winners(&styles, Part::Main),
+        &[None, Some(30), Some(10), Some(10)],
     );
 
     // What is set for two states applies in both of them alone.
     let both = on(Part::Main, CHECKED | PRESSED);
-    assert_eq!(rt; styles.set_local(OBJECT, both, Prop::BgOpa, 40), Ok(()));
-    assert_eq!(rt;
-        winners(&styles, Part::Main),
-        [None, Some(30), Some(10), Some(40)]
+    same(
+        &rt,
+        &styles.set_local(OBJECT, both, Prop::BgOpa, 40),
+        &Ok(()),
+    );
+    same(
+        &rt,
+        &winners(&styles, Part::Main),
+        &[None, Some(30), Some(10), Some(40)],
     );
 
     // Another part, another property and another object have nothing.
-    assert_eq!(rt; winners(&styles, Part::Knob), [None; 4]);
+    same(&rt, &winners(&styles, Part::Knob), &[None; 4]);
     let others = [
         styles.lookup(OBJECT, Part::Main, PRESSED, Prop::BgColor),
         styles.lookup(Handle(11), Part::Main, PRESSED, Prop::BgOpa),
     ];
-    assert_eq!(rt; others, [None; 2]);
-    Ok(())
+    same(&rt, &others, &[None; 2]);
 }
 
 #[test]
-fn local_entries_win_where_states_are_equal(rt: HostRuntime) -> Result<(), Fail> {
-    let mut styles = two_styles(rt.alloc())?;
+fn local_entries_win_where_states_are_equal(rt: HostRuntime) {
+    let mut styles = two_styles(&rt, rt.alloc());
     let answers = [
         styles.set_local(OBJECT, on(Part::Knob, 0), Prop::BgOpa, 30),
         styles.add_style(OBJECT, 1, on(Part::Knob, 0)),
     ];
-    assert_eq!(rt; answers, [Ok(()), Ok(())]);
-    assert_eq!(rt; winners(&styles, Part::Knob), [Some(30); 4]);
-    assert_eq!(rt;
-        styles.unset_local(OBJECT, on(Part::Knob, 0), Prop::BgOpa),
-        Ok(())
+    same(&rt, &answers, &[Ok(()), Ok(())]);
+    same(&rt, &winners(&styles, Part::Knob), &[Some(30); 4]);
+    same(
+        &rt,
+        &styles.unset_local(OBJECT, on(Part::Knob, 0), Prop::BgOpa),
+        &Ok(()),
     );
-    assert_eq!(rt; winners(&styles, Part::Knob), [Some(10); 4]);
-    Ok(())
+    same(&rt, &winners(&styles, Part::Knob), &[Some(10); 4]);
 }
 
 #[test]
-fn a_style_that_is_used_again_is_the_last(rt: HostRuntime) -> Result<(), Fail> {
-    let mut styles = two_styles(rt.alloc())?;
+fn a_style_that_is_used_again_is_the_last(rt: HostRuntime) {
+    let mut styles = two_styles(&rt, rt.alloc());
     let main = on(Part::Main, 0);
     let answers = [
         styles.add_style(OBJECT, 1, main),
         styles.add_style(OBJECT, 2, main),
     ];
-    assert_eq!(rt; answers, [Ok(()), Ok(())]);
-    assert_eq!(rt; winners(&styles, Part::Main), [Some(20); 4]);
+    same(&rt, &answers, &[Ok(()), Ok(())]);
+    same(&rt, &winners(&styles, Part::Main), &[Some(20); 4]);
     let answers = [
         styles.remove_style(OBJECT, 1, main),
         styles.add_style(OBJECT, 1, main),
     ];
-    assert_eq!(rt; answers, [Ok(()), Ok(())]);
-    assert_eq!(rt; winners(&styles, Part::Main), [Some(10); 4]);
+    same(&rt, &answers, &[Ok(()), Ok(())]);
+    same(&rt, &winners(&styles, Part::Main), &[Some(10); 4]);
 
     // A property that a style loses is given by the other.
-    assert_eq!(rt; styles.unset_prop(1, Prop::BgOpa), Ok(()));
-    assert_eq!(rt; winners(&styles, Part::Main), [Some(20); 4]);
-    Ok(())
+    same(&rt, &styles.unset_prop(1, Prop::BgOpa), &Ok(()));
+    same(&rt, &winners(&styles, Part::Main), &[Some(20); 4]);
 }
 
 /// The first three users of a style.
@@ -132,8 +133,8 @@ fn first_users(styles: &Styles, id: u16) -> [Option<Handle>; 3] {
 }
 
 #[test]
-fn users_of_a_style_come_once_for_each_use(rt: HostRuntime) -> Result<(), Fail> {
-    let mut styles = two_styles(rt.alloc())?;
+fn users_of_a_style_come_once_for_each_use(rt: HostRuntime) {
+    let mut styles = two_styles(&rt, rt.alloc());
     let other = Handle(11);
     let answers = [
         styles.add_style(OBJECT, 1, on(Part::Main, 0)),
@@ -141,24 +142,32 @@ fn users_of_a_style_come_once_for_each_use(rt: HostRuntime) -> Result<(), Fail> 
         styles.add_style(OBJECT, 1, on(Part::Knob, 0)),
         styles.add_style(other, 2, on(Part::Main, 0)),
     ];
-    assert_eq!(rt; answers, [Ok(()); 4]);
-    assert_eq!(rt;
-        first_users(&styles, 1),
-        [Some(OBJECT), Some(other), Some(OBJECT)]
+    same(&rt, &answers, &[Ok(()); 4]);
+    same(
+        &rt,
+        &first_users(&styles, 1),
+        &[Some(OBJECT), Some(other), Some(OBJECT)],
     );
-    assert_eq!(rt; first_users(&styles, 2), [Some(other), None, None]);
+    same(&rt, &first_users(&styles, 2), &[Some(other), None, None]);
 
-    assert_eq!(rt; styles.remove_style(other, 1, on(Part::Main, 0)), Ok(()));
-    assert_eq!(rt; first_users(&styles, 1), [Some(OBJECT), Some(OBJECT), None]);
+    same(
+        &rt,
+        &styles.remove_style(other, 1, on(Part::Main, 0)),
+        &Ok(()),
+    );
+    same(
+        &rt,
+        &first_users(&styles, 1),
+        &[Some(OBJECT), Some(OBJECT), None],
+    );
     styles.forget(OBJECT);
-    assert_eq!(rt; first_users(&styles, 1), [None; 3]);
-    assert_eq!(rt; first_users(&styles, 2), [Some(other), None, None]);
-    Ok(())
+    same(&rt, &first_users(&styles, 1), &[None; 3]);
+    same(&rt, &first_users(&styles, 2), &[Some(other), None, None]);
 }
 
 #[test]
-fn the_last_slot_of_each_pool(rt: HostRuntime) -> Result<(), Fail> {
-    let mut styles = opened(rt.alloc(), 1)?;
+fn the_last_slot_of_each_pool(rt: HostRuntime) {
+    let mut styles = opened(&rt, rt.alloc(), 1);
     let main = on(Part::Main, 0);
     let answers = [
         styles.style(999),
@@ -170,9 +179,10 @@ fn the_last_slot_of_each_pool(rt: HostRuntime) -> Result<(), Fail> {
         styles.style_prop(999, Prop::PadTop, 2),
         styles.set_local(OBJECT, main, Prop::PadTop, 3),
     ];
-    assert_eq!(rt;
-        answers,
-        [
+    same(
+        &rt,
+        &answers,
+        &[
             Ok(()),
             Err(Refusal::Taken),
             Err(Refusal::Full(Pool::Styles)),
@@ -180,7 +190,7 @@ fn the_last_slot_of_each_pool(rt: HostRuntime) -> Result<(), Fail> {
             Ok(()),
             Ok(()),
             Err(Refusal::Full(Pool::Entries)),
-        ]
+        ],
     );
     let answers = [
         styles.add_style(OBJECT, 1, main),
@@ -188,22 +198,22 @@ fn the_last_slot_of_each_pool(rt: HostRuntime) -> Result<(), Fail> {
         styles.add_style(OBJECT, 999, main),
         styles.add_style(OBJECT, 999, on(Part::Knob, 0)),
     ];
-    assert_eq!(rt;
-        answers,
-        [
+    same(
+        &rt,
+        &answers,
+        &[
             Err(Refusal::Unknown),
             Ok(()),
             Err(Refusal::Taken),
             Err(Refusal::Full(Pool::Uses)),
-        ]
+        ],
     );
-    assert_eq!(rt; spare(&styles), [0, 0, 0]);
-    Ok(())
+    same(&rt, &spare(&styles), &[0, 0, 0]);
 }
 
 #[test]
-fn what_is_removed_gives_its_slot_back(rt: HostRuntime) -> Result<(), Fail> {
-    let mut styles = opened(rt.alloc(), 2)?;
+fn what_is_removed_gives_its_slot_back(rt: HostRuntime) {
+    let mut styles = opened(&rt, rt.alloc(), 2);
     let main = on(Part::Main, 0);
     let answers = [
         styles.style(1),
@@ -211,27 +221,35 @@ fn what_is_removed_gives_its_slot_back(rt: HostRuntime) -> Result<(), Fail> {
         styles.set_local(OBJECT, main, Prop::PadTop, 2),
         styles.add_style(OBJECT, 1, main),
     ];
-    assert_eq!(rt; answers, [Ok(()); 4]);
-    assert_eq!(rt; spare(&styles), [1, 0, 1]);
+    same(&rt, &answers, &[Ok(()); 4]);
+    same(&rt, &spare(&styles), &[1, 0, 1]);
     styles.forget(OBJECT);
-    assert_eq!(rt; spare(&styles), [1, 1, 2]);
-    assert_eq!(rt; styles.lookup(OBJECT, Part::Main, 0, Prop::PadTop), None);
+    same(&rt, &spare(&styles), &[1, 1, 2]);
+    same(
+        &rt,
+        &styles.lookup(OBJECT, Part::Main, 0, Prop::PadTop),
+        &None,
+    );
     let answers = [
         styles.unset_local(OBJECT, main, Prop::PadTop),
         styles.remove_style(OBJECT, 1, main),
         styles.unset_prop(1, Prop::PadTop),
         styles.unset_prop(1, Prop::PadTop),
     ];
-    assert_eq!(rt;
-        answers,
-        [
+    same(
+        &rt,
+        &answers,
+        &[
             Err(Refusal::Unknown),
             Err(Refusal::Unknown),
             Ok(()),
             Err(Refusal::Unknown),
-        ]
+        ],
     );
-    assert_eq!(rt; (styles.has_style(1), styles.has_style(2)), (true, false));
-    assert_eq!(rt; spare(&styles), [1, 2, 2]);
-    Ok(())
+    same(
+        &rt,
+        &(styles.has_style(1), styles.has_style(2)),
+        &(true, false),
+    );
+    same(&rt, &spare(&styles), &[1, 2, 2]);
 }

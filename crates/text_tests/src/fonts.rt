@@ -1,8 +1,8 @@
 //! Fonts that are built glyph by glyph: each refusal in its order, and each pool at its last slot.
+use crate::checks::same;
 use crate::texts::{opened, plain};
-use gui_base::{NoMemory, Pool, Refusal};
+use gui_base::{Pool, Refusal};
 use gui_font::{Fonts, GlyphBox};
-use std::test::Fail;
 
 /// A glyph without points.
 pub(crate) fn blank(advance: u8) -> GlyphBox {
@@ -25,8 +25,8 @@ const BAR: GlyphBox = GlyphBox {
 };
 
 #[test]
-fn refusals_come_in_order(rt: HostRuntime) -> Result<(), Fail> {
-    let mut fonts = opened(rt.alloc(), 2)?;
+fn refusals_come_in_order(rt: HostRuntime) {
+    let mut fonts = opened(&rt, rt.alloc(), 2);
     let answers = [
         fonts.glyph(1, 'a', BAR, &[]),
         fonts.finish(1),
@@ -37,9 +37,10 @@ fn refusals_come_in_order(rt: HostRuntime) -> Result<(), Fail> {
         fonts.glyph(1, 'b', BAR, &[]),
         fonts.finish(1),
     ];
-    assert_eq!(rt;
-        answers,
-        [
+    same(
+        &rt,
+        &answers,
+        &[
             Err(Refusal::Unknown),
             Err(Refusal::Unknown),
             Ok(()),
@@ -48,7 +49,7 @@ fn refusals_come_in_order(rt: HostRuntime) -> Result<(), Fail> {
             Err(Refusal::Taken),
             Err(Refusal::Place),
             Ok(()),
-        ]
+        ],
     );
     // A character that is there is refused before the font that takes no more.
     let after = [
@@ -56,45 +57,46 @@ fn refusals_come_in_order(rt: HostRuntime) -> Result<(), Fail> {
         fonts.glyph(1, 'a', BAR, &[0xE0]),
         fonts.glyph(1, 'b', BAR, &[0xE0]),
     ];
-    assert_eq!(rt;
-        after,
-        [
+    same(
+        &rt,
+        &after,
+        &[
             Err(Refusal::Place),
             Err(Refusal::Taken),
-            Err(Refusal::Place)
-        ]
+            Err(Refusal::Place),
+        ],
     );
-    Ok(())
 }
 
 #[test]
-fn the_built_in_font_is_finished(rt: HostRuntime) -> Result<(), Fail> {
-    let mut fonts = opened(rt.alloc(), 2)?;
+fn the_built_in_font_is_finished(rt: HostRuntime) {
+    let mut fonts = opened(&rt, rt.alloc(), 2);
     let answers = [
         fonts.begin(0, 8, 6),
         fonts.glyph(0, 'a', BAR, &[0xE0]),
         fonts.glyph(0, 'é', BAR, &[0xE0]),
         fonts.finish(0),
     ];
-    assert_eq!(rt;
-        answers,
-        [
+    same(
+        &rt,
+        &answers,
+        &[
             Err(Refusal::Taken),
             Err(Refusal::Taken),
             Err(Refusal::Place),
-            Err(Refusal::Place)
-        ]
+            Err(Refusal::Place),
+        ],
     );
-    assert_eq!(rt; [fonts.finished(0), fonts.finished(1)], [Some(true), None]);
-    Ok(())
+    same(
+        &rt,
+        &[fonts.finished(0), fonts.finished(1)],
+        &[Some(true), None],
+    );
 }
 
 #[test]
-fn last_slot_then_full(rt: HostRuntime) -> Result<(), Fail> {
-    let mut fonts = match Fonts::with_capacity(rt.alloc(), 1, 2, 2) {
-        Ok(fonts) => fonts,
-        Err(NoMemory) => return Err("no memory")?,
-    };
+fn last_slot_then_full(rt: HostRuntime) {
+    let mut fonts = Fonts::with_capacity(rt.alloc(), 1, 2, 2).expect(&rt, "no memory");
     let wide = GlyphBox { w: 16, ..BAR };
     let answers = [
         fonts.begin(1, 2, 2),
@@ -105,21 +107,21 @@ fn last_slot_then_full(rt: HostRuntime) -> Result<(), Fail> {
         // The pool of glyphs comes before that of ink.
         fonts.glyph(1, 'c', BAR, &[0xE0]),
     ];
-    assert_eq!(rt;
-        answers,
-        [
+    same(
+        &rt,
+        &answers,
+        &[
             Ok(()),
             Err(Refusal::Full(Pool::Fonts)),
             Ok(()),
             Err(Refusal::Full(Pool::Ink)),
             Ok(()),
             Err(Refusal::Full(Pool::Glyphs)),
-        ]
+        ],
     );
     // Both letters are as they were given.
     let inked = [ink_of(&fonts, "a"), ink_of(&fonts, "b")];
-    assert_eq!(rt; inked, [[true, true, false], [false, true, false]]);
-    Ok(())
+    same(&rt, &inked, &[[true, true, false], [false, true, false]]);
 }
 
 /// Which of the first three points of the first line of a text in font 1 are inked.
@@ -136,18 +138,17 @@ fn ink_of(fonts: &Fonts, text: &str) -> [bool; 3] {
 }
 
 #[test]
-fn ink_stays_in_its_cell(rt: HostRuntime) -> Result<(), Fail> {
-    let mut fonts = opened(rt.alloc(), 2)?;
+fn ink_stays_in_its_cell(rt: HostRuntime) {
+    let mut fonts = opened(&rt, rt.alloc(), 2);
     let answers = [fonts.begin(1, 2, 2), fonts.glyph(1, 'A', BAR, &[0xFF])];
-    assert_eq!(rt; answers, [Ok(()); 2]);
+    same(&rt, &answers, &[Ok(()); 2]);
     // The missing glyph of `B` is an empty cell of the font's advance.
     let inked = [ink_of(&fonts, "A"), ink_of(&fonts, "BA")];
-    assert_eq!(rt; inked, [[true, true, false], [false, false, true]]);
+    same(&rt, &inked, &[[true, true, false], [false, false, true]]);
     let outside = [
         fonts.ink_at(plain(1), "A", 9, -1, 0),
         fonts.ink_at(plain(1), "A", 9, 0, -1),
         fonts.ink_at(plain(1), "A", 9, 0, 1),
     ];
-    assert_eq!(rt; outside, [false; 3]);
-    Ok(())
+    same(&rt, &outside, &[false; 3]);
 }

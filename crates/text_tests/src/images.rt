@@ -1,14 +1,12 @@
 //! Images that are built row by row: each refusal in its order, each pool at its last slot, and the texels.
-use gui_base::{NoMemory, Pool, Refusal, Rgb565};
+use crate::checks::same;
+use gui_base::{Pool, Refusal, Rgb565};
 use gui_font::{Format, Images, Texel};
 use std::alloc::Global;
-use std::test::Fail;
+use std::process::Abort;
 
-fn opened(alloc: Global, images: u32, bytes: u32) -> Result<Images, &'static str> {
-    match Images::with_capacity(alloc, images, bytes) {
-        Ok(images) => Ok(images),
-        Err(NoMemory) => Err("no memory"),
-    }
+fn opened(rt: &impl Abort, alloc: Global, images: u32, bytes: u32) -> Images {
+    Images::with_capacity(alloc, images, bytes).expect(rt, "no memory")
 }
 
 /// The texel of a pixel, if the image has it.
@@ -22,8 +20,8 @@ fn texel(images: &Images, id: u16, x: u16, y: u16) -> Option<Texel> {
 }
 
 #[test]
-fn rows_come_in_order(rt: HostRuntime) -> Result<(), Fail> {
-    let mut images = opened(rt.alloc(), 2, 16)?;
+fn rows_come_in_order(rt: HostRuntime) {
+    let mut images = opened(&rt, rt.alloc(), 2, 16);
     let answers = [
         images.row(1, 0, &[1]),
         images.begin(1, Format::Rgb565, 1, 2),
@@ -33,9 +31,10 @@ fn rows_come_in_order(rt: HostRuntime) -> Result<(), Fail> {
         images.row(1, 0, &[0xF8, 0]),
         images.row(1, 0, &[0, 0]),
     ];
-    assert_eq!(rt;
-        answers,
-        [
+    same(
+        &rt,
+        &answers,
+        &[
             Err(Refusal::Unknown),
             Ok(()),
             Err(Refusal::Taken),
@@ -43,19 +42,19 @@ fn rows_come_in_order(rt: HostRuntime) -> Result<(), Fail> {
             Err(Refusal::Place),
             Ok(()),
             Err(Refusal::Place),
-        ]
+        ],
     );
     let before = (images.finished(1), images.size(1));
     let last = [images.row(1, 1, &[7, 0xE0]), images.row(1, 2, &[0, 0])];
-    assert_eq!(rt; last, [Ok(()), Err(Refusal::Place)]);
+    same(&rt, &last, &[Ok(()), Err(Refusal::Place)]);
     let after = (images.finished(1), images.size(1));
-    assert_eq!(rt;
-        [before, after],
-        [(Some(false), None), (Some(true), Some((1, 2)))]
+    same(
+        &rt,
+        &[before, after],
+        &[(Some(false), None), (Some(true), Some((1, 2)))],
     );
     let colors = [texel(&images, 1, 0, 0), texel(&images, 1, 0, 1)];
-    assert_eq!(rt; colors, [Some(opaque(0xF800)), Some(opaque(0x07E0))]);
-    Ok(())
+    same(&rt, &colors, &[Some(opaque(0xF800)), Some(opaque(0x07E0))]);
 }
 
 fn opaque(color: u16) -> Texel {
@@ -66,8 +65,8 @@ fn opaque(color: u16) -> Texel {
 }
 
 #[test]
-fn images_do_not_touch_each_other(rt: HostRuntime) -> Result<(), Fail> {
-    let mut images = opened(rt.alloc(), 3, 16)?;
+fn images_do_not_touch_each_other(rt: HostRuntime) {
+    let mut images = opened(&rt, rt.alloc(), 3, 16);
     let answers = [
         images.begin(5, Format::Alpha, 2, 2),
         images.begin(3, Format::Rgb565Alpha, 1, 1),
@@ -75,12 +74,12 @@ fn images_do_not_touch_each_other(rt: HostRuntime) -> Result<(), Fail> {
         images.row(3, 0, &[0, 31, 9]),
         images.row(5, 1, &[3, 128]),
     ];
-    assert_eq!(rt; answers, [Ok(()); 5]);
+    same(&rt, &answers, &[Ok(()); 5]);
     let both = Texel {
         color: Some(Rgb565(31)),
         alpha: 9,
     };
-    assert_eq!(rt; texel(&images, 3, 0, 0), Some(both));
+    same(&rt, &texel(&images, 3, 0, 0), &Some(both));
     let mut alphas = [0; 4];
     for (i, alpha) in alphas.iter_mut().enumerate() {
         let (x, y) = ((i % 2) as u16, (i / 2 % 2) as u16);
@@ -88,13 +87,12 @@ fn images_do_not_touch_each_other(rt: HostRuntime) -> Result<(), Fail> {
             *alpha = texel.alpha;
         }
     }
-    assert_eq!(rt; alphas, [1, 2, 3, 128]);
-    Ok(())
+    same(&rt, &alphas, &[1, 2, 3, 128]);
 }
 
 #[test]
-fn last_slot_then_full(rt: HostRuntime) -> Result<(), Fail> {
-    let mut images = opened(rt.alloc(), 2, 6)?;
+fn last_slot_then_full(rt: HostRuntime) {
+    let mut images = opened(&rt, rt.alloc(), 2, 6);
     let answers = [
         images.begin(1, Format::Alpha, 7, 1),
         images.begin(1, Format::Rgb565, 2, 1),
@@ -103,15 +101,15 @@ fn last_slot_then_full(rt: HostRuntime) -> Result<(), Fail> {
         // The pool of images comes before that of pixels.
         images.begin(3, Format::Alpha, 1, 1),
     ];
-    assert_eq!(rt;
-        answers,
-        [
+    same(
+        &rt,
+        &answers,
+        &[
             Err(Refusal::Full(Pool::Pixels)),
             Ok(()),
             Err(Refusal::Full(Pool::Pixels)),
             Ok(()),
             Err(Refusal::Full(Pool::Images)),
-        ]
+        ],
     );
-    Ok(())
 }

@@ -1,10 +1,10 @@
 //! Lines and measures of texts that were worked out by hand.
 ghost use Rattle.std.specs.Prelude.{◌≤◌};
 
-use gui_base::NoMemory;
+use crate::checks::same;
 use gui_font::{Fonts, TextAlign, TextLook};
 use std::alloc::Global;
-use std::test::Fail;
+use std::process::Abort;
 
 /// The bytes of a line, from its start to before its end, and the width of its run.
 type Wanted = (usize, usize, i32);
@@ -33,11 +33,8 @@ const UNEVEN_CASES: [Case; 3] = [
     ("mm", 8, &[(0, 1, 9), (1, 2, 9)]),
 ];
 
-pub(crate) fn opened(alloc: Global, slots: u32) -> Result<Fonts, &'static str> {
-    match Fonts::with_capacity(alloc, slots, slots, slots) {
-        Ok(fonts) => Ok(fonts),
-        Err(NoMemory) => Err("no memory"),
-    }
+pub(crate) fn opened(rt: &impl Abort, alloc: Global, slots: u32) -> Fonts {
+    Fonts::with_capacity(alloc, slots, slots, slots).expect(rt, "no memory")
 }
 
 pub(crate) fn plain(font: u8) -> TextLook
@@ -71,22 +68,21 @@ fn all_have_lines(fonts: &Fonts, font: u8, cases: &[Case]) -> bool {
 }
 
 #[test]
-fn texts_are_cut_into_lines(rt: HostRuntime) -> Result<(), Fail> {
-    let mut fonts = opened(rt.alloc(), 2)?;
-    assert!(rt; all_have_lines(&fonts, 0, &EVEN_CASES));
+fn texts_are_cut_into_lines(rt: HostRuntime) {
+    let mut fonts = opened(&rt, rt.alloc(), 2);
+    same(&rt, &all_have_lines(&fonts, 0, &EVEN_CASES), &true);
     let answers = [
         fonts.begin(UNEVEN, 3, 4),
         fonts.glyph(UNEVEN, 'i', crate::fonts::blank(0), &[]),
         fonts.glyph(UNEVEN, 'm', crate::fonts::blank(9), &[]),
     ];
-    assert_eq!(rt; answers, [Ok(()); 3]);
-    assert!(rt; all_have_lines(&fonts, UNEVEN, &UNEVEN_CASES));
-    Ok(())
+    same(&rt, &answers, &[Ok(()); 3]);
+    same(&rt, &all_have_lines(&fonts, UNEVEN, &UNEVEN_CASES), &true);
 }
 
 #[test]
-fn measures_are_the_widest_run_and_all_lines(rt: HostRuntime) -> Result<(), Fail> {
-    let fonts = opened(rt.alloc(), 0)?;
+fn measures_are_the_widest_run_and_all_lines(rt: HostRuntime) {
+    let fonts = opened(&rt, rt.alloc(), 0);
     let spaced = TextLook {
         font: 0,
         letter: 1,
@@ -99,8 +95,7 @@ fn measures_are_the_widest_run_and_all_lines(rt: HostRuntime) -> Result<(), Fail
         fonts.measure(plain(0), "ab cd", Some(24)),
         fonts.measure(plain(0), "ab cd", Some(30)),
     ];
-    assert_eq!(rt; sizes, [(13, 18), (0, 8), (18, 16), (30, 8)]);
-    Ok(())
+    same(&rt, &sizes, &[(13, 18), (0, 8), (18, 16), (30, 8)]);
 }
 
 /// Whether a point of `|` is inked, which is the third column of its cell, and one of the second line.
@@ -119,17 +114,16 @@ fn bar(fonts: &Fonts, align: TextAlign, width: u8, x: i32) -> (bool, bool) {
 }
 
 #[test]
-fn ink_stands_by_its_alignment(rt: HostRuntime) -> Result<(), Fail> {
-    let fonts = opened(rt.alloc(), 0)?;
+fn ink_stands_by_its_alignment(rt: HostRuntime) {
+    let fonts = opened(&rt, rt.alloc(), 0);
     let left = bar(&fonts, TextAlign::Left, 15, 2);
     let center = bar(&fonts, TextAlign::Center, 15, 6);
     let right = bar(&fonts, TextAlign::Right, 15, 11);
-    assert_eq!(rt; [left, center, right], [(true, true); 3]);
+    same(&rt, &[left, center, right], &[(true, true); 3]);
     // A line that is wider than its width stands to the left of it by half of what is too much, rounded down.
     let wide = [
         bar(&fonts, TextAlign::Center, 3, 0),
         bar(&fonts, TextAlign::Center, 3, 1),
     ];
-    assert_eq!(rt; wide, [(true, true), (false, false)]);
-    Ok(())
+    same(&rt, &wide, &[(true, true), (false, false)]);
 }

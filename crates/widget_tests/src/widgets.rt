@@ -3,12 +3,13 @@
 ghost use Rattle.std.specs.Prelude.{◌≤◌};
 ghost use Rattle.gui_widgets.specs.Looks.{IsLook};
 
-use gui_base::{Area, Kind, NoMemory};
+use crate::checks::same;
+use gui_base::{Area, Kind};
 use gui_font::Fonts;
 use gui_pack::paints;
 use gui_widgets::{ImageLook, Item, Look, Values, items, own_height, own_width};
 use std::alloc::Global;
-use std::test::Fail;
+use std::process::Abort;
 
 /// The values of a part that sets nothing.
 const PLAIN: Values = Values([
@@ -18,8 +19,8 @@ const PLAIN: Values = Values([
 /// How many items an object paints, and the corners of the last one's area.
 type Last = (usize, [i32; 4]);
 
-fn opened(alloc: Global) -> Result<Fonts, &'static str> {
-    Fonts::with_capacity(alloc, 0, 0, 0).map_err(|_error: NoMemory| "no memory")
+fn opened(rt: &impl Abort, alloc: Global) -> Fonts {
+    Fonts::with_capacity(alloc, 0, 0, 0).expect(rt, "no memory")
 }
 
 /// An object of a kind with a text of two lines and an image of 2 by 3 pixels, halfway in its range.
@@ -87,12 +88,13 @@ fn lasts_in(fonts: &Fonts, width: u32, height: u32) -> [Last; 8]
 }
 
 #[test]
-fn kinds_at_no_size(rt: HostRuntime) -> Result<(), Fail> {
-    let fonts = opened(rt.alloc())?;
+fn kinds_at_no_size(rt: HostRuntime) {
+    let fonts = opened(&rt, rt.alloc());
     let none = [0, 0, -1, -1];
-    assert_eq!(rt;
-        lasts_in(&fonts, 0, 0),
-        [
+    same(
+        &rt,
+        &lasts_in(&fonts, 0, 0),
+        &[
             (2, none),
             (3, none),
             (2, none),
@@ -101,18 +103,18 @@ fn kinds_at_no_size(rt: HostRuntime) -> Result<(), Fail> {
             (6, none),
             (5, [8, 0, 19, 15]),
             (2, none),
-        ]
+        ],
     );
-    Ok(())
 }
 
 #[test]
-fn kinds_at_one_pixel(rt: HostRuntime) -> Result<(), Fail> {
-    let fonts = opened(rt.alloc())?;
+fn kinds_at_one_pixel(rt: HostRuntime) {
+    let fonts = opened(&rt, rt.alloc());
     let one = [0, 0, 0, 0];
-    assert_eq!(rt;
-        lasts_in(&fonts, 1, 1),
-        [
+    same(
+        &rt,
+        &lasts_in(&fonts, 1, 1),
+        &[
             (2, one),
             (3, one),
             (2, one),
@@ -121,18 +123,18 @@ fn kinds_at_one_pixel(rt: HostRuntime) -> Result<(), Fail> {
             (6, one),
             (5, [8, 0, 19, 15]),
             (2, one),
-        ]
+        ],
     );
-    Ok(())
 }
 
 #[test]
-fn kinds_larger_than_a_parent(rt: HostRuntime) -> Result<(), Fail> {
-    let fonts = opened(rt.alloc())?;
+fn kinds_larger_than_a_parent(rt: HostRuntime) {
+    let fonts = opened(&rt, rt.alloc());
     let all = [0, 0, 2999, 1999];
-    assert_eq!(rt;
-        lasts_in(&fonts, 3000, 2000),
-        [
+    same(
+        &rt,
+        &lasts_in(&fonts, 3000, 2000),
+        &[
             (2, all),
             (3, all),
             (2, all),
@@ -141,28 +143,26 @@ fn kinds_larger_than_a_parent(rt: HostRuntime) -> Result<(), Fail> {
             (6, [500, 0, 2499, 1999]),
             (5, [8, 0, 19, 15]),
             (2, all),
-        ]
+        ],
     );
-    Ok(())
 }
 
 #[test]
-fn kinds_by_themselves(rt: HostRuntime) -> Result<(), Fail> {
-    let fonts = opened(rt.alloc())?;
+fn kinds_by_themselves(rt: HostRuntime) {
+    let fonts = opened(&rt, rt.alloc());
     let size = |kind: Kind| {
         let look = look(kind, &fonts);
         (own_width(&look), own_height(&look, 5))
     };
-    assert_eq!(rt; size(Kind::Label), (12, 24));
-    assert_eq!(rt; size(Kind::Image), (2, 3));
-    assert_eq!(rt; size(Kind::Checkbox), (20, 16));
-    assert_eq!(rt; size(Kind::Button), (0, 0));
-    Ok(())
+    same(&rt, &size(Kind::Label), &(12, 24));
+    same(&rt, &size(Kind::Image), &(2, 3));
+    same(&rt, &size(Kind::Checkbox), &(20, 16));
+    same(&rt, &size(Kind::Button), &(0, 0));
 }
 
 #[test]
-fn each_kind_is_kept(rt: HostRuntime) -> Result<(), Fail> {
-    let fonts = opened(rt.alloc())?;
+fn each_kind_is_kept(rt: HostRuntime) {
+    let fonts = opened(&rt, rt.alloc());
     let kinds = [
         Kind::Obj,
         Kind::Label,
@@ -174,10 +174,10 @@ fn each_kind_is_kept(rt: HostRuntime) -> Result<(), Fail> {
         Kind::List,
     ];
     for kind in kinds {
-        assert_eq!(rt;
-            last_kept(kind, &fonts, 100, 20),
-            last_in(kind, &fonts, 100, 20)
+        same(
+            &rt,
+            &last_kept(kind, &fonts, 100, 20),
+            &last_in(kind, &fonts, 100, 20),
         );
     }
-    Ok(())
 }

@@ -15,7 +15,7 @@ use Rattle.gui_layout.specs.Views.{box_at}
 use Rattle.gui_layout.proofs.Marking.{all-both, all-fewer, all-graded, fill-fewer}
 
 -- a box is steady whatever its own height
-pub steady-but : (b c : Box) → but_height b ≡ but_height c → is_steady b ≡ true → is_steady c ≡ true
+steady-but : (b c : Box) → but_height b ≡ but_height c → is_steady b ≡ true → is_steady c ≡ true
 steady-but b c same is = let both : is_steady (but_height b) ≡ is_steady (but_height c) = ap is_steady same in sym both ∙ is
 
 -- where fewer are looked at

@@ -46,4 +46,3 @@ pub mod Entered
 pub mod Staying
 pub mod Closing
 pub mod Pendings
-pub mod Reordered

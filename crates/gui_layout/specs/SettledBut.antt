@@ -1,6 +1,6 @@
 -- Places that are right but for what marks may have changed, and where that comes from.
-use Rattle.std.specs.Prelude.{◌≡◌, ℕ, Bool, true, false, eqb, map, is_some}
-use Rattle.gui_base.specs.Forest.{Forest, StandsOnce, children_of, has, parent_of, roots}
+use Rattle.std.specs.Prelude.{◌≡◌, ℕ, Bool, true, false, map, is_some}
+use Rattle.gui_base.specs.Forest.{Forest, children_of, has, parent_of, roots}
 use Rattle.gui_pool.specs.Table.{value_at}
 use Rattle.scene_defs.specs.Scene.{Scene, handles_of}
 use Rattle.std.specs.Prelude.{None}
@@ -142,11 +142,3 @@ pub record IsUnmoved (before scene : Scene) (m c : ℕ → Bool) (k : ℕ) : Typ
   pub box : scene_box scene k ≡ scene_box before k
   pub kids : HasKids (c k) m (children_of (handles_of scene.trees) k) (children_of (handles_of before.trees) k)
   pub root : parent_of (handles_of scene.trees) k ≡ None → parent_of (handles_of before.trees) k ≡ None
-
--- the scenes differ in the order of the children of p alone, as far as layout goes by it
-pub record IsReordered (before scene : Scene) (p : ℕ) : Type 0 where
-  pub once : StandsOnce (handles_of before.trees)
-  pub limits : scene.limits ≡ before.limits
-  pub each : (k : ℕ) → IsUnmoved before scene nobody (λ j. eqb j p) k
-  pub kept : (k : ℕ) → is_root k (children_of (handles_of before.trees) p) ≡ true →
-      is_root k (children_of (handles_of scene.trees) p) ≡ true

@@ -15,7 +15,7 @@ ghost use Rattle.scene_defs.specs.Items.{bar_look, bars};
 ghost use Rattle.gui_base.specs.declared.props.Prop.{Prop as Property};
 ghost use Rattle.gui_base.specs.declared.words.Part.TheVariants.{Scrollbar};
 ghost use Rattle.widget_defs.specs.Looks.{value_in};
-ghost use Rattle.scene_defs.specs.Scene.{Scene, handles_of, is_there, object_at, value};
+ghost use Rattle.scene_defs.specs.Scene.{handles_of, is_there, object_at, value};
 ghost use Rattle.gui_widgets.specs.Looks.{IsLook, items_of, widget_of};
 ghost use Rattle.gui_store.specs.Views.{scene_of};
 ghost use Rattle.gui_layout.specs.Painted.{PaintsLike, ShowsBarsIn};
@@ -53,7 +53,7 @@ use crate::objects::box_in;
 use crate::pending::{finish_tree, is_pending};
 use crate::position::Position;
 use crate::positions::inside_of;
-use crate::raising::{raise_marks, rests};
+use crate::raising::raise_marks;
 use crate::renewal::{renew_all, renew_marked};
 use crate::size::Size;
 use crate::steady::{is_nearby, is_steady};
@@ -186,7 +186,7 @@ impl Places {
     ghost use Rattle.gui_layout.specs.Solved.{AreReached, AreSettled, AreSolved};
     ghost use Rattle.gui_layout.specs.Naturals.{naturals, naturals_at};
     ghost use Rattle.gui_layout.specs.Marks.{is_changed, is_marked, is_parent, mark_count, most_marks, solved_in};
-    ghost use Rattle.gui_layout.specs.SettledBut.{AreRightBut, AreRightButChanged, AreSettledButMarks, IsReordered};
+    ghost use Rattle.gui_layout.specs.SettledBut.{AreRightBut, AreRightButChanged, AreSettledButMarks};
     ghost use Rattle.gui_layout.specs.SettledBut.{SettlesChanged, SettlesMarks, in_marked, nobody};
     ghost use Rattle.gui_layout.specs.Settles.{Settles, SolvesTree};
     ghost use Rattle.gui_layout.specs.Around.{IsFlat, ReadsReaches};
@@ -290,16 +290,6 @@ impl Places {
             &mut marks.solved,
         );
         clear_marks(&mut marks.pending, &mut marks.listed);
-    }
-
-    /// Whether places that were settled stay so where the children of an object stand in another order, and
-    /// nothing else is another: it is there, its sizes are not those of its content, its children stand by
-    /// themselves, and it does not move them.
-    pub fn rests(&self, store: &Store, h: Handle) -> bool
-        ensures settled { (before : Scene) → result ≡ true → AreSettled self.now before →
-            IsReordered before (scene_of store.now) h.0 → AreSettled self.now (scene_of store.now) }
-    {
-        rests(store.tree(), &self.entries, h)
     }
 
     /// The place of an object, or None exactly where it was not there when the places were solved. It lies

@@ -8,7 +8,7 @@ use Rattle.std.proofs.lemmas.List.Sums.{sum_by-cons, sum_by_more, sum_by-take-le
 use Rattle.std.proofs.lemmas.Bool.{cases_Bool}
 use Rattle.std.proofs.lemmas.Slice.{take-put_mid, drop-put_mid}
 use borrow.Rule.Slice.PartMut.{put_mid}
-use Rattle.layout_defs.specs.Flex.{Item, numbered, before_all, is_fit, tracks, tracks_from, counted, grow_of, weight_to, weight_of, shared_item, shared_track, shared}
+use Rattle.layout_defs.specs.Flex.{TrackItem, numbered, before_all, is_fit, tracks, tracks_from, counted, grow_of, weight_to, weight_of, shared_item, shared_track, shared}
 use Rattle.gui_flex.specs.declared.item.FlexItem.{FlexItem}
 use Rattle.gui_flex.specs.Items.{item_of, items_of}
 
@@ -25,36 +25,36 @@ sum-read read f [] = refl
 sum-read read f (x ∷ xs) = sum_by-cons f (read x) (map read xs) ∙ (ap (λ n. f (read x) + n) (sum-read read f xs) ∙ sym (sum_by-cons (λ y. f (read y)) x xs))
 
 -- these items stand before those of the first track
-abbrev pub ahead : List Item → List (List Item) → List (List Item)
+abbrev pub ahead : List TrackItem → List (List TrackItem) → List (List TrackItem)
 ahead items [] = items ∷ []
 ahead items (track ∷ tracks) = (items ++ track) ∷ tracks
 
-ahead-one : (items : List Item) (item : Item) (ts : List (List Item)) → ahead items (before_all item ts) ≡ ahead (items ++ item ∷ []) ts
+ahead-one : (items : List TrackItem) (item : TrackItem) (ts : List (List TrackItem)) → ahead items (before_all item ts) ≡ ahead (items ++ item ∷ []) ts
 ahead-one items item [] = refl
 ahead-one items item (t ∷ ts) = ap (λ us. us ∷ ts) (sym (append_assoc items (item ∷ []) t))
 
 module _ (wrap : Bool) (extent gap : ℕ) where
   -- the next item goes on the track
-  pub track_goes_on : (xs : List Item) (long n : ℕ) (d : Item) → n < length xs → is_fit wrap extent (long + gap + counted (get_or xs n d)) ≡ true →
+  pub track_goes_on : (xs : List TrackItem) (long n : ℕ) (d : TrackItem) → n < length xs → is_fit wrap extent (long + gap + counted (get_or xs n d)) ≡ true →
       ahead (take n xs) (tracks_from wrap extent gap long (drop n xs)) ≡ ahead (take (n + 1) xs) (tracks_from wrap extent gap (long + gap + counted (get_or xs n d)) (drop (n + 1) xs))
   track_goes_on xs long n d h fit =
       rw (drop_more xs n d h, fit) (ahead-one (take n xs) (get_or xs n d) _ ∙ ap (λ us. ahead us (tracks_from wrap extent gap (long + gap + counted (get_or xs n d)) (drop (n + 1) xs))) (sym (take_more xs n d h)))
 
   -- the next item begins a track
-  pub track_ends : (xs : List Item) (long n : ℕ) (d : Item) → n < length xs → is_fit wrap extent (long + gap + counted (get_or xs n d)) ≡ false →
+  pub track_ends : (xs : List TrackItem) (long n : ℕ) (d : TrackItem) → n < length xs → is_fit wrap extent (long + gap + counted (get_or xs n d)) ≡ false →
       ahead (take n xs) (tracks_from wrap extent gap long (drop n xs)) ≡ take n xs ∷ tracks wrap extent gap (drop n xs)
   track_ends xs long n d h over = rw (drop_more xs n d h, over) (ap (λ us. us ∷ before_all (get_or xs n d) (tracks_from wrap extent gap (counted (get_or xs n d)) (drop (n + 1) xs))) (append-nil (take n xs)))
 
   -- no item is left
-  pub track_is_last : (xs : List Item) (long n : ℕ) → length xs ≤ n → ahead (take n xs) (tracks_from wrap extent gap long (drop n xs)) ≡ take n xs ∷ tracks wrap extent gap (drop n xs)
+  pub track_is_last : (xs : List TrackItem) (long n : ℕ) → length xs ≤ n → ahead (take n xs) (tracks_from wrap extent gap long (drop n xs)) ≡ take n xs ∷ tracks wrap extent gap (drop n xs)
   track_is_last xs long n h = rw (drop_all n xs h) (ap (λ us. us ∷ []) (append-nil (take n xs)))
 
   -- the first item begins the first track
-  pub track_begins : (xs : List Item) (d : Item) → 0 < length xs → tracks wrap extent gap xs ≡ ahead (take 1 xs) (tracks_from wrap extent gap (counted (get_or xs 0 d)) (drop 1 xs))
+  pub track_begins : (xs : List TrackItem) (d : TrackItem) → 0 < length xs → tracks wrap extent gap xs ≡ ahead (take 1 xs) (tracks_from wrap extent gap (counted (get_or xs 0 d)) (drop 1 xs))
   track_begins [] d h = absurd (omega arith)
   track_begins (x ∷ xs) d h = begins (tracks_from wrap extent gap (counted x) xs)
     where
-      begins : (ts : List (List Item)) → before_all x ts ≡ ahead (x ∷ []) ts
+      begins : (ts : List (List TrackItem)) → before_all x ts ≡ ahead (x ∷ []) ts
       begins [] = refl
       begins (t ∷ ts) = refl
 
@@ -76,7 +76,7 @@ same_after xs ys i v same =
     drop-set-lt (i + 1) xs i v past ∙ (sym (drop-drop 1 i xs) ∙ (ap (drop 1) same ∙ drop-drop 1 i ys))
 
 -- an item with its share
-pub share_written : (free before weight i : ℕ) (track : List Item) (x : FlexItem) (r : ℤ) →
+pub share_written : (free before weight i : ℕ) (track : List TrackItem) (x : FlexItem) (r : ℤ) →
     before ≡ weight_to track i → weight ≡ weight_of track → weight_to track (i + 1) ≡ before + x.grow →
     r ≡ pos (if x.grow == 0 then nat_of x.main else free * (before + x.grow) / weight - free * before / weight) →
     record { main = nat_of r; cross = nat_of x.cross; grow = x.grow } ≡ shared_item free track i (item_of x)
@@ -85,7 +85,7 @@ share_written free before weight i track x r is_before is_weight more is = elim 
   | inr some ↦ let r_is : r ≡ pos (free * (before + x.grow) / weight - free * before / weight) = rw some at is in rw (some, r_is, more, ← is_before, ← is_weight) refl
 ]
 
-pub weight_within : (xs : List Item) (n : ℕ) → weight_to xs n ≤ weight_of xs
+pub weight_within : (xs : List TrackItem) (n : ℕ) → weight_to xs n ≤ weight_of xs
 weight_within xs n = sum_by-take-le grow_of xs n
 
 -- a track is done, and written over a part of the items

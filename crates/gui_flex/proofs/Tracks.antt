@@ -7,7 +7,7 @@ use Rattle.std.proofs.lemmas.Bool.{cases_lt}
 use Rattle.std.proofs.lemmas.Slice.{take-put_mid, drop-put_mid}
 use borrow.Rule.Slice.PartMut.{put_mid}
 use Rattle.gui_base.specs.declared.words.Placing.{Placing}
-use Rattle.layout_defs.specs.Flex.{Item, Spot, numbered, tracks, thickness, spread, track_at}
+use Rattle.layout_defs.specs.Flex.{TrackItem, Spot, numbered, tracks, thickness, spread, track_at}
 use Rattle.gui_flex.specs.declared.item.FlexItem.{FlexItem}
 use Rattle.gui_flex.specs.Items.{item_of, items_of, spot_of, spots_of}
 
@@ -34,7 +34,7 @@ module _ (wrap : Bool) (extent gap : ℕ) where
   next_tracks xs a n is = is ∙ rw (take-map item_of n (drop a xs), drop-map item_of n (drop a xs), drop-drop n a xs) refl
 
 -- a track has its places, and is written over a part of the items
-pub spots_step : (wrap : Bool) (extent gap : ℕ) (f : ℕ → List Item → List Spot) (xs ys zs : List FlexItem) (a n k t : ℕ) → k ≡ n → a + n ≤ length xs → length ys ≡ n → zs ≡ put_mid a k xs ys →
+pub spots_step : (wrap : Bool) (extent gap : ℕ) (f : ℕ → List TrackItem → List Spot) (xs ys zs : List FlexItem) (a n k t : ℕ) → k ≡ n → a + n ≤ length xs → length ys ≡ n → zs ≡ put_mid a k xs ys →
     tracks wrap extent gap (items_of (drop a xs)) ≡ items_of (take n (drop a xs)) ∷ tracks wrap extent gap (items_of (drop (a + n) xs)) →
     spots_of ys ≡ f t (items_of (take k (drop a xs))) →
     spots_of (take (a + n) zs) ++ flat_map (λ s. s) (numbered f (t + 1) (tracks wrap extent gap (items_of (drop (a + n) zs)))) ≡ spots_of (take a xs) ++ flat_map (λ s. s) (numbered f t (tracks wrap extent gap (items_of (drop a xs))))
@@ -49,7 +49,7 @@ spots_step wrap extent gap f xs ys zs a n k t same within long is_k track done_k
     rw (front, back, map-append spot_of (take a xs) ys, append_assoc, track, done) refl
 
 -- where a track stands
-pub track_at_is : (placing : Placing) (extent gap : ℕ) (all : List (List Item)) (t before count sizes free far : ℕ) →
+pub track_at_is : (placing : Placing) (extent gap : ℕ) (all : List (List TrackItem)) (t before count sizes free far : ℕ) →
     before ≡ sum_by thickness (take t all) → count ≡ length all → sizes ≡ sum_by thickness all → free ≡ extent - (sizes + gap * (count - 1)) → far ≡ spread placing free t count →
     before + gap * t + far ≡ track_at placing extent gap all t
 track_at_is placing extent gap all t before count sizes free far is_before is_count is_sizes is_free is_far =

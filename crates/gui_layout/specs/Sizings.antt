@@ -1,7 +1,7 @@
 -- Children as items of a flow.
 use Rattle.std.specs.Prelude.{ℕ}
 use Rattle.layout_defs.specs.Boxes.{Box}
-use Rattle.layout_defs.specs.Flex.{Item}
+use Rattle.layout_defs.specs.Flex.{TrackItem}
 use Rattle.layout_defs.specs.Solving.{width_item, height_item}
 use Rattle.gui_layout.specs.declared.entry.Entry.{Entry}
 use Rattle.gui_layout.specs.declared.sizing.Sizing.{Sizing}
@@ -24,7 +24,7 @@ abbrev pub known_box : Known → Box
 known_box k = k.box
 
 -- a child as an item
-abbrev pub sized : Sizing → Known → Item
+abbrev pub sized : Sizing → Known → TrackItem
 sized (Widths room) k = width_item room (wide_of k)
 sized Naturals k = height_item (tall_of k)
 sized (Sizes course room) k = flow_item course room (tall_of k)

@@ -4,7 +4,7 @@ use Rattle.std.specs.Prelude.{slice_index_or}
 use Rattle.gui_base.specs.Forest.{Forest, roots, map_forest}
 use Rattle.layout_defs.specs.declared.Course.{Course}
 use Rattle.layout_defs.specs.declared.Course.TheVariants.{Free, Across, Down}
-use Rattle.layout_defs.specs.Flex.{Item, shared, spots}
+use Rattle.layout_defs.specs.Flex.{TrackItem, shared, spots}
 use Rattle.layout_defs.specs.Boxes.{Box, wraps}
 use Rattle.layout_defs.specs.Solving.{Tall, Slot, Room, Placed, paired, height_in}
 use Rattle.layout_defs.specs.Solving.{row_slot, column_slot, nowhere}
@@ -32,13 +32,13 @@ abbrev pub talls : (ℕ → Box) → List ℕ → List ℕ → Forest ℕ → Fo
 talls box widths naturals f = map_forest (tall_at box widths naturals) f
 
 -- something so wide and so high as an item of a flow
-abbrev pub item_in : Course → ℕ → ℕ → ℕ → Item
+abbrev pub item_in : Course → ℕ → ℕ → ℕ → TrackItem
 item_in Free width height grow = record { main = width; cross = height; grow = grow }
 item_in Across width height grow = record { main = width; cross = height; grow = grow }
 item_in Down width height grow = record { main = height; cross = width; grow = grow }
 
 -- a child as an item of its parent's flow
-abbrev pub flow_item : Course → ℕ → Tall → Item
+abbrev pub flow_item : Course → ℕ → Tall → TrackItem
 flow_item course room kid = item_in course kid.width (height_in room kid) kid.box.grow
 
 -- the slot of an item that is placed
@@ -48,7 +48,7 @@ item_slot Across room item = row_slot room (item_of item) (spot_of item)
 item_slot Down room item = column_slot room (item_of item) (spot_of item)
 
 -- the slots of items that are in the order of their flow, each with its size in a content area
-abbrev pub arranged : Course → Box → Room → List Item → List Slot
+abbrev pub arranged : Course → Box → Room → List TrackItem → List Slot
 arranged Free box room items = []
 arranged Across box room items =
     let at = spots box.places (wraps box.flow) room.width room.height box.across.gap box.down.gap items in

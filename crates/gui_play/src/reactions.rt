@@ -6,7 +6,7 @@ ghost use Rattle.gui_edge.specs.Sink.{SinkState};
 ghost use Rattle.run_defs.specs.Making.{put_state};
 ghost use Rattle.run_defs.specs.Play.{◌▷◌};
 ghost use Rattle.run_defs.specs.Reactions.{arrow, check_by, click, differs, goes_up, hold, let_up, nudge};
-ghost use Rattle.run_defs.specs.Reactions.{press, put_value, react, release, setting_of, short_click, slide};
+ghost use Rattle.run_defs.specs.Reactions.{press, put_value, react, release, control_value_of, short_click, slide};
 ghost use Rattle.run_defs.specs.Reactions.{slide_to, step_of, tell_after, tell_change, toggle};
 ghost use Rattle.gui_board.specs.Boards.{machine_of, Plays, Quiet};
 
@@ -15,11 +15,11 @@ use gui_base::{Bits, EventKind, Flag, Handle, Key, State};
 use gui_board::{Board, is_slider};
 use gui_edge::Sink;
 use play_defs::PointerReading;
-use run_defs::Setting;
+use run_defs::ControlValue;
 use scene_defs::Change;
 
 /// Whether a reaction set something.
-fn differs(before: Setting, after: Setting) -> bool
+fn differs(before: ControlValue, after: ControlValue) -> bool
     ensures { result ≡ differs before after }
 {
     !(before.value == after.value && before.checked == after.checked)
@@ -74,22 +74,22 @@ fn slide_to(board: &mut Board, at: Option<PointerReading>, h: Handle)
 }
 
 /// What of an object a reaction may set, of which value_changed tells.
-fn setting(board: &Board, h: Handle) -> Setting
-    ensures { result ≡ setting_of (machine_of board.now).scene h }
+fn control_value(board: &Board, h: Handle) -> ControlValue
+    ensures { result ≡ control_value_of (machine_of board.now).scene h }
 {
     match board.store().row(h) {
-        None => Setting {
+        None => ControlValue {
             value: 0,
             checked: false,
         },
-        Some(row) => Setting {
+        Some(row) => ControlValue {
             value: row.value,
             checked: Bits(row.states).has(State::Checked.bit()),
         },
     }
 }
 
-/// Tells of another setting, where there is one.
+/// Tells of another value, where there is one.
 #[tactic(auto, unfolding(run_defs::specs::Reactions::tell_change), using(gui_board::proofs::Plays::idle))]
 fn tell_change<S: Sink>(board: &mut Board, changed: bool, h: Handle, log: &mut S)
     ensures { Plays board.old board.new (S.state log.old) (S.state log.new) (tell_change changed h) }
@@ -99,11 +99,11 @@ fn tell_change<S: Sink>(board: &mut Board, changed: bool, h: Handle, log: &mut S
     }
 }
 
-/// An event, and then value_changed where the setting was another before.
-fn tell_after<S: Sink>(board: &mut Board, before: Setting, kind: EventKind, h: Handle, log: &mut S)
+/// An event, and then value_changed where that value was another before.
+fn tell_after<S: Sink>(board: &mut Board, before: ControlValue, kind: EventKind, h: Handle, log: &mut S)
     ensures { Plays board.old board.new (S.state log.old) (S.state log.new) (tell_after before kind h) }
 {
-    let changed = differs(before, setting(board, h));
+    let changed = differs(before, control_value(board, h));
     board.send(kind, h, log);
     tell_change(board, changed, h, log);
 }
@@ -113,7 +113,7 @@ fn react_pressed<S: Sink>(board: &mut Board, at: Option<PointerReading>, h: Hand
     ensures { Plays board.old board.new (S.state log.old) (S.state log.new)
         (react (put_state PressedState true h ▷ slide_to at h) Event.Pressed h) }
 {
-    let before = setting(board, h);
+    let before = control_value(board, h);
     board.put_state(State::Pressed, true, h);
     slide_to(board, at, h);
     tell_after(board, before, EventKind::Pressed, h, log);
@@ -134,7 +134,7 @@ fn react_held<S: Sink>(board: &mut Board, at: Option<PointerReading>, h: Handle,
     ensures { Plays board.old board.new (S.state log.old) (S.state log.new)
         (react (slide_to at h) Event.Pressing h) }
 {
-    let before = setting(board, h);
+    let before = control_value(board, h);
     slide_to(board, at, h);
     tell_after(board, before, EventKind::Pressing, h, log);
 }
@@ -163,7 +163,7 @@ fn react_clicked<S: Sink>(board: &mut Board, h: Handle, log: &mut S)
     ensures { Plays board.old board.new (S.state log.old) (S.state log.new)
         (react (toggle h) Event.Clicked h) }
 {
-    let before = setting(board, h);
+    let before = control_value(board, h);
     toggle(board, h);
     tell_after(board, before, EventKind::Clicked, h, log);
 }
@@ -231,7 +231,7 @@ fn react_arrow<S: Sink>(board: &mut Board, key: Key, h: Handle, log: &mut S)
     ensures { Plays board.old board.new (S.state log.old) (S.state log.new)
         (react (nudge key h ▷ check_by key h) Event.Key h) }
 {
-    let before = setting(board, h);
+    let before = control_value(board, h);
     nudge(board, key, h);
     check_by(board, key, h);
     tell_after(board, before, EventKind::Key, h, log);

@@ -14,7 +14,7 @@ use Rattle.layout_defs.specs.declared.Course.{Course}
 use Rattle.layout_defs.specs.declared.Course.TheVariants.{Free, Across, Down}
 use Rattle.layout_defs.specs.declared.Side.{Side}
 use Rattle.layout_defs.specs.declared.Side.TheVariants.{Near as NearSide, Middle, Far}
-use Rattle.layout_defs.specs.Flex.{Item, Spot, Placings, main_of, cross_of, numbered, tracks, free_of, weight_of, shared_item, shared_track, shared, stand, spanned, left_over, thickness, across, item_spot, track_spots, track_at, spots}
+use Rattle.layout_defs.specs.Flex.{TrackItem, Spot, Placings, main_of, cross_of, numbered, tracks, free_of, weight_of, shared_item, shared_track, shared, stand, spanned, left_over, thickness, across, item_spot, track_spots, track_at, spots}
 use Rattle.layout_defs.specs.Boxes.{course_of, wraps, is_reversed}
 use Rattle.layout_defs.specs.Solving.{Tall, tall_box, Slot, Placed, Room, taking_part, in_order, half, side_at, room_of, height_in, own_slot, row_item, column_item, row_slot, column_slot, ordered_slots, flow_slots, flat_slots, kid_slots, Span, kid_reach, offset_of, moved, nowhere, no_span, with_slots, place_of, solved}
 use Rattle.layout_defs.specs.Reach.{HasSizes, IsBox, IsNear, PlacesAreNear}
@@ -40,10 +40,10 @@ fold_max_small : (a : ℕ) (xs : List ℕ) → a ≤ 8191 → All IsSmall xs →
 fold_max_small a [] h all = h
 fold_max_small a (x ∷ xs) h all = let first = All-head IsSmall x xs all in fold_max_small (max a x) xs (omega arith) (All-tail IsSmall x xs all)
 
-thickness_small : (track : List Item) → All IsItem track → thickness track ≤ 8191
+thickness_small : (track : List TrackItem) → All IsItem track → thickness track ≤ 8191
 thickness_small track all = fold_max_small 0 (map cross_of track) (omega arith) (All-each IsItem IsSmall cross_of (λ item is. is.cross) track all)
 
-left_over_small : (extent gap : ℕ) (track : List Item) → left_over extent gap track ≤ extent
+left_over_small : (extent gap : ℕ) (track : List TrackItem) → left_over extent gap track ≤ extent
 left_over_small extent gap track = elim (cases_Bool (weight_of track == 0)) [
   | inl none ↦ rw none (omega arith)
   | inr grows ↦ rw grows (omega arith)
@@ -56,7 +56,7 @@ record IsSpot (s : Spot) : Type 0 where
   cross_least : pos 0 ≤ℤ s.cross_at
   cross_most : s.cross_at ≤ℤ pos 45000000
 
-record IsTrack (track : List Item) : Type 0 where
+record IsTrack (track : List TrackItem) : Type 0 where
   items : All IsItem track
   few : length track ≤ 4000
 
@@ -64,7 +64,7 @@ spot_near : (main at room : ℕ) → main ≤ 40000000 → at ≤ 40000000 → r
 spot_near main at room m a r = record { main_least = omega (arith, ints); main_most = omega (arith, ints); cross_least = omega (arith, ints); cross_most = omega (arith, ints) }
 
 module _ (placings : Placings) (extent gap : ℕ) (small : extent ≤ 8191) (narrow : gap ≤ 1000) where
-  track_spots_near : (at : ℕ) (track : List Item) → at ≤ 40000000 → IsTrack track → All IsSpot (track_spots placings extent gap at track)
+  track_spots_near : (at : ℕ) (track : List TrackItem) → at ≤ 40000000 → IsTrack track → All IsSpot (track_spots placings extent gap at track)
   track_spots_near at track near is =
       All-numbered IsItem IsSpot (item_spot placings extent gap at track) (length track)
       (λ i item h _.
@@ -93,13 +93,13 @@ parts_count (t ∷ ts) all =
     let rest = parts_count ts (All-tail (λ u. 0 < length u) t ts all) in
     omega (arith, long, some, rest)
 
-shared_parts : (extent gap : ℕ) (ts : List (List Item)) → length (flat_map (shared_track extent gap) ts) ≡ length (flat_map (λ t. t) ts)
+shared_parts : (extent gap : ℕ) (ts : List (List TrackItem)) → length (flat_map (shared_track extent gap) ts) ≡ length (flat_map (λ t. t) ts)
 shared_parts extent gap [] = refl
 shared_parts extent gap (t ∷ ts) =
     let here = length-numbered (shared_item (free_of extent gap t) t) 0 t in
     omega (arith, length-append (shared_track extent gap t) (flat_map (shared_track extent gap) ts), length-append t (flat_map (λ u. u) ts), here, shared_parts extent gap ts)
 
-length-shared : (wrap : Bool) (extent gap : ℕ) (items : List Item) → length (shared wrap extent gap items) ≡ length items
+length-shared : (wrap : Bool) (extent gap : ℕ) (items : List TrackItem) → length (shared wrap extent gap items) ≡ length items
 length-shared wrap extent gap items = shared_parts extent gap (tracks wrap extent gap items) ∙ ap length (items_keep_order wrap extent gap items)
 
 length-in_order : {A : Type 0} (back : Bool) (xs : List A) → length (in_order back xs) ≡ length xs
@@ -116,7 +116,7 @@ roots_few : {A : Type 0} (f : Forest A) → length (roots f) ≤ size f
 roots_few Empty = omega arith
 roots_few (Tree row cs rest) = let l = roots_few rest in omega arith
 
-spots_near : (placings : Placings) (wrap : Bool) (extent cross_extent gap track_gap : ℕ) (items : List Item) → extent ≤ 8191 → cross_extent ≤ 8191 → gap ≤ 1000 → track_gap ≤ 1000 → length items ≤ 4000 → All IsItem items →
+spots_near : (placings : Placings) (wrap : Bool) (extent cross_extent gap track_gap : ℕ) (items : List TrackItem) → extent ≤ 8191 → cross_extent ≤ 8191 → gap ≤ 1000 → track_gap ≤ 1000 → length items ≤ 4000 → All IsItem items →
     All IsSpot (spots placings wrap extent cross_extent gap track_gap items)
 spots_near placings wrap extent cross_extent gap track_gap items small cross_small narrow track_narrow few all =
     let ts = tracks wrap extent gap items in
@@ -178,7 +178,7 @@ module _ (n : ℕ) (tall : Tall) (slot : Slot) (near : IsWithin n slot) (is : Is
       let above = is.box.down.before in
       record { left = omega (arith, ints); right = omega (arith, ints); top = omega (arith, ints); bottom = omega (arith, ints) }
 
-  spot_within : (item : Item) (spot : Spot) → IsSpot spot → IsWithin (n + 49000000) (row_slot room item spot) × IsWithin (n + 49000000) (column_slot room item spot)
+  spot_within : (item : TrackItem) (spot : Spot) → IsSpot spot → IsWithin (n + 49000000) (row_slot room item spot) × IsWithin (n + 49000000) (column_slot room item spot)
   spot_within item spot at =
       let before = is.box.across.before in
       let above = is.box.down.before in (

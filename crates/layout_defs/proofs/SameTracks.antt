@@ -5,30 +5,30 @@ use Rattle.std.specs.List.{flat_map}
 use Rattle.std.proofs.lemmas.Bool.{cases_Bool}
 use Rattle.std.proofs.lemmas.List.{map-append}
 use Rattle.std.proofs.Math.Seq.{take-append_seam, drop-append_seam}
-use Rattle.layout_defs.specs.Flex.{Item, counted, before_all, is_fit, tracks_from, tracks, numbered, free_of, shared_item, shared_track, shared}
+use Rattle.layout_defs.specs.Flex.{TrackItem, counted, before_all, is_fit, tracks_from, tracks, numbered, free_of, shared_item, shared_track, shared}
 use Rattle.layout_defs.specs.FlexLaws.{SharesKeepTracks}
 use Rattle.layout_defs.proofs.Shares.{length-numbered}
 use Rattle.layout_defs.proofs.Tracks.{items_keep_order}
 
 -- a list in parts that are as long as those
-abbrev split_like : List (List Item) → List Item → List (List Item)
+abbrev split_like : List (List TrackItem) → List TrackItem → List (List TrackItem)
 split_like [] ys = []
 split_like (t ∷ ts) ys = take (length t) ys ∷ split_like ts (drop (length t) ys)
 
-split-before_all : (x y : Item) (ts : List (List Item)) (ys : List Item) → split_like (before_all x ts) (y ∷ ys) ≡ before_all y (split_like ts ys)
+split-before_all : (x y : TrackItem) (ts : List (List TrackItem)) (ys : List TrackItem) → split_like (before_all x ts) (y ∷ ys) ≡ before_all y (split_like ts ys)
 split-before_all x y [] ys = refl
 split-before_all x y (t ∷ ts) ys = refl
 
 module _ (wrap : Bool) (extent gap : ℕ) where
   -- the tracks from an item on that counts for so much
-  from_item : (long c : ℕ) (y : Item) (ys : List Item) → counted y ≡ c →
+  from_item : (long c : ℕ) (y : TrackItem) (ys : List TrackItem) → counted y ≡ c →
       tracks_from wrap extent gap long (y ∷ ys)
       ≡ (if is_fit wrap extent (long + gap + c) then before_all y (tracks_from wrap extent gap (long + gap + c) ys) else [] ∷ before_all y (tracks_from wrap extent gap c ys))
   from_item long c y ys is =
       ap (λ n. if is_fit wrap extent (long + gap + n) then before_all y (tracks_from wrap extent gap (long + gap + n) ys) else [] ∷ before_all y (tracks_from wrap extent gap n ys)) is
 
   -- items that count for the same stand in tracks of the same lengths
-  same_from : (long : ℕ) (xs ys : List Item) → map counted xs ≡ map counted ys → tracks_from wrap extent gap long ys ≡ split_like (tracks_from wrap extent gap long xs) ys
+  same_from : (long : ℕ) (xs ys : List TrackItem) → map counted xs ≡ map counted ys → tracks_from wrap extent gap long ys ≡ split_like (tracks_from wrap extent gap long xs) ys
   same_from long [] [] is = refl
   same_from long [] (y ∷ ys) is = cc
   same_from long (x ∷ xs) [] is = cc
@@ -42,10 +42,10 @@ module _ (wrap : Bool) (extent gap : ℕ) where
             ∙ rw fits (ap (before_all y) (same_from next xs ys rest) ∙ sym (split-before_all x y (tracks_from wrap extent gap next xs) ys))
         | inr over ↦
             from_item long (counted x) y ys first
-            ∙ rw over (ap (λ ts. [] ∷ before_all y ts) (same_from (counted x) xs ys rest) ∙ ap (λ (ts : List (List Item)). [] ∷ ts) (sym (split-before_all x y (tracks_from wrap extent gap (counted x) xs) ys)))
+            ∙ rw over (ap (λ ts. [] ∷ before_all y ts) (same_from (counted x) xs ys rest) ∙ ap (λ (ts : List (List TrackItem)). [] ∷ ts) (sym (split-before_all x y (tracks_from wrap extent gap (counted x) xs) ys)))
       ]
 
-  same_tracks : (xs ys : List Item) → map counted xs ≡ map counted ys → tracks wrap extent gap ys ≡ split_like (tracks wrap extent gap xs) ys
+  same_tracks : (xs ys : List TrackItem) → map counted xs ≡ map counted ys → tracks wrap extent gap ys ≡ split_like (tracks wrap extent gap xs) ys
   same_tracks [] [] is = refl
   same_tracks [] (y ∷ ys) is = cc
   same_tracks (x ∷ xs) [] is = cc
@@ -56,15 +56,15 @@ module _ (wrap : Bool) (extent gap : ℕ) where
       ∙ (ap (before_all y) (same_from (counted x) xs ys rest) ∙ sym (split-before_all x y (tracks_from wrap extent gap (counted x) xs) ys))
 
 -- what is shared counts as before
-counted-shared : (free : ℕ) (track : List Item) (i : ℕ) (item : Item) → counted (shared_item free track i item) ≡ counted item
+counted-shared : (free : ℕ) (track : List TrackItem) (i : ℕ) (item : TrackItem) → counted (shared_item free track i item) ≡ counted item
 counted-shared free track i item = elim (cases_Bool (item.grow == 0)) [ inl none ↦ rw (none, none) refl | inr grows ↦ rw (grows, grows) refl ]
 
-counted-numbered : (free : ℕ) (track : List Item) (i : ℕ) (xs : List Item) → map counted (numbered (shared_item free track) i xs) ≡ map counted xs
+counted-numbered : (free : ℕ) (track : List TrackItem) (i : ℕ) (xs : List TrackItem) → map counted (numbered (shared_item free track) i xs) ≡ map counted xs
 counted-numbered free track i [] = refl
 counted-numbered free track i (x ∷ xs) = rw (counted-shared free track i x, counted-numbered free track (i + 1) xs) refl
 
 module _ (extent gap : ℕ) where
-  counted-parts : (ts : List (List Item)) → map counted (flat_map (λ t. t) ts) ≡ map counted (flat_map (shared_track extent gap) ts)
+  counted-parts : (ts : List (List TrackItem)) → map counted (flat_map (λ t. t) ts) ≡ map counted (flat_map (shared_track extent gap) ts)
   counted-parts [] = refl
   counted-parts (t ∷ ts) =
       map-append counted t (flat_map (λ u. u) ts)
@@ -72,7 +72,7 @@ module _ (extent gap : ℕ) where
       ∙ (ap (λ ns. ns ++ map counted (flat_map (shared_track extent gap) ts)) (sym (counted-numbered (free_of extent gap t) t 0 t))
       ∙ sym (map-append counted (shared_track extent gap t) (flat_map (shared_track extent gap) ts))))
 
-  parts : (ts : List (List Item)) → split_like ts (flat_map (shared_track extent gap) ts) ≡ map (shared_track extent gap) ts
+  parts : (ts : List (List TrackItem)) → split_like ts (flat_map (shared_track extent gap) ts) ≡ map (shared_track extent gap) ts
   parts [] = refl
   parts (t ∷ ts) =
       let long : length (shared_track extent gap t) ≡ length t = length-numbered (shared_item (free_of extent gap t) t) 0 t in

@@ -6,7 +6,7 @@ use Rattle.std.proofs.lemmas.Simd.{map-map as list-map-map}
 use Rattle.gui_base.specs.Forest.{Forest, Empty, Tree, roots, map_forest}
 use Rattle.layout_defs.specs.declared.Course.{Course}
 use Rattle.layout_defs.specs.declared.Course.TheVariants.{Free, Across, Down}
-use Rattle.layout_defs.specs.Flex.{Item, Spot, shared, spots}
+use Rattle.layout_defs.specs.Flex.{TrackItem, Spot, shared, spots}
 use Rattle.layout_defs.specs.Boxes.{Box, course_of, is_reversed, wraps, inner}
 use Rattle.layout_defs.specs.Solving.{Wide, wide_box, Widened, Tall, tall_box, Slot, Room, Span, room_of, own_slot, dealt, taking_part, in_order, flow_slots, ordered_slots, flat_slots, far_end, end_across, end_down, kid_reach, offset_of, moved, paired, row_slot, column_slot, row_item, column_item}
 use Rattle.layout_defs.specs.Solving.{natural_width, natural_height, kids_width, kids_height, kid_widths, kid_widths_by, row_widths, width_in, width_item, with_natural_widths, with_widths, with_natural_heights}
@@ -47,12 +47,12 @@ module _ (offset : Span) (room : Room) where
   pub own-moved : (kid : Tall) → own_slot later kid ≡ moved offset (own_slot room kid)
   own-moved kid = slot-moved _ _ _
 
-  rows-moved : (items : List Item) (at : List Spot) → paired (row_slot later) items at ≡ map (moved offset) (paired (row_slot room) items at)
+  rows-moved : (items : List TrackItem) (at : List Spot) → paired (row_slot later) items at ≡ map (moved offset) (paired (row_slot room) items at)
   rows-moved [] at = refl
   rows-moved (item ∷ items) [] = refl
   rows-moved (item ∷ items) (s ∷ at) = rw (slot-moved s.main_at s.cross_at item.cross, rows-moved items at) refl
 
-  columns-moved : (items : List Item) (at : List Spot) → paired (column_slot later) items at ≡ map (moved offset) (paired (column_slot room) items at)
+  columns-moved : (items : List TrackItem) (at : List Spot) → paired (column_slot later) items at ≡ map (moved offset) (paired (column_slot room) items at)
   columns-moved [] at = refl
   columns-moved (item ∷ items) [] = refl
   columns-moved (item ∷ items) (s ∷ at) = rw (slot-moved s.cross_at s.main_at item.main, columns-moved items at) refl

@@ -10,7 +10,7 @@ use Rattle.std.proofs.lemmas.List.Sums.{sum_by-cons, sum_by-append, sum_by-take-
 use Rattle.std.proofs.lemmas.Nat.{le-div}
 use Rattle.std.proofs.Math.Nat.{div-le_self, div-le_of_le-mul, mul-div_cancel, div-mul-le_self, mul-le-mul_left}
 use Rattle.std.proofs.Math.Seq.{take-append_seam}
-use Rattle.layout_defs.specs.Flex.{Item, main_of, grow_of, counted, numbered, free_of, weight_to, weight_of, shared_item, shared_track, shared, tracks}
+use Rattle.layout_defs.specs.Flex.{TrackItem, main_of, grow_of, counted, numbered, free_of, weight_to, weight_of, shared_item, shared_track, shared, tracks}
 use Rattle.layout_defs.proofs.Everywhere.{All-front, All-back, All-flat_map, All-numbered}
 use Rattle.layout_defs.proofs.Tracks.{items_keep_order}
 use Rattle.layout_defs.specs.FlexLaws.{SharesFillTracks, NothingShared}
@@ -25,11 +25,11 @@ part_mono free a b weight some h = div_mono (free * a) (free * b) weight some (m
 pub part_within : (free a weight : ℕ) → a ≤ weight → free * a / weight ≤ free
 part_within free a weight h = div-le_of_le-mul weight (omega (arith, mul-le-mul_left free h))
 
-weight-push : (pre : List Item) (item : Item) → weight_of (pre ++ item ∷ []) ≡ weight_of pre + item.grow
+weight-push : (pre : List TrackItem) (item : TrackItem) → weight_of (pre ++ item ∷ []) ≡ weight_of pre + item.grow
 weight-push pre item = sum_by-append grow_of pre (item ∷ []) ∙ ap (λ n. weight_of pre + n) (omega (arith, sum_by-cons grow_of item []))
 
 -- an item takes what comes between the parts of the items before it and with it
-item_fills : (free : ℕ) (track : List Item) (item : Item) (n a b : ℕ) → 0 < weight_of track → b ≡ a + item.grow → weight_to track n ≡ a → weight_to track (n + 1) ≡ b →
+item_fills : (free : ℕ) (track : List TrackItem) (item : TrackItem) (n a b : ℕ) → 0 < weight_of track → b ≡ a + item.grow → weight_to track n ≡ a → weight_to track (n + 1) ≡ b →
     main_of (shared_item free track n item) + free * a / weight_of track ≡ counted item + free * b / weight_of track
 item_fills free track item n a b some is before with = elim (cases_Bool (item.grow == 0)) [
   | inl none ↦
@@ -40,12 +40,12 @@ item_fills free track item n a b some is before with = elim (cases_Bool (item.gr
       rw (grows, before, with) (omega (arith, more))
 ]
 
-module _ (free : ℕ) (track : List Item) (some : 0 < weight_of track) where
+module _ (free : ℕ) (track : List TrackItem) (some : 0 < weight_of track) where
   -- the weight of the items before one of the track, and with it
-  weight_before : (pre xs : List Item) → track ≡ pre ++ xs → weight_to track (length pre) ≡ weight_of pre
+  weight_before : (pre xs : List TrackItem) → track ≡ pre ++ xs → weight_to track (length pre) ≡ weight_of pre
   weight_before pre xs is = ap (λ ys. weight_to ys (length pre)) is ∙ ap weight_of (take-append_seam pre xs)
 
-  fills : (pre xs : List Item) → track ≡ pre ++ xs →
+  fills : (pre xs : List TrackItem) → track ≡ pre ++ xs →
       sum_by main_of (numbered (shared_item free track) (length pre) xs) + free * weight_of pre / weight_of track ≡ sum_by counted xs + free
   fills pre [] is =
       let all : weight_of pre ≡ weight_of track = ap weight_of (sym (is ∙ append-nil pre)) in
@@ -79,7 +79,7 @@ shares_fill_tracks extent gap track some fit =
     let nothing = div-le_self (free * 0) (weight_of track) in
     omega (arith, all, main, counts, gaps, nothing, fit)
 
-none_shared : (free : ℕ) (track xs : List Item) (i : ℕ) → weight_of xs ≡ 0 → numbered (shared_item free track) i xs ≡ xs
+none_shared : (free : ℕ) (track xs : List TrackItem) (i : ℕ) → weight_of xs ≡ 0 → numbered (shared_item free track) i xs ≡ xs
 none_shared free track [] i none = refl
 none_shared free track (item ∷ xs) i none =
     let sums = sum_by-cons grow_of item xs in
@@ -91,12 +91,12 @@ pub nothing_shared : NothingShared
 nothing_shared extent gap track none = none_shared (free_of extent gap track) track track 0 none
 
 -- Sizes of items.
-pub record IsItem (item : Item) : Type 0 where
+pub record IsItem (item : TrackItem) : Type 0 where
   pub main : item.main ≤ 8191
   pub cross : item.cross ≤ 8191
 
-module _ (free : ℕ) (track : List Item) (small : free ≤ 8191) where
-  shared_small : (i : ℕ) (item : Item) → IsItem item → IsItem (shared_item free track i item)
+module _ (free : ℕ) (track : List TrackItem) (small : free ≤ 8191) where
+  shared_small : (i : ℕ) (item : TrackItem) → IsItem item → IsItem (shared_item free track i item)
   shared_small i item is = elim (cases_Bool (item.grow == 0)) [
     | inl none ↦ rw none is
     | inr grows ↦
@@ -108,7 +108,7 @@ pub All-parts : {A : Type 0} (P : A → Type 0) (ts : List (List A)) → All P (
 All-parts P [] all = All-nil (All P)
 All-parts P (t ∷ ts) all = All-cons (All P) t ts (All-front P t (flat_map (λ u. u) ts) all) (All-parts P ts (All-back P t (flat_map (λ u. u) ts) all))
 
-module _ (wrap : Bool) (extent gap : ℕ) (items : List Item) (all : All IsItem items) where
+module _ (wrap : Bool) (extent gap : ℕ) (items : List TrackItem) (all : All IsItem items) where
   pub All-tracks : All (All IsItem) (tracks wrap extent gap items)
   All-tracks = All-parts IsItem (tracks wrap extent gap items) (All-same IsItem (flat_map (λ t. t) (tracks wrap extent gap items)) items (items_keep_order wrap extent gap items) all)
 

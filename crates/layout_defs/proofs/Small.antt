@@ -7,7 +7,7 @@ use Rattle.gui_base.specs.declared.words.Length.{Length}
 use Rattle.gui_base.specs.declared.words.Length.TheVariants.{Pixels, Percent, Content}
 use Rattle.layout_defs.specs.declared.Course.{Course}
 use Rattle.layout_defs.specs.declared.Course.TheVariants.{Free, Across, Down}
-use Rattle.layout_defs.specs.Flex.{Item, shared, spots}
+use Rattle.layout_defs.specs.Flex.{TrackItem, shared, spots}
 use Rattle.layout_defs.specs.Boxes.{Box, course_of, wraps, is_reversed, inset, inner, size_in}
 use Rattle.layout_defs.specs.Solving.{Wide, wide_box, Widened, Tall, tall_box, Slot, Room, with_natural_widths, with_widths, with_natural_heights, with_slots, natural_size, natural_width, natural_height, kids_width, kids_height, taking_part, in_order, width_in, width_item, main_sizes, row_widths, kid_widths, kid_widths_by, own_slot, row_item, column_item, row_slot, column_slot, ordered_slots, flow_slots, flat_slots, room_of, kid_slots, kid_reach, offset_of, moved, nowhere, no_span}
 use Rattle.layout_defs.specs.Reach.{NaturalWidthsAreSizes, HasSizes, SolvedAreSizes}
@@ -48,8 +48,8 @@ all_any xs k d h = tt
 width_small : (room : ℕ) (kid : Wide) → Any kid → width_in room kid ≤ 8191
 width_small room kid _ = size_in_small kid.box.across.size room kid.natural
 
-main_sizes_small : (items : List Item) → All IsSmall (main_sizes items)
-main_sizes_small items = All-each Any IsSmall (λ (item : Item). min item.main 8191) (λ item _. omega arith) items (all_any items)
+main_sizes_small : (items : List TrackItem) → All IsSmall (main_sizes items)
+main_sizes_small items = All-each Any IsSmall (λ (item : TrackItem). min item.main 8191) (λ item _. omega arith) items (all_any items)
 
 kid_widths_by_small : (course : Course) (box : Box) (room : ℕ) (kids : List Wide) → All IsSmall (kid_widths_by course box room kids)
 kid_widths_by_small Free box room kids = All-each Any IsSmall (width_in room) (width_small room) kids (all_any kids)

@@ -8,7 +8,7 @@ use Rattle.std.proofs.lemmas.List.Sums.{sum_by_more, sum_by_more_le}
 use Rattle.std.proofs.Math.Nat.{mul-le-mul_left, div-le_self}
 use Rattle.gui_base.specs.declared.words.Placing.{Placing}
 use Rattle.gui_base.specs.declared.words.Placing.TheVariants.{Start, End, Center, SpaceEvenly, SpaceAround, SpaceBetween}
-use Rattle.layout_defs.specs.Flex.{Item, Spot, main_of, cross_of, numbered, spread, spanned, left_over, thickness, across, item_spot}
+use Rattle.layout_defs.specs.Flex.{TrackItem, Spot, main_of, cross_of, numbered, spread, spanned, left_over, thickness, across, item_spot}
 use Rattle.layout_defs.specs.FlexLaws.{NeighboursApart, ItemsApart, TracksApart, LinesFit, ItemsInTracks}
 use Rattle.layout_defs.proofs.Shares.{part_mono, part_within}
 
@@ -87,7 +87,7 @@ get_or-le-fold a [] i d h = absurd (omega arith)
 get_or-le-fold a (x ∷ xs) zero d h = let l = start-le-fold (max a x) xs in omega arith
 get_or-le-fold a (x ∷ xs) (suc i) d h = get_or-le-fold (max a x) xs i d (omega arith)
 
-pub cross_within : (track : List Item) (i : ℕ) (d : Item) → i < length track → (get_or track i d).cross ≤ thickness track
+pub cross_within : (track : List TrackItem) (i : ℕ) (d : TrackItem) → i < length track → (get_or track i d).cross ≤ thickness track
 cross_within track i d h =
     let short : i < length (map cross_of track) = omega (arith, length-map track cross_of) in
     let most = get_or-le-fold 0 (map cross_of track) i 0 short in

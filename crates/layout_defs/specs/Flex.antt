@@ -8,7 +8,7 @@ use Rattle.gui_base.specs.declared.words.Placing.TheVariants.{SpaceBetween}
 
 -- an item's size along the flow and across it, and its weight in sharing what is free; it grows where the
 -- weight is not 0
-pub record Item : Type 0 where
+pub record TrackItem : Type 0 where
   pub main : ℕ
   pub cross : ℕ
   pub grow : ℕ
@@ -18,17 +18,17 @@ pub record Spot : Type 0 where
   pub main_at : ℤ
   pub cross_at : ℤ
 
-abbrev pub main_of : Item → ℕ
+abbrev pub main_of : TrackItem → ℕ
 main_of item = item.main
 
-abbrev pub cross_of : Item → ℕ
+abbrev pub cross_of : TrackItem → ℕ
 cross_of item = item.cross
 
-abbrev pub grow_of : Item → ℕ
+abbrev pub grow_of : TrackItem → ℕ
 grow_of item = item.grow
 
 -- the size along the flow that counts before the free space is shared out: none of an item that grows
-abbrev pub counted : Item → ℕ
+abbrev pub counted : TrackItem → ℕ
 counted item = if item.grow == 0 then item.main else 0
 
 -- f of each with its number, where the first has the number n
@@ -46,7 +46,7 @@ spanned gap sizes = sum sizes + gap * (length sizes - 1)
 
 -- Tracks.
 -- an item before those of the first track
-abbrev pub before_all : Item → List (List Item) → List (List Item)
+abbrev pub before_all : TrackItem → List (List TrackItem) → List (List TrackItem)
 before_all item [] = (item ∷ []) ∷ []
 before_all item (track ∷ tracks) = (item ∷ track) ∷ tracks
 
@@ -56,7 +56,7 @@ is_fit wrap extent long = not wrap || nat_le long extent
 
 module _ (wrap : Bool) (extent gap : ℕ) where
   -- the items in tracks, where the first of them go on a track that is so long already
-  abbrev pub tracks_from : ℕ → List Item → List (List Item)
+  abbrev pub tracks_from : ℕ → List TrackItem → List (List TrackItem)
   tracks_from long [] = [] ∷ []
   tracks_from long (item ∷ items) =
       if is_fit wrap extent (long + gap + counted item) then
@@ -64,36 +64,36 @@ module _ (wrap : Bool) (extent gap : ℕ) where
       else [] ∷ before_all item (tracks_from (counted item) items)
 
   -- the items in tracks: a track takes its first item, and each next while it fits
-  abbrev pub tracks : List Item → List (List Item)
+  abbrev pub tracks : List TrackItem → List (List TrackItem)
   tracks [] = []
   tracks (item ∷ items) = before_all item (tracks_from (counted item) items)
 
 -- Sharing.
 -- what is free before it is shared out
-abbrev pub free_of : ℕ → ℕ → List Item → ℕ
+abbrev pub free_of : ℕ → ℕ → List TrackItem → ℕ
 free_of extent gap track = extent - spanned gap (map counted track)
 
 -- the weight of the first so many items
-abbrev pub weight_to : List Item → ℕ → ℕ
+abbrev pub weight_to : List TrackItem → ℕ → ℕ
 weight_to track n = sum_by grow_of (take n track)
 
-abbrev pub weight_of : List Item → ℕ
+abbrev pub weight_of : List TrackItem → ℕ
 weight_of track = sum_by grow_of track
 
 -- the part of the free space that item i gets, which grows
-abbrev pub share_of : ℕ → List Item → ℕ → ℕ
+abbrev pub share_of : ℕ → List TrackItem → ℕ → ℕ
 share_of free track i =
     free * weight_to track (i + 1) / weight_of track - free * weight_to track i / weight_of track
 
-abbrev pub shared_item : ℕ → List Item → ℕ → Item → Item
+abbrev pub shared_item : ℕ → List TrackItem → ℕ → TrackItem → TrackItem
 shared_item free track i item =
     if item.grow == 0 then item else record item { main = share_of free track i }
 
-abbrev pub shared_track : ℕ → ℕ → List Item → List Item
+abbrev pub shared_track : ℕ → ℕ → List TrackItem → List TrackItem
 shared_track extent gap track = numbered (shared_item (free_of extent gap track) track) 0 track
 
 -- the items with the shares of those that grow
-abbrev pub shared : Bool → ℕ → ℕ → List Item → List Item
+abbrev pub shared : Bool → ℕ → ℕ → List TrackItem → List TrackItem
 shared wrap extent gap items = flat_map (shared_track extent gap) (tracks wrap extent gap items)
 
 -- Placing.
@@ -111,11 +111,11 @@ abbrev pub stand : Placing → ℕ → ℕ → List ℕ → ℕ → ℕ
 stand placing free gap sizes i = (sum (take i sizes) + gap * i) + spread placing free i (length sizes)
 
 -- what is free once it is shared out: nothing where an item grows
-abbrev pub left_over : ℕ → ℕ → List Item → ℕ
+abbrev pub left_over : ℕ → ℕ → List TrackItem → ℕ
 left_over extent gap track = if weight_of track == 0 then free_of extent gap track else 0
 
 -- how far a track reaches across the flow
-abbrev pub thickness : List Item → ℕ
+abbrev pub thickness : List TrackItem → ℕ
 thickness track = greatest (map cross_of track)
 
 -- where an item stands in its track, across the flow
@@ -130,23 +130,23 @@ pub record Placings : Type 0 where
   pub cross : Placing
   pub track : Placing
 
-abbrev pub item_spot : Placings → ℕ → ℕ → ℕ → List Item → ℕ → Item → Spot
+abbrev pub item_spot : Placings → ℕ → ℕ → ℕ → List TrackItem → ℕ → TrackItem → Spot
 item_spot placings extent gap at track i item = record {
   main_at = pos (stand placings.main (left_over extent gap track) gap (map main_of track) i);
   cross_at = pos (at + across placings.cross (thickness track - item.cross));
 }
 
 -- where the items of a track stand that stands there across the flow
-abbrev pub track_spots : Placings → ℕ → ℕ → ℕ → List Item → List Spot
+abbrev pub track_spots : Placings → ℕ → ℕ → ℕ → List TrackItem → List Spot
 track_spots placings extent gap at track = numbered (item_spot placings extent gap at track) 0 track
 
 -- where track t stands
-abbrev pub track_at : Placing → ℕ → ℕ → List (List Item) → ℕ → ℕ
+abbrev pub track_at : Placing → ℕ → ℕ → List (List TrackItem) → ℕ → ℕ
 track_at placing extent gap all t =
     let sizes = map thickness all in stand placing (extent - spanned gap sizes) gap sizes t
 
 -- where the items stand whose shares are given
-abbrev pub spots : Placings → Bool → ℕ → ℕ → ℕ → ℕ → List Item → List Spot
+abbrev pub spots : Placings → Bool → ℕ → ℕ → ℕ → ℕ → List TrackItem → List Spot
 spots placings wrap extent cross_extent gap track_gap items =
     let all = tracks wrap extent gap items in
     let at = track_at placings.track cross_extent track_gap all in

@@ -6,7 +6,7 @@ use Rattle.gui_base.specs.Area.{Rect, area_at, nat_of}
 use Rattle.gui_base.specs.Forest.{Forest, Empty, Tree, roots}
 use Rattle.gui_base.specs.declared.words.Length.{Length}
 use Rattle.gui_base.specs.declared.words.Length.TheVariants.{Pixels, Percent, Content}
-use Rattle.layout_defs.specs.Flex.{Item, Spot, greatest, spanned, tracks, thickness, shared, spots}
+use Rattle.layout_defs.specs.Flex.{TrackItem, Spot, greatest, spanned, tracks, thickness, shared, spots}
 use Rattle.layout_defs.specs.declared.Course.{Course}
 use Rattle.layout_defs.specs.declared.Course.TheVariants.{Free, Across, Down}
 use Rattle.layout_defs.specs.declared.Side.{Side}
@@ -83,11 +83,11 @@ widened_box w = w.box
 abbrev pub width_in : ℕ → Wide → ℕ
 width_in room kid = size_in kid.box.across.size room kid.natural
 
-abbrev pub width_item : ℕ → Wide → Item
+abbrev pub width_item : ℕ → Wide → TrackItem
 width_item room kid = record { main = width_in room kid; cross = 0; grow = kid.box.grow }
 
-abbrev pub main_sizes : List Item → List ℕ
-main_sizes items = map (λ (item : Item). brought item.main) items
+abbrev pub main_sizes : List TrackItem → List ℕ
+main_sizes items = map (λ (item : TrackItem). brought item.main) items
 
 -- the widths of the children of a row that take part, with its shares
 abbrev pub row_widths : Box → ℕ → List Wide → List ℕ
@@ -123,7 +123,7 @@ pub record Tall : Type 0 where
 abbrev pub tall_box : Tall → Box
 tall_box tall = tall.box
 
-abbrev pub height_item : Tall → Item
+abbrev pub height_item : Tall → TrackItem
 height_item kid = record { main = kid.width; cross = kid.natural_height; grow = kid.box.grow }
 
 -- how high the children are that take part, in a content area so wide; a row is as high as its tracks
@@ -201,11 +201,11 @@ own_slot room kid =
     }
 
 -- the slots of the items of a row, and of a column
-abbrev pub row_slot : Room → Item → Spot → Slot
+abbrev pub row_slot : Room → TrackItem → Spot → Slot
 row_slot room item spot =
     record { x = room.x +ℤ spot.main_at; y = room.y +ℤ spot.cross_at; height = item.cross }
 
-abbrev pub column_slot : Room → Item → Spot → Slot
+abbrev pub column_slot : Room → TrackItem → Spot → Slot
 column_slot room item spot =
     record { x = room.x +ℤ spot.cross_at; y = room.y +ℤ spot.main_at; height = item.main }
 
@@ -215,10 +215,10 @@ paired f [] ys = []
 paired f (x ∷ xs) [] = []
 paired f (x ∷ xs) (y ∷ ys) = f x y ∷ paired f xs ys
 
-abbrev pub row_item : ℕ → Tall → Item
+abbrev pub row_item : ℕ → Tall → TrackItem
 row_item room kid = record { main = kid.width; cross = height_in room kid; grow = kid.box.grow }
 
-abbrev pub column_item : ℕ → Tall → Item
+abbrev pub column_item : ℕ → Tall → TrackItem
 column_item room kid = record { main = height_in room kid; cross = kid.width; grow = kid.box.grow }
 
 -- the slots of the children that take part in a flow, in its order

@@ -69,7 +69,7 @@ pub enum Command<'a> {
 
 /// What of an object an input may set, so that value_changed tells of it.
 #[derive(Clone, Copy, Debug, PartialEq, Eq)]
-pub struct Setting {
+pub struct ControlValue {
     /// The value of a bar or a slider, and 0 of any other object.
     pub value: i32,
     /// Whether it is checked.

@@ -16,11 +16,11 @@ use Rattle.text_defs.specs.Lines.{LineSetting, TextLine, lines, run_width, byte_
 -- Texts are given as the codes of their characters.
 
 -- a line: the bytes before it, its own, and the width of its run
-abbrev pub Row : Type 0
-Row = ℕ × ℕ × ℕ
+abbrev pub LineSpan : Type 0
+LineSpan = ℕ × ℕ × ℕ
 
-abbrev pub row_of : LineSetting → TextLine → Row
-row_of s line = (line.start, byte_count line.chars, run_width s line.chars)
+abbrev pub span_of : LineSetting → TextLine → LineSpan
+span_of s line = (line.start, byte_count line.chars, run_width s line.chars)
 
 abbrev pub set_in : Face → ℕ → Option ℕ → LineSetting
 set_in face letter most = record { face = face; letter = letter; most = most }
@@ -29,12 +29,12 @@ abbrev plain : Option ℕ → LineSetting
 plain most = set_in built_in 0 most
 
 -- the lines of a text in the built-in font, in so many pixels
-abbrev rows_in : ℕ → List ℕ → List Row
-rows_in width text = map (row_of (plain (Some width))) (lines (plain (Some width)) text)
+abbrev spans_in : ℕ → List ℕ → List LineSpan
+spans_in width text = map (span_of (plain (Some width))) (lines (plain (Some width)) text)
 
 -- the same where lines end at newlines alone
-abbrev rows_of : List ℕ → List Row
-rows_of text = map (row_of (plain None)) (lines (plain None) text)
+abbrev spans_of : List ℕ → List LineSpan
+spans_of text = map (span_of (plain None)) (lines (plain None) text)
 
 abbrev spaced_size : List ℕ → ℕ × ℕ
 spaced_size text = measured (set_in built_in 1 None) 2 text
@@ -44,22 +44,22 @@ abbrev flat : Face
 flat = face (with_finished (with_font [] 1 8 0) 1) 1
 
 pub record LinesAreWorked : Type 0 where
-  pub after_a_space : rows_in 24 (codes "ab cd") ≡ (0, 3, 18) ∷ (3, 2, 12) ∷ []
-  pub without_a_space : rows_in 24 (codes "abcdef") ≡ (0, 4, 24) ∷ (4, 2, 12) ∷ []
+  pub after_a_space : spans_in 24 (codes "ab cd") ≡ (0, 3, 18) ∷ (3, 2, 12) ∷ []
+  pub without_a_space : spans_in 24 (codes "abcdef") ≡ (0, 4, 24) ∷ (4, 2, 12) ∷ []
   -- a space that no longer fits ends no line: that before it does
-  pub space_at_the_end : rows_in 30 (codes "ab cd ef") ≡ (0, 3, 18) ∷ (3, 5, 30) ∷ []
+  pub space_at_the_end : spans_in 30 (codes "ab cd ef") ≡ (0, 3, 18) ∷ (3, 5, 30) ∷ []
   -- spaces at a line's start stay, and count in its width
-  pub spaces_alone : rows_in 12 (codes "   a") ≡ (0, 2, 12) ∷ (2, 2, 12) ∷ []
-  pub exactly_fits : rows_in 30 (codes "ab cd") ≡ (0, 5, 30) ∷ []
-  pub two_bytes : rows_of (233 ∷ []) ≡ (0, 2, 6) ∷ []
-  pub empty : rows_of [] ≡ (0, 0, 0) ∷ []
-  pub newline_at_the_end : rows_of (codes "a\n") ≡ (0, 1, 6) ∷ (2, 0, 0) ∷ []
-  pub two_newlines : rows_of (codes "\n\nb") ≡ (0, 0, 0) ∷ (1, 0, 0) ∷ (2, 1, 6) ∷ []
+  pub spaces_alone : spans_in 12 (codes "   a") ≡ (0, 2, 12) ∷ (2, 2, 12) ∷ []
+  pub exactly_fits : spans_in 30 (codes "ab cd") ≡ (0, 5, 30) ∷ []
+  pub two_bytes : spans_of (233 ∷ []) ≡ (0, 2, 6) ∷ []
+  pub empty : spans_of [] ≡ (0, 0, 0) ∷ []
+  pub newline_at_the_end : spans_of (codes "a\n") ≡ (0, 1, 6) ∷ (2, 0, 0) ∷ []
+  pub two_newlines : spans_of (codes "\n\nb") ≡ (0, 0, 0) ∷ (1, 0, 0) ∷ (2, 1, 6) ∷ []
   -- one character at least
-  pub no_width : rows_in 0 (codes "ab\nc") ≡ (0, 1, 6) ∷ (1, 1, 6) ∷ (3, 1, 6) ∷ []
-  pub wide_enough : rows_in 66 (codes "ab cd ef\ngh") ≡ rows_of (codes "ab cd ef\ngh")
+  pub no_width : spans_in 0 (codes "ab\nc") ≡ (0, 1, 6) ∷ (1, 1, 6) ∷ (3, 1, 6) ∷ []
+  pub wide_enough : spans_in 66 (codes "ab cd ef\ngh") ≡ spans_of (codes "ab cd ef\ngh")
   pub no_advances :
-      map (row_of (set_in flat 0 (Some 0))) (lines (set_in flat 0 (Some 0)) (codes "ab c"))
+      map (span_of (set_in flat 0 (Some 0))) (lines (set_in flat 0 (Some 0)) (codes "ab c"))
       ≡ (0, 4, 0) ∷ []
   -- between two characters, and between two lines
   pub spaces_between : spaced_size (codes "ab\nc") ≡ (13, 18)

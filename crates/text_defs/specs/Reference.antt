@@ -7,7 +7,7 @@ use Rattle.text_defs.specs.declared.GlyphBox.{GlyphBox}
 use Rattle.text_defs.specs.BuiltIn.{built_in}
 use Rattle.text_defs.specs.Face.{Face}
 use Rattle.text_defs.specs.Fonts.{Glyph, face_of}
-use Rattle.text_defs.specs.Examples.{Row, row_of, set_in}
+use Rattle.text_defs.specs.Examples.{LineSpan, span_of, set_in}
 use Rattle.text_defs.specs.Lines.{lines}
 
 -- a glyph of a letter that has no points
@@ -26,8 +26,8 @@ uneven = face_of (record {
   glyphs = blank 105 2 ∷ blank 109 9 ∷ blank 32 3 ∷ blank 122 0 ∷ [];
 })
 
-abbrev lines_in : Face → ℕ → Option ℕ → List ℕ → List Row
-lines_in face letter most text = map (row_of (set_in face letter most)) (lines (set_in face letter most) text)
+abbrev lines_in : Face → ℕ → Option ℕ → List ℕ → List LineSpan
+lines_in face letter most text = map (span_of (set_in face letter most)) (lines (set_in face letter most) text)
 
 -- in the built-in font
 pub record BuiltInLines : Type 0 where

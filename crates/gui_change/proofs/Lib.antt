@@ -34,6 +34,7 @@ pub mod Rooted
 pub mod ShownTrees
 pub mod Laid
 pub mod SetRows
+pub mod Repainted
 pub mod MainValues
 pub mod BoxesStay
 pub mod Unmoved

@@ -12,8 +12,8 @@ use Rattle.gui_layout.specs.Listing.{times, value_count, HasThese}
 use Rattle.gui_layout.proofs.These.{value-set, within_of}
 use Rattle.gui_pool.specs.Table.{Table, value_at, value_inserted, value_removed}
 use Rattle.gui_tree.specs.Handles.{numbers}
+use Rattle.widget_defs.specs.Items.{Item}
 use Rattle.scene_defs.specs.Items.{items_of as items_at}
-use Rattle.scene_defs.specs.Place.{place}
 use Rattle.scene_defs.specs.Scene.{Object, Scene, object_at}
 use Rattle.gui_change.specs.Again.{AreSeenOf}
 use Rattle.gui_change.specs.Owed.{sight_of}
@@ -46,15 +46,13 @@ module _ (t u : Table Seen) (h : ℕ) (v : Seen) (within : h < length t.values) 
     | inr other ↦ ap sight_of (placed k ∙ rw other refl)
   ]
 
-  no-items : (scene : Scene) (o : Option Object) (p : Option Rect) → p ≡ None → items_at scene o p ≡ []
-  no-items scene None p none = refl
-  no-items scene (Some object) None none = refl
-  no-items scene (Some object) (Some area) none = cc
+  no-items : (scene : Scene) (o : Option Object) → items_at scene o None ≡ []
+  no-items scene None = refl
+  no-items scene (Some object) = refl
 
   keeps-nothing : (scene : Scene) (k : ℕ) → items_known v.paints ≡ [] → KeepsItems scene k v
-  keeps-nothing scene k empty stands =
-      let none : place scene k ≡ None = sym stands ∙ ap place_in empty in
-      empty ∙ sym (no-items scene (object_at scene k) (place scene k) none)
+  keeps-nothing scene k empty =
+      empty ∙ sym (ap (λ (l : List Item). items_at scene (object_at scene k) (place_in l)) empty ∙ no-items scene (object_at scene k))
 
   pub put-keeps : items_known v.paints ≡ [] → (concerned : Concerned) (scene : Scene) → KeepOthers t concerned scene → KeepOthers u concerned scene
   put-keeps empty concerned scene known k s there off found = elim (cases_Bool (eqb h k)) [

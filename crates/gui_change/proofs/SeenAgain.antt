@@ -33,6 +33,7 @@ use Rattle.gui_change.specs.declared.concerned.Concerned.{Concerned}
 use Rattle.gui_change.specs.declared.seen.Seen.{Seen}
 use Rattle.gui_change.proofs.Orders.{shown_once}
 use Rattle.gui_change.proofs.Orderless.{all-first, same-off, same-order}
+use Rattle.gui_change.proofs.Sparing.{seen-keeps}
 use Rattle.gui_change.proofs.Staying.{nothing-owed, sight-is}
 
 -- something is known of the same objects still
@@ -108,7 +109,7 @@ module _ (scene : Scene) (valid : IsValid scene) (named : Option ℕ) (old new :
 
   listed-keeps : (concerned : Concerned) → KeepOthers old concerned scene → KeepOthers new concerned scene
   listed-keeps concerned known k s there off found = elim (cases_Bool (nat_lt 0 (times hs k))) [
-    | inl more ↦ λ stands. (seen k s (grind (arith, nat_tests, more)) found).items
+    | inl more ↦ seen-keeps scene k s (seen k s (grind (arith, nat_tests, more)) found)
     | inr none ↦ let zero : times hs k ≡ 0 = grind (arith, nat_tests, none) in known k s there off (sym (rest k zero) ∙ found)
   ]
 

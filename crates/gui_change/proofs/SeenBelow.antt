@@ -35,6 +35,7 @@ use Rattle.gui_change.specs.declared.seen.Seen.{Seen}
 use Rattle.gui_change.proofs.Below.{below_met, climbs, meets_from, steps_from, user_met}
 use Rattle.gui_change.proofs.Orders.{shown_there}
 use Rattle.gui_change.proofs.SeenAgain.{all-owed, nothing-known, shown-has, shown-still}
+use Rattle.gui_change.proofs.Sparing.{seen-keeps}
 
 module _ (scene : Scene) (valid : IsValid scene) (h : ℕ) where
   lies-tree : (k : ℕ) → lies_in scene h k ≡ true → has (tree_at (handles_of scene.trees) h) k ≡ true
@@ -104,7 +105,7 @@ module _ (scene : Scene) (number : ℕ) (once : StandsOnce (handles_of scene.tre
 -- where those are seen that a change may concern, all may keep their items
 pub all-kept : (scene : Scene) (t : Table Seen) (concerned : Concerned) → KeepOthers t concerned scene → ((k : ℕ) → may_be scene concerned k ≡ true → IsSeenIn t scene k) → KeepOthers t Nobody scene
 all-kept scene t concerned known seen k s there off found = elim (cases_Bool (may_be scene concerned k)) [
-  | inl may ↦ λ stands. (seen k may s found).items
+  | inl may ↦ seen-keeps scene k s (seen k may s found)
   | inr isnt ↦ known k s there isnt found
 ]
 

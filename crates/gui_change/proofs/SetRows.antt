@@ -1,4 +1,4 @@
--- The values and what layout goes by where the row of one object is set in all but that.
+-- The values, and what is kept of each object, where the row of one is set in all but that: what layout goes by.
 use Rattle.std.proofs.Common.{◌≡◌, ◌∙◌, ap, ℕ, ◌<◌, Bool, true, false, cond, nat_eq, Some, option_map, List, [], ◌∷◌, map, refl, inl, inr, w16, arith}
 use Rattle.std.proofs.lemmas.Bool.{cases_Bool}
 use Rattle.std.proofs.lemmas.Nat.{one_shl}
@@ -7,12 +7,14 @@ use Rattle.gui_base.specs.Bits.{has_bit, with_bit, flag_bit}
 use Rattle.gui_base.specs.Forest.{Forest, Empty, Tree, path_by, has_by, with_row_by}
 use Rattle.gui_base.specs.declared.words.Flag.{Flag}
 use Rattle.gui_base.specs.declared.words.Flag.TheVariants.{Hidden, Clickable, Checkable, Bubble, Scrollable}
+use Rattle.gui_base.specs.declared.props.Prop.{Prop}
+use Rattle.gui_base.specs.declared.words.Part.{Part}
 use Rattle.gui_base.specs.declared.words.Part.TheVariants.{Main}
 use Rattle.style_defs.specs.Value.{value_on}
 use Rattle.scene_defs.specs.declared.Row.{Row}
 use Rattle.scene_defs.specs.Edits.{over_row, with_row}
 use Rattle.scene_defs.specs.Row.{is_on}
-use Rattle.scene_defs.specs.Scene.{Object, Scene, is_at, object_by, path_at, styled_of}
+use Rattle.scene_defs.specs.Scene.{Object, Scene, is_at, object_by, path_at, styled_of, value}
 use Rattle.gui_change.specs.Moving.{goes_by_flag}
 use Rattle.gui_change.proofs.Laid.{LaidSame, laid}
 
@@ -38,8 +40,7 @@ scrollable-kept flags Checkable on off = bit-kept flags 2 4 on (omega arith) (om
 scrollable-kept flags Bubble on off = bit-kept flags 3 4 on (omega arith) (omega arith) (λ e. omega arith)
 scrollable-kept flags Scrollable on off = cc
 
-module _ (scene : Scene) (h : ℕ) (f : Row → Row) (kind : (row : Row) → (f row).kind ≡ row.kind) (states : (row : Row) → (f row).states ≡ row.states)
-    (same : (object : Object) → laid (over_row f object) ≡ laid object) where
+module _ (scene : Scene) (h : ℕ) (f : Row → Row) (kind : (row : Row) → (f row).kind ≡ row.kind) (states : (row : Row) → (f row).states ≡ row.states) where
   abbrev set_one : Object → Object
   set_one object = cond (is_at h object) (over_row f object) object
 
@@ -48,9 +49,6 @@ module _ (scene : Scene) (h : ℕ) (f : Row → Row) (kind : (row : Row) → (f 
 
   handle-set : (object : Object) → (set_one object).handle ≡ object.handle
   handle-set object = elim (cases_Bool (is_at h object)) [ inl is ↦ rw is refl | inr isnt ↦ rw isnt refl ]
-
-  laid-set : (object : Object) → laid (set_one object) ≡ laid object
-  laid-set object = elim (cases_Bool (is_at h object)) [ inl is ↦ rw is (same object) | inr isnt ↦ rw isnt refl ]
 
   has-set : (k : ℕ) (g : Forest Object) → has_by (is_at k) (set g) ≡ has_by (is_at k) g
   has-set k Empty = refl
@@ -66,16 +64,6 @@ module _ (scene : Scene) (h : ℕ) (f : Row → Row) (kind : (row : Row) → (f 
     ]
   ]
 
-  object-set : (k : ℕ) (g : Forest Object) → option_map laid (object_by (is_at k) (set g)) ≡ option_map laid (object_by (is_at k) g)
-  object-set k Empty = refl
-  object-set k (Tree object cs rest) = elim (cases_Bool (is_at k object)) [
-    | inl is ↦ rw (handle-set object, is) (ap Some (laid-set object))
-    | inr isnt ↦ elim (cases_Bool (has_by (is_at k) cs)) [
-      | inl below ↦ rw (handle-set object, isnt, has-set k cs, below) (object-set k cs)
-      | inr beside ↦ rw (handle-set object, isnt, has-set k cs, beside) (object-set k rest)
-    ]
-  ]
-
   -- styles see the same of each object
   styled-set : (path : List Object) → map (styled_of scene.book) (map set_one path) ≡ map (styled_of scene.book) path
   styled-set [] = refl
@@ -84,12 +72,26 @@ module _ (scene : Scene) (h : ℕ) (f : Row → Row) (kind : (row : Row) → (f 
     | inr isnt ↦ rw (isnt, styled-set above) refl
   ]
 
-  pub row-set : (k : ℕ) → LaidSame scene (with_row scene h f) k
-  row-set k = record {
-    fonts = refl;
-    images = refl;
-    object = object-set k scene.trees;
-    values = λ prop by.
-        ap (λ p. value_on scene.book.styles (map (styled_of scene.book) p) Main prop) (path-set k [] scene.trees)
-        ∙ ap (λ os. value_on scene.book.styles os Main prop) (styled-set (path_at scene k));
-  }
+  pub values-set : (k : ℕ) (part : Part) (prop : Prop) → value (with_row scene h f) k part prop ≡ value scene k part prop
+  values-set k part prop =
+      ap (λ p. value_on scene.book.styles (map (styled_of scene.book) p) part prop) (path-set k [] scene.trees)
+      ∙ ap (λ os. value_on scene.book.styles os part prop) (styled-set (path_at scene k))
+
+  -- what is kept of each object that is set is kept of all
+  module _ {A : Type 0} (view : Object → A) (same : (object : Object) → view (over_row f object) ≡ view object) where
+    view-set : (object : Object) → view (set_one object) ≡ view object
+    view-set object = elim (cases_Bool (is_at h object)) [ inl is ↦ rw is (same object) | inr isnt ↦ rw isnt refl ]
+
+    pub object-set : (k : ℕ) (g : Forest Object) → option_map view (object_by (is_at k) (set g)) ≡ option_map view (object_by (is_at k) g)
+    object-set k Empty = refl
+    object-set k (Tree object cs rest) = elim (cases_Bool (is_at k object)) [
+      | inl is ↦ rw (handle-set object, is) (ap Some (view-set object))
+      | inr isnt ↦ elim (cases_Bool (has_by (is_at k) cs)) [
+        | inl below ↦ rw (handle-set object, isnt, has-set k cs, below) (object-set k cs)
+        | inr beside ↦ rw (handle-set object, isnt, has-set k cs, beside) (object-set k rest)
+      ]
+    ]
+
+  pub row-set : ((object : Object) → laid (over_row f object) ≡ laid object) → (k : ℕ) → LaidSame scene (with_row scene h f) k
+  row-set same k =
+      record { fonts = refl; images = refl; object = object-set laid same k scene.trees; values = λ prop by. values-set k Main prop }

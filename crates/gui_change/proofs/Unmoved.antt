@@ -32,7 +32,7 @@ use Rattle.debt_defs.proofs.Paths.{path-cut, path-with, spares-last}
 use Rattle.debt_defs.proofs.SameRows.{same-object}
 use Rattle.debt_defs.proofs.SameTrees.{deleted-path, end-path, index-path, made-path, not-in-tree}
 use Rattle.gui_layout.specs.Scenes.{scene_box}
-use Rattle.gui_layout.specs.SettledBut.{AreSettledButMarks, HasKids, IsUnmoved}
+use Rattle.gui_layout.specs.SettledBut.{AreSettledButMarks, HasKids, IsReordered, IsUnmoved, nobody}
 use Rattle.gui_layout.specs.Solved.{place_at}
 use Rattle.gui_layout.specs.Tables.{area_in}
 use Rattle.gui_layout.specs.Views.{no_box}
@@ -315,6 +315,25 @@ module _ (places : Places) (after : Scene) (parent : Handle) (made : Change) (co
       told places after made concerned was.was m c (λ k un. on-path places after made concerned was.was m c k (path k)
       (ap (λ (s : Scene). scene_box s k) it.is ∙ box-on-path scene it.trees k (it.paths k))
       (kids-told places after made concerned was.was m c k (λ j still. path j) (λ none. ap (λ (s : Scene). children s k) it.is ∙ it.kids k (off k un none)) (c k) refl))
+
+-- and so the order of its children alone is another
+module _ (places : Places) (after : Scene) (parent : Handle) (made : Change) (concerned : Concerned) (removed : List ℕ) (was : WasEdited places after (Beside parent) made concerned removed) where
+  pub beside-reordered : IsReordered was.was.before after parent.0
+  beside-reordered =
+      let scene = was.was.before in
+      let it = moved places after parent made concerned removed was in
+      let own : ℕ → Bool = λ k. eqb k parent.0 in
+      let path = λ (k : ℕ). ap (λ (s : Scene). path_at s k) it.is ∙ it.paths k in
+      record {
+        once = was.was.valid.trees.once;
+        limits = limits-stay places after made concerned was.was;
+        each = λ k. on-path places after made concerned was.was nobody own k (path k)
+            (ap (λ (s : Scene). scene_box s k) it.is ∙ box-on-path scene it.trees k (it.paths k))
+            (kids-told places after made concerned was.was nobody own k (λ j still. path j) (λ none. ap (λ (s : Scene). children s k) it.is ∙ it.kids k none) (eqb k parent.0) refl);
+        kept = λ k kid.
+            let valid = valid-after places after made concerned was.was in
+            kid-before (handles_of scene.trees) (handles_of after.trees) k parent.0 was.was.valid.trees.once valid.trees.once (sym (parent-by-path scene after k (path k))) kid;
+      }
 
 module _ (places : Places) (after : Scene) (edit : Edit) (made : Change) (concerned : Concerned) (removed : List ℕ) (was : WasEdited places after edit made concerned removed) where
   pub keeps : is_gone edit ≡ false → KeepsObjects was.was.before after made

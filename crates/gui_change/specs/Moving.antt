@@ -1,5 +1,6 @@
--- Which changes leave every object its box, whatever the scene: what they set is nothing that layout goes by.
-use Rattle.std.specs.Prelude.{Bool, true, false, not, ◌&&◌}
+-- Which changes leave every object its box, whatever the scene: what they set is nothing that layout goes by. And
+-- which leave what every object paints where it stands.
+use Rattle.std.specs.Prelude.{Bool, true, false, not, ◌&&◌, if◌then◌else◌}
 use Rattle.gui_base.specs.declared.props.Prop.{Prop}
 use Rattle.gui_base.specs.declared.props.Prop.TheVariants.{BgColor, BgOpa, BorderColor, BorderOpa}
 use Rattle.gui_base.specs.declared.props.Prop.TheVariants.{ImgRecolor, ImgOpa, TextColor, TextOpa, TextAlign}
@@ -13,6 +14,8 @@ use Rattle.scene_defs.specs.declared.Change.TheVariants as change
 use Rattle.debt_defs.specs.declared.subject.Subject.{Subject}
 use Rattle.debt_defs.specs.declared.subject.Subject.TheVariants.{Nobody}
 use Rattle.debt_defs.specs.Subject.{subject_of}
+use Rattle.gui_change.specs.declared.concerned.Concerned.{Concerned}
+use Rattle.gui_change.specs.declared.concerned.Concerned.TheVariants as concerned
 
 -- whether layout goes by the value of a property of the main part: by all but colours, opacities and how the
 -- lines of a text are aligned
@@ -58,3 +61,20 @@ moves_nobody (change.Unset s prop) = not (goes_by prop)
 moves_nobody (change.Local h selector prop value) = not (goes_by_set selector prop)
 moves_nobody (change.Unlocal h selector prop) = not (goes_by_set selector prop)
 moves_nobody change = is_nobody (subject_of change)
+
+-- Whether a change sets where an object stands and is seen, and nothing that it paints by: no value, text, picture
+-- or state. Any other may change what something paints.
+abbrev pub sets_no_paint : Change → Bool
+sets_no_paint (change.Flag h flag on) = true
+sets_no_paint (change.Pos h x y) = true
+sets_no_paint (change.Align h align x y) = true
+sets_no_paint (change.Size h width height) = true
+sets_no_paint (change.Scroll h x y) = true
+sets_no_paint (change.Flex h flow) = true
+sets_no_paint (change.Places h main cross track) = true
+sets_no_paint (change.Grow h n) = true
+sets_no_paint change = false
+
+-- of the objects that a change may concern those that may paint something else where they stand
+abbrev pub painted_by : Change → Concerned → Concerned
+painted_by change some = if sets_no_paint change then concerned.Nobody else some

@@ -12,8 +12,10 @@ pub(crate) struct After<'a> {
     pub(crate) store: &'a Store,
     /// The places of its objects, solved for this store.
     pub(crate) places: &'a Places,
-    /// Those that the change may concern. What is known of others may be kept.
+    /// Those that the change may concern.
     pub(crate) concerned: Concerned,
+    /// Of these those that may paint something else where they stand. What is known of others may be kept.
+    pub(crate) painted: Concerned,
     ghost solved: { AreSolved places.now (scene_of store.now) },
     ghost reached: { AreReached places.now (scene_of store.now) },
 }

@@ -9,6 +9,9 @@
 //! concern, and those of the trees that were solved: such a change takes time by their number. A change of the
 //! trees has all looked at again that is shown. All memory is taken at [`Canvas::open`].
 //!
+//! No value is looked up of an object that paints what it painted: where a change does not concern it or sets
+//! nothing that it paints by, and it stands where it stood or paints its own part alone.
+//!
 //! What is known of the objects is lent, in paint order, so that a painter need not look it up.
 #![tactic(auto)]
 

@@ -1,7 +1,8 @@
-//! Changes that leave every object its box, whatever the scene.
+//! Changes that leave every object its box, or what it paints where it stands, whatever the scene.
 ghost use Rattle.std.specs.Prelude.{◌≡◌};
-ghost use Rattle.gui_change.specs.Moving.{goes_by, goes_by_flag, goes_by_set, is_nobody, moves_nobody};
+ghost use Rattle.gui_change.specs.Moving.{goes_by, goes_by_flag, goes_by_set, is_nobody, moves_nobody, painted_by, sets_no_paint};
 
+use crate::concerned::Concerned;
 use debt_defs::Subject;
 use gui_base::{Flag, Part, Prop, Selector};
 use gui_store::subject_of;
@@ -55,5 +56,34 @@ pub(crate) fn moves_nobody(change: &Change) -> bool
         Change::Local(_, selector, prop, _) => !goes_by_set(selector, prop),
         Change::Unlocal(_, selector, prop) => !goes_by_set(selector, prop),
         _ => is_nobody(subject_of(change)),
+    }
+}
+
+/// Whether a change sets where an object stands and is seen, and nothing that it paints by. Any other may change
+/// what something paints.
+fn sets_no_paint(change: &Change) -> bool
+    ensures { result ≡ sets_no_paint change.now }
+{
+    matches!(
+        change,
+        Change::Flag(_, _, _)
+            | Change::Pos(_, _, _)
+            | Change::Align(_, _, _, _)
+            | Change::Size(_, _, _)
+            | Change::Scroll(_, _, _)
+            | Change::Flex(_, _)
+            | Change::Places(_, _, _, _)
+            | Change::Grow(_, _)
+    )
+}
+
+/// Of the objects that a change may concern those that may paint something else where they stand.
+pub(crate) fn painted_by(change: &Change, concerned: Concerned) -> Concerned
+    ensures { result ≡ painted_by change.now concerned }
+{
+    if sets_no_paint(change) {
+        Concerned::Nobody
+    } else {
+        concerned
     }
 }

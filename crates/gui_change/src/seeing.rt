@@ -46,7 +46,7 @@ fn see_one(
     after: &After<'_>,
     h: Handle,
 )
-    requires known { KeepOthers table.old after.now.concerned (scene_after after.now) }
+    requires known { KeepOthers table.old after.now.painted (scene_after after.now) }
     requires shown { KnowsShown table.old (scene_after after.now) }
     requires named { (k : ℕ) → (h.0 == k) ≡ false → is_named (option_map number_of named) k ≡ false }
     ensures sees { SeesAgain (option_map number_of named)
@@ -69,7 +69,7 @@ fn see_named(
     named: Option<Handle>,
     after: &After<'_>,
 )
-    requires known { KeepOthers table.old after.now.concerned (scene_after after.now) }
+    requires known { KeepOthers table.old after.now.painted (scene_after after.now) }
     requires shown { KnowsShown table.old (scene_after after.now) }
     ensures sees { SeesAgain (option_map number_of named)
         (scene_after after.now) table.old table.new damage.old damage.new }
@@ -92,7 +92,7 @@ fn see_tree(
     after: &After<'_>,
     top: Handle,
 )
-    requires known { KeepOthers table.old after.now.concerned (scene_after after.now) }
+    requires known { KeepOthers table.old after.now.painted (scene_after after.now) }
     requires shown { KnowsShown table.old (scene_after after.now) }
     requires room { IsRoom (scene_after after.now).limits.objects listed.old }
     requires there { is_there (scene_after after.now) top.0 ≡ true }
@@ -134,7 +134,7 @@ fn see_trees(
     done: Concerned,
     tops: &[Handle],
 )
-    requires known { KeepOthers table.old after.now.concerned (scene_after after.now) }
+    requires known { KeepOthers table.old after.now.painted (scene_after after.now) }
     requires shown { KnowsShown table.old (scene_after after.now) }
     requires room { IsRoom (scene_after after.now).limits.objects listed.old }
     requires done { (k : ℕ) → may_be (scene_after after.now) done k ≡ true →
@@ -162,7 +162,7 @@ fn see_below(
     after: &After<'_>,
     h: Handle,
 )
-    requires known { KeepOthers table.old after.now.concerned (scene_after after.now) }
+    requires known { KeepOthers table.old after.now.painted (scene_after after.now) }
     requires shown { KnowsShown table.old (scene_after after.now) }
     requires room { IsRoom (scene_after after.now).limits.objects listed.old }
     requires named { (k : ℕ) → (h.0 == k) ≡ false → is_named (option_map number_of named) k ≡ false }
@@ -180,7 +180,7 @@ fn see_below(
 
 /// Sees each user of a style once more.
 fn see_users(table: &mut Table<Seen>, damage: &mut Damage<Grid>, after: &After<'_>, style: u16)
-    requires known { KeepOthers table.old after.now.concerned (scene_after after.now) }
+    requires known { KeepOthers table.old after.now.painted (scene_after after.now) }
     requires shown { KnowsShown table.old (scene_after after.now) }
     ensures sees { SeesAgain None (scene_after after.now) table.old table.new damage.old damage.new }
     ensures all { (k : ℕ) → uses_style (scene_after after.now).book k style ≡ true →
@@ -210,7 +210,7 @@ fn see_below_users(
     after: &After<'_>,
     style: u16,
 )
-    requires known { KeepOthers table.old after.now.concerned (scene_after after.now) }
+    requires known { KeepOthers table.old after.now.painted (scene_after after.now) }
     requires shown { KnowsShown table.old (scene_after after.now) }
     requires room { IsRoom (scene_after after.now).limits.objects listed.old }
     ensures sees { SeesAgain None (scene_after after.now) table.old table.new damage.old damage.new }
@@ -238,7 +238,7 @@ fn see_shown(
     after: &After<'_>,
     listed: &[Handle],
 )
-    requires known { KeepOthers table.old after.now.concerned (scene_after after.now) }
+    requires known { KeepOthers table.old after.now.painted (scene_after after.now) }
     requires shown { KnowsShown table.old (scene_after after.now) }
     requires order { numbers listed.now ≡ order (scene_after after.now) }
     ensures sees { SeesAgain None (scene_after after.now) table.old table.new damage.old damage.new }
@@ -256,7 +256,7 @@ fn see_both(
     h: Handle,
     other: Handle,
 )
-    requires known { KeepOthers table.old after.now.concerned (scene_after after.now) }
+    requires known { KeepOthers table.old after.now.painted (scene_after after.now) }
     requires shown { KnowsShown table.old (scene_after after.now) }
     ensures sees { SeesAgain None (scene_after after.now) table.old table.new damage.old damage.new }
     ensures own { IsSeenIn table.new (scene_after after.now) h.0 }
@@ -276,7 +276,7 @@ fn see_concerned(
     after: &After<'_>,
     shown: &[Handle],
 )
-    requires known { KeepOthers table.old after.now.concerned (scene_after after.now) }
+    requires known { KeepOthers table.old after.now.painted (scene_after after.now) }
     requires shown { KnowsShown table.old (scene_after after.now) }
     requires room { IsRoom (scene_after after.now).limits.objects listed.old }
     requires order { numbers shown.now ≡ order (scene_after after.now) }
@@ -313,7 +313,7 @@ fn see_own(
     after: &After<'_>,
     shown: &[Handle],
 )
-    requires known { KeepOthers table.old after.now.concerned (scene_after after.now) }
+    requires known { KeepOthers table.old after.now.painted (scene_after after.now) }
     requires shown { KnowsShown table.old (scene_after after.now) }
     requires room { IsRoom (scene_after after.now).limits.objects listed.old }
     requires order { numbers shown.now ≡ order (scene_after after.now) }
@@ -347,6 +347,7 @@ pub(crate) fn see_changed(
     solved: &[Handle],
 )
     requires known { KeepOthers look.old.seen after.now.concerned (scene_after after.now) }
+    requires painted { KeepOthers look.old.seen after.now.painted (scene_after after.now) }
     requires order { numbers look.old.order.items ≡ order (scene_after after.now) }
     requires entries { all_entries look.old.entries.items ≡ entries (scene_after after.now) }
     requires table { HasThese (scene_after after.now).limits.objects look.old.seen look.old.order.items }
@@ -366,12 +367,12 @@ pub(crate) fn see_changed(
     let _tree = after.store.tree();
     let order = look.order.as_slice();
     see_own(&mut look.seen, listed, damage, named, after, order);
-    // What is known of those is right now. So all others may keep their items where they stay in their places,
-    // and these owe nothing more.
+    // What is known of those is right now. So all others paint what is known, and these owe nothing more.
     let rest = After {
         store: after.store,
         places: after.places,
         concerned: Concerned::Nobody,
+        painted: Concerned::Nobody,
     };
     see_trees(
         &mut look.seen,

@@ -9,17 +9,25 @@ use Rattle.layout_defs.proofs.OwnHeights.{roots-map}
 use Rattle.scene_defs.specs.Scene.{Scene, handles_of}
 use Rattle.gui_layout.specs.declared.places.Places.{Places}
 use Rattle.gui_layout.specs.Marked.{AllFillBut, AllFitButBoth, FitsBut, HasNatural, LeftBy, LeftOf, StandUnmarked, marked_trees}
-use Rattle.gui_layout.specs.Settled.{AllFill, AllFit, FillsPanel, Fits, Known, StandsFree, is_steady}
+use Rattle.gui_layout.specs.Settled.{AllFill, AllFit, FillsPanel, Fits, Known, Layout, StandsFree, is_steady}
 use Rattle.gui_layout.specs.SettledBut.{AreRightBut, AreSettledButMarks, DiffersInMarks, HasKids, IsUnmoved, WasSolved, anyone, in_marked, nobody}
-use Rattle.gui_layout.specs.Solved.{AreSettled}
+use Rattle.gui_layout.specs.Solved.{AreSettled, layout_of}
 use Rattle.gui_layout.specs.Settles.{known_in}
 use Rattle.gui_layout.proofs.Marking.{but-alike, fill-fewer, fits-left, left-graded, marked-has, natural-others, steady-is}
 use Rattle.gui_tree.proofs.Parts.{IsDistinct, IsPart, below, beside, distinct_once, found, has-part, here, part_below, part_beside, part_children, there as there_in, whole}
 use Rattle.gui_layout.proofs.Renewals.{some-box}
+use Rattle.gui_layout.specs.Around.{IsFlat}
+use Rattle.gui_layout.specs.Scenes.{scene_box}
 use Rattle.gui_layout.specs.Scrolled.{scrolled_known}
+use Rattle.gui_layout.specs.Views.{box_at}
+use Rattle.gui_layout.proofs.Without.{flat-kids}
 use Rattle.gui_layout.proofs.Overs.{kids-same, root-in}
-use Rattle.gui_layout.proofs.Rescrolled.{unmarked-root}
+use Rattle.gui_layout.proofs.Rescrolled.{told-flat, unmarked-root}
 use Rattle.gui_layout.proofs.Settling.{is_at, is_root, parent-root, root-has}
+
+-- A reach that is read goes by the children alone.
+flat-roots : (f g : Forest ℕ) (l : Layout) (k : ℕ) → roots (children_of f k) ≡ roots (children_of g k) → IsFlat g l k → IsFlat f l k
+flat-roots f g l k same flat = record { still = flat.still; read = flat.read ∙ flat-kids l k (children_of g k) (children_of f k) (sym same) }
 
 -- Children that stand by themselves, one by one.
 stand-at : (k : ℕ) (known : ℕ → Known) (p : Known) (cs : Forest ℕ) → is_root k cs ≡ true → StandUnmarked nobody known p cs → StandsFree p (known k)
@@ -115,6 +123,11 @@ module _ (p : Places) (scene : Scene) (s m c : ℕ → Bool) (once : StandsOnce 
         at.scrolled
         ∙ (ap (λ (ks : List Known). scrolled_known (old k) ks) (roots-map old g ∙ (ap (map old) (sym kids) ∙ (sym (roots-map old (children_of f k)) ∙ sym (kids-same old new (children_of f k) kid_same))))
         ∙ ap (λ (i : Known). scrolled_known i (roots (map_forest new (children_of f k)))) (sym (same k there looked un)));
+    flat = λ k there looked un off looks still.
+        let at = was.each k there looked un in
+        let g = handles_of was.before.trees in
+        let kids : roots (children_of f k) ≡ roots (children_of g k) = subst (λ on. HasKids on m (children_of f k) (children_of g k)) off at.kids in
+        flat-roots f g (layout_of p) k kids (at.flat still);
   }
 
 -- What stands below an object of the marked trees is one of theirs.
@@ -159,6 +172,7 @@ right_fewer p scene s t m c fewer was = record {
   fit = fit-fewer s t m c (known_in p scene) (handles_of scene.trees) fewer was.fit;
   fill = fill-fewer s t m m scene.limits.width scene.limits.height (known_in p scene) (handles_of scene.trees) fewer (λ k un. un) was.fill;
   scrolled = λ k there looked un off looks. was.scrolled k there (fewer k looked) un off (record { looked = λ j kid. fewer j (looks.looked j kid); unchanged = looks.unchanged });
+  flat = λ k there looked un off looks still. was.flat k there (fewer k looked) un off (λ j kid. fewer j (looks j kid)) still;
 }
 
 -- Where no object is looked at, there is nothing to say.
@@ -188,6 +202,7 @@ right_unmarked p scene w m c none =
       fit = fit-unseen (in_marked w scene) m c (known_in p scene) (handles_of scene.trees) unseen;
       fill = fill-unseen (in_marked w scene) m scene.limits.width scene.limits.height (known_in p scene) (handles_of scene.trees) unseen;
       scrolled = λ k there looked un off looks. absurd (both_ways (in_marked w scene k) (unseen k) looked);
+      flat = λ k there looked un off looks still. absurd (both_ways (in_marked w scene k) (unseen k) looked);
     }
 
 -- Trees that fit part by part.
@@ -234,18 +249,21 @@ module _ (p : Places) (before scene : Scene) (m c : ℕ → Bool) (settled : Are
       let here_before : has g k ≡ true = sym is.there ∙ there in
       let at = there_in g k here_before in
       let known = known_in p before in
+      let boxed : (j : ℕ) → has g j ≡ true → but_height (box_at (layout_of p).boxes j) ≡ but_height (scene_box before j) = λ j is_there. settled.boxes j (some-box p.entries j (settled.there j ∙ is_there)) in
       let fit : AllFit (map_forest known (Tree k at.children at.rest)) = fit-part known at.part settled.settled.fit in
       let kids : children_of g k ≡ at.children = (found at.part (distinct_once g once_before)).children in
+      let all_fit : Fits (known k) (roots (map_forest known (children_of g k))) = subst (λ (t : Forest ℕ). Fits (known k) (roots (map_forest known t))) (sym kids) fit.0 in
       record {
         box = is.box;
         kids = is.kids;
-        known = settled.boxes k (some-box p.entries k (settled.there k ∙ here_before));
+        known = boxed k here_before;
         placed = settled.there k ∙ here_before;
-        fits = subst (Fits (known k)) (roots-map known at.children ∙ ap (λ (t : Forest ℕ). map known (roots t)) (sym kids)) fit.0;
+        fits = subst (Fits (known k)) (roots-map known (children_of g k)) all_fit;
         fills = λ none.
             subst (λ (b : Bounds). FillsPanel b.width b.height (known k)) (sym limits)
             (fill-at before.limits.width before.limits.height k known g (root-of k None g here_before (is.root none)) settled.settled.fill);
         scrolled = settled.scrolled k here_before;
+        flat = told-flat (scene_box before) (layout_of p) g k (settled.scrolled k here_before) (boxed k here_before) (λ j kid. boxed j (root-in g j k kid)) all_fit;
       }
 
   pub settled_but_marks : AreSettledButMarks p scene m c

@@ -10,7 +10,7 @@ use Rattle.gui_layout.specs.Frames.{Encloses}
 use Rattle.gui_tree.proofs.Parts.{distinct_once}
 use Rattle.gui_layout.proofs.Settling.{parent-in, parent-out, tree-there}
 
-number : (o : Option ℕ) (p : Handle) → Some p ≡ option_map as_handle o → o ≡ Some p.0
+pub number : (o : Option ℕ) (p : Handle) → Some p ≡ option_map as_handle o → o ≡ Some p.0
 number None p e = cc
 number (Some n) p e = let same : p ≡ as_handle n = cc in ap Some (sym (ap (λ (k : Handle). k.0) same))
 

@@ -42,7 +42,10 @@ pub mod NaturalSizes
 pub mod ReachSizes
 pub mod Bars
 pub mod Before
+pub mod Without
+pub mod Siblings
 pub mod Entered
 pub mod Staying
 pub mod Closing
 pub mod Pendings
+pub mod Reordered

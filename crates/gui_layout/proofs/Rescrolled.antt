@@ -51,7 +51,7 @@ pub nobody-root : (g : Forest ℕ) → is_any_root nobody g ≡ false
 nobody-root g = no-roots nobody g (λ j i. refl)
 
 -- what is known of an object that is looked at fits what is known of its children
-fits-at : (s : ℕ → Bool) (known : ℕ → Known) (g : Forest ℕ) (k : ℕ) → AllFitBut s nobody known g → has g k ≡ true → s k ≡ true → Fits (known k) (roots (map_forest known (children_of g k)))
+pub fits-at : (s : ℕ → Bool) (known : ℕ → Known) (g : Forest ℕ) (k : ℕ) → AllFitBut s nobody known g → has g k ≡ true → s k ≡ true → Fits (known k) (roots (map_forest known (children_of g k)))
 fits-at s known Empty k fit there looked = absurd (false≢true there)
 fits-at s known (Tree h cs rest) k fit there looked = elim (cases_Bool (eqb h k)) [
   | inl is ↦
@@ -77,20 +77,40 @@ module _ (box : ℕ → Box) (l : Layout) (f : Forest ℕ) (k : ℕ) where
   abbrev kids : List Known
   kids = roots (map_forest (known_at box l) cs)
 
+  -- children that stand as they fit reach as far as it is told
+  reaches : (box_at l.boxes k).scrollable ≡ false → but_height (box_at l.boxes k) ≡ but_height (box k) → ((j : ℕ) → is_root j cs ≡ true → but_height (box_at l.boxes j) ≡ but_height (box j)) → Fits (known_at box l k) kids →
+      reach_in (room_of (tall_at (box_at l.boxes) l.widths l.natural_heights k) (slot_at l.slots k)) (tall_kids l f k) (at_roots l.slots cs) ≡ kid_reach (tall_of (known_at box l k)) (slot_at l.slots k) (map tall_of kids)
+  reaches off same all fits =
+      let tall = tall_of (known_at box l k) in
+      let slot = slot_at l.slots k in
+      let room = room_of tall slot in
+      let still : (box k).scrollable ≡ false = sym (ap (λ (b : Box). b.scrollable) same) ∙ off in
+      let stand : at_roots l.slots cs ≡ flat_slots tall slot (map tall_of kids) = sym (roots_read slot_of (known_at box l) cs) ∙ (fits.slots ∙ still_stands_flat tall slot (map tall_of kids) still) in
+      ap (λ (ts : List Tall). reach_in (room_of (tall_at (box_at l.boxes) l.widths l.natural_heights k) slot) ts (at_roots l.slots cs)) (sym (tall_roots (box_at l.boxes) l cs))
+      ∙ (inside-alike (box_at l.boxes) box l.widths l.natural_heights k slot cs (at_roots l.slots cs) same all
+      ∙ (ap (λ (ts : List Tall). reach_in room ts (at_roots l.slots cs)) (tall_roots box l cs) ∙ ap (λ (ss : List Slot). reach_in room (map tall_of kids) ss) stand))
+
   flat-told : IsFlat f l k → but_height (box_at l.boxes k) ≡ but_height (box k) → ((j : ℕ) → is_root j cs ≡ true → but_height (box_at l.boxes j) ≡ but_height (box j)) →
       Fits (known_at box l k) kids → IsScrolledIn (known_at box l) l.scrolls f k
   flat-told flat same all fits =
       let tall = tall_of (known_at box l k) in
-      let slot = slot_at l.slots k in
-      let room = room_of tall slot in
       let still : (box k).scrollable ≡ false = sym (ap (λ (b : Box). b.scrollable) same) ∙ flat.still in
-      let stand : at_roots l.slots cs ≡ flat_slots tall slot (map tall_of kids) = sym (roots_read slot_of (known_at box l) cs) ∙ (fits.slots ∙ still_stands_flat tall slot (map tall_of kids) still) in
-      let reaches : reach_in (room_of (tall_at (box_at l.boxes) l.widths l.natural_heights k) slot) (tall_kids l f k) (at_roots l.slots cs) ≡ kid_reach tall slot (map tall_of kids) =
-      ap (λ (ts : List Tall). reach_in (room_of (tall_at (box_at l.boxes) l.widths l.natural_heights k) slot) ts (at_roots l.slots cs)) (sym (tall_roots (box_at l.boxes) l cs))
-      ∙ (inside-alike (box_at l.boxes) box l.widths l.natural_heights k slot cs (at_roots l.slots cs) same all
-      ∙ (ap (λ (ts : List Tall). reach_in room ts (at_roots l.slots cs)) (tall_roots box l cs) ∙ ap (λ (ss : List Slot). reach_in room (map tall_of kids) ss) stand)) in
       flat.read
-      ∙ (ap (λ (r : Span). both r no_span) reaches ∙ ap (both (kid_reach tall slot (map tall_of kids))) (sym (offset-still tall.box (kid_reach tall slot (map tall_of kids)) still)))
+      ∙ (ap (λ (r : Span). both r no_span) (reaches flat.still same all fits) ∙ ap (both (kid_reach tall slot (map tall_of kids))) (sym (offset-still tall.box (kid_reach tall slot (map tall_of kids)) still)))
+
+  -- and so it is read where that is told
+  pub told-flat : IsScrolledIn (known_at box l) l.scrolls f k → but_height (box_at l.boxes k) ≡ but_height (box k) → ((j : ℕ) → is_root j cs ≡ true → but_height (box_at l.boxes j) ≡ but_height (box j)) →
+      Fits (known_at box l k) kids → (box_at l.boxes k).scrollable ≡ false → IsFlat f l k
+  told-flat told same all fits still =
+      let reach = kid_reach (tall_of (known_at box l k)) (slot_at l.slots k) (map tall_of kids) in
+      let off : (box k).scrollable ≡ false = sym (ap (λ (b : Box). b.scrollable) same) ∙ still in
+      record {
+        still = still;
+        read =
+            told
+            ∙ (ap (both reach) (offset-still (tall_of (known_at box l k)).box reach off)
+            ∙ ap (λ (r : Span). both r no_span) (sym (reaches still same all fits)));
+      }
 
 -- The trees at the marks are solved, and then the reaches are read around them.
 module _ (scene : Scene) (old mid new : Places) (m c n : ℕ → Bool) (us ws : List Handle) (once : StandsOnce (handles_of scene.trees))

@@ -1,10 +1,11 @@
 -- Places that are right but for what marks may have changed, and where that comes from.
-use Rattle.std.specs.Prelude.{◌≡◌, ℕ, Bool, true, false, map, is_some}
-use Rattle.gui_base.specs.Forest.{Forest, children_of, has, parent_of, roots}
+use Rattle.std.specs.Prelude.{◌≡◌, ℕ, Bool, true, false, eqb, map, is_some}
+use Rattle.gui_base.specs.Forest.{Forest, StandsOnce, children_of, has, parent_of, roots}
 use Rattle.gui_pool.specs.Table.{value_at}
 use Rattle.scene_defs.specs.Scene.{Scene, handles_of}
 use Rattle.std.specs.Prelude.{None}
 use Rattle.gui_layout.specs.declared.places.Places.{Places}
+use Rattle.gui_layout.specs.Around.{AreFlatBut, IsFlat}
 use Rattle.gui_layout.specs.Marked.{AllFitBut, AllFitButBoth, AllFillBut, is_any_root, is_root, marked_trees}
 use Rattle.gui_layout.specs.Naturals.{naturals, naturals_at}
 use Rattle.gui_layout.specs.Renewed.{IsRenewed}
@@ -14,6 +15,7 @@ use Rattle.gui_layout.specs.Settles.{known_in}
 use Rattle.gui_layout.specs.Scrolled.{IsScrolledIn}
 use Rattle.gui_layout.specs.Scrolls.{scrolled_at}
 use Rattle.gui_layout.specs.Solved.{AreSettled, AreStanding, layout_of, offset_at, place_at, reach_at}
+use Rattle.gui_layout.specs.Views.{box_at}
 use Rattle.scene_defs.specs.Place.{offset, place, reach}
 
 -- the objects that are looked at are right but for those that have changed, told by m: they have places, and
@@ -46,6 +48,7 @@ pub record AreRightBut (p : Places) (scene : Scene) (s m c : ℕ → Bool) : Typ
       is_some (value_at p.entries k) ≡ true
   pub fit : AllFitButBoth s m c (known_in p scene) (handles_of scene.trees)
   pub scrolled : AreScrolledBut p scene s m c
+  pub flat : AreFlatBut (layout_of p) (handles_of scene.trees) s m c
   pub fill : AllFillBut s m scene.limits.width scene.limits.height (known_in p scene) (handles_of scene.trees)
 
 -- the objects of the marked trees
@@ -85,6 +88,7 @@ pub record WasSolved (p : Places) (before scene : Scene) (m c : ℕ → Bool) (k
   pub fills : parent_of (handles_of scene.trees) k ≡ None →
       FillsPanel scene.limits.width scene.limits.height (known_in p before k)
   pub scrolled : IsScrolledIn (known_in p before) (layout_of p).scrolls (handles_of before.trees) k
+  pub flat : (box_at (layout_of p).boxes k).scrollable ≡ false → IsFlat (handles_of before.trees) (layout_of p) k
 
 -- there is a scene that differs from this one in what the marks tell alone, and for it the objects that are
 -- looked at were solved
@@ -142,3 +146,11 @@ pub record IsUnmoved (before scene : Scene) (m c : ℕ → Bool) (k : ℕ) : Typ
   pub box : scene_box scene k ≡ scene_box before k
   pub kids : HasKids (c k) m (children_of (handles_of scene.trees) k) (children_of (handles_of before.trees) k)
   pub root : parent_of (handles_of scene.trees) k ≡ None → parent_of (handles_of before.trees) k ≡ None
+
+-- the scenes differ in the order of the children of p alone, as far as layout goes by it
+pub record IsReordered (before scene : Scene) (p : ℕ) : Type 0 where
+  pub once : StandsOnce (handles_of before.trees)
+  pub limits : scene.limits ≡ before.limits
+  pub each : (k : ℕ) → IsUnmoved before scene nobody (λ j. eqb j p) k
+  pub kept : (k : ℕ) → is_root k (children_of (handles_of before.trees) p) ≡ true →
+      is_root k (children_of (handles_of scene.trees) p) ≡ true

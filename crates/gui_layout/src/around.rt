@@ -1,7 +1,7 @@
 //! How far the children reach of objects at which or below which trees were solved.
-ghost use Rattle.std.specs.Prelude.{◌≡◌, ◌<◌, ℕ, Some, eqb, false, true};
+ghost use Rattle.std.specs.Prelude.{◌≡◌, ◌<◌, ℕ, Some, [], ◌∷◌, eqb, false, true};
 ghost use Rattle.gui_base.specs.Forest.{StandsOnce, has, parent_of, tree_at};
-ghost use Rattle.gui_layout.specs.Around.{IsFlat, ReadsReaches};
+ghost use Rattle.gui_layout.specs.Around.{IsFlat, IsFlatWithout, ReadsReaches};
 ghost use Rattle.gui_layout.specs.Listing.{times};
 ghost use Rattle.gui_layout.specs.Scrolls.{scrolled_at};
 ghost use Rattle.gui_layout.specs.Tables.{AreListed, listing_of, told};
@@ -9,6 +9,7 @@ ghost use Rattle.gui_layout.specs.Tops.{is_it, is_over};
 ghost use Rattle.gui_layout.specs.Views.{box_at};
 
 use crate::entry::Entry;
+use crate::lone::renew_with;
 use crate::reaching::renew_reach;
 use gui_base::Handle;
 use gui_pool::Table;
@@ -34,7 +35,7 @@ fn renew_parent(tree: &Tree, entries: &mut Table<Entry>, h: Handle)
 }
 
 /// Finds anew how far the children reach of the parents of these objects, of those that move none.
-pub(crate) fn renew_parents(tree: &Tree, entries: &mut Table<Entry>, tops: &[Handle])
+fn renew_parents(tree: &Tree, entries: &mut Table<Entry>, tops: &[Handle])
     requires once { StandsOnce tree.now.forest }
     requires there { (u : ℕ) → 0 < times tops.now u → has tree.now.forest u ≡ true }
     requires listed { (u q : ℕ) → 0 < times tops.now u → parent_of tree.now.forest u ≡ Some q →
@@ -50,6 +51,47 @@ pub(crate) fn renew_parents(tree: &Tree, entries: &mut Table<Entry>, tops: &[Han
     for h in tops {
         renew_parent(tree, entries, *h);
     }
+}
+
+/// Whether this object is the only one of these.
+fn is_only(tops: &[Handle], h: Handle) -> bool
+    ensures { result ≡ true → tops.now ≡ h ∷ [] }
+{
+    match tops {
+        [top] => *top == h,
+        _ => false,
+    }
+}
+
+/// Finds anew how far the children reach of the parents of these objects, of those that move none. Where the
+/// lone one is all of them, its siblings reach as far as is told.
+pub(crate) fn renew_around(
+    tree: &Tree,
+    entries: &mut Table<Entry>,
+    tops: &[Handle],
+    lone: Option<Handle>,
+)
+    requires once { StandsOnce tree.now.forest }
+    requires there { (u : ℕ) → 0 < times tops.now u → has tree.now.forest u ≡ true }
+    requires listed { (u q : ℕ) → 0 < times tops.now u → parent_of tree.now.forest u ≡ Some q →
+        AreListed (listing_of entries.old) (tree_at tree.now.forest q) }
+    requires lone { (h : Handle) (q : ℕ) → lone ≡ Some h → tops.now ≡ h ∷ [] →
+        parent_of tree.now.forest h.0 ≡ Some q → IsFlatWithout tree.now.forest (told entries.old) h.0 q }
+    ensures own { (u q : ℕ) → 0 < times tops.now u → parent_of tree.now.forest u ≡ Some q →
+        (box_at (told entries.old).boxes q).scrollable ≡ false →
+        IsFlat tree.now.forest (told entries.new) q }
+    ensures reads { ReadsReaches tree.now.forest (told entries.old) (told entries.new) }
+    ensures others { (k : ℕ) → is_over tree.now.forest tops.now k ≡ false →
+        scrolled_at (told entries.new).scrolls k ≡ scrolled_at (told entries.old).scrolls k }
+    ensures listed { listing_of entries.new ≡ listing_of entries.old }
+{
+    if let Some(h) = lone {
+        if is_only(tops, h) {
+            renew_with(tree, entries, h);
+            return;
+        }
+    }
+    renew_parents(tree, entries, tops);
 }
 
 /// Finds anew how far the children reach of an object, if it is there and moves none.

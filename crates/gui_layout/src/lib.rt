@@ -27,6 +27,7 @@ mod inside;
 mod items;
 mod layout_box;
 mod listing;
+mod lone;
 mod looks;
 mod mark;
 mod marks;

@@ -104,6 +104,18 @@ impl Marks {
         put(&mut self.pending, h, Mark::Children);
         self.listed.push_reserved(h);
     }
+
+    /// Nothing is solved for a change that leaves settled places as they are.
+    pub fn solve_none(&mut self)
+        ensures solved { solved_in self.new ≡ [] }
+        ensures marked { (k : ℕ) → is_marked self.new k ≡ is_marked self.old k }
+        ensures changed { (k : ℕ) → is_changed self.new k ≡ is_changed self.old k }
+        ensures parents { (k : ℕ) → is_parent self.new k ≡ is_parent self.old k }
+        ensures count { mark_count self.new ≡ mark_count self.old }
+        ensures most { most_marks self.new ≡ most_marks self.old }
+    {
+        self.solved.clear();
+    }
 }
 
 /// Lets go of all marks, of which some may be settled.

@@ -1,5 +1,5 @@
 //! The places of the objects of a store.
-ghost use Rattle.std.specs.Prelude.{◌≡◌, ◌≤◌, ◌+ℤ◌, ◌-ℤ◌, pos, ℕ, Bool, [], true, false, None, Some, IfOk};
+ghost use Rattle.std.specs.Prelude.{◌≡◌, ◌≤◌, ◌+ℤ◌, ◌-ℤ◌, pos, ℕ, Bool, [], ◌∷◌, true, false, None, Some, IfOk};
 ghost use Rattle.std.specs.Prelude.{IfSome, MatchOption, eqb, is_some, option_map};
 ghost use Rattle.std.specs.Prelude.{◌<◌, ◌+◌, length, vec_len, vec_capacity};
 ghost use Rattle.std.specs.Option.{option_to_list};
@@ -15,7 +15,7 @@ ghost use Rattle.scene_defs.specs.Items.{bar_look, bars};
 ghost use Rattle.gui_base.specs.declared.props.Prop.{Prop as Property};
 ghost use Rattle.gui_base.specs.declared.words.Part.TheVariants.{Scrollbar};
 ghost use Rattle.widget_defs.specs.Looks.{value_in};
-ghost use Rattle.scene_defs.specs.Scene.{handles_of, is_there, object_at, value};
+ghost use Rattle.scene_defs.specs.Scene.{Scene, handles_of, is_there, object_at, value};
 ghost use Rattle.gui_widgets.specs.Looks.{IsLook, items_of, widget_of};
 ghost use Rattle.gui_store.specs.Views.{scene_of};
 ghost use Rattle.gui_layout.specs.Painted.{PaintsLike, ShowsBarsIn};
@@ -38,7 +38,7 @@ ghost use Rattle.gui_layout.specs.Layouts.{ButBoxes};
 ghost use Rattle.gui_layout.specs.Tables.{AreListed, IsListed, listing_of};
 
 use crate::all::solve_trees;
-use crate::around::{renew_all_there, renew_parents};
+use crate::around::{renew_all_there, renew_around};
 use crate::boxes::empty_box;
 use crate::entry::Entry;
 use crate::frame::Frame;
@@ -46,6 +46,7 @@ use crate::gone::{have_left, take_gone};
 use crate::inside::Inside;
 use crate::items::new_item;
 use crate::listing::{add_any, are_same, clear, fill, list_trees, put};
+use crate::lone::lone_child;
 use crate::looks::{look_in, paint_look_in};
 use crate::mark::Mark;
 use crate::marks::{Marks, clear_marks};
@@ -53,7 +54,7 @@ use crate::objects::box_in;
 use crate::pending::{finish_tree, is_pending};
 use crate::position::Position;
 use crate::positions::inside_of;
-use crate::raising::raise_marks;
+use crate::raising::{raise_marks, rests};
 use crate::renewal::{renew_all, renew_marked};
 use crate::size::Size;
 use crate::steady::{is_nearby, is_steady};
@@ -186,10 +187,10 @@ impl Places {
     ghost use Rattle.gui_layout.specs.Solved.{AreReached, AreSettled, AreSolved};
     ghost use Rattle.gui_layout.specs.Naturals.{naturals, naturals_at};
     ghost use Rattle.gui_layout.specs.Marks.{is_changed, is_marked, is_parent, mark_count, most_marks, solved_in};
-    ghost use Rattle.gui_layout.specs.SettledBut.{AreRightBut, AreRightButChanged, AreSettledButMarks};
+    ghost use Rattle.gui_layout.specs.SettledBut.{AreRightBut, AreRightButChanged, AreSettledButMarks, IsReordered};
     ghost use Rattle.gui_layout.specs.SettledBut.{SettlesChanged, SettlesMarks, in_marked, nobody};
     ghost use Rattle.gui_layout.specs.Settles.{Settles, SolvesTree};
-    ghost use Rattle.gui_layout.specs.Around.{IsFlat, ReadsReaches};
+    ghost use Rattle.gui_layout.specs.Around.{IsFlat, IsFlatWithout, ReadsReaches};
     ghost use Rattle.gui_layout.specs.Scrolls.{scrolled_at};
     ghost use Rattle.gui_layout.specs.Tops.{MovesAt, ScrollsAt, ScrollsStay, SolvesAt, in_trees_at, is_over};
 
@@ -290,6 +291,16 @@ impl Places {
             &mut marks.solved,
         );
         clear_marks(&mut marks.pending, &mut marks.listed);
+    }
+
+    /// Whether places that were settled stay so where the children of an object stand in another order, and
+    /// nothing else is another: it is there, its sizes are not those of its content, its children stand by
+    /// themselves, and it does not move them.
+    pub fn rests(&self, store: &Store, h: Handle) -> bool
+        ensures settled { (before : Scene) → result ≡ true → AreSettled self.now before →
+            IsReordered before (scene_of store.now) h.0 → AreSettled self.now (scene_of store.now) }
+    {
+        rests(store.tree(), &self.entries, h)
     }
 
     /// The place of an object, or None exactly where it was not there when the places were solved. It lies
@@ -589,20 +600,32 @@ impl Places {
         ensures capacity { vec_capacity solved.new ≡ vec_capacity solved.old }
         ensures limits { limits_of self.new ≡ limits_of self.old }
     {
-        raise_marks(store.tree(), &self.entries, pending, marked);
+        let tree = store.tree();
+        raise_marks(tree, &self.entries, pending, marked);
+        let lone = lone_child(tree, &self.entries, marked);
         self.settle_changed(store, marked, pending, solved);
-        self.renew_reaches(store, marked, solved.as_slice());
+        self.renew_reaches(store, marked, solved.as_slice(), lone);
     }
 
     /// Finds anew how far the children reach of the parents of the trees that were solved, and of the marked
-    /// objects: of those that are there and move none.
-    fn renew_reaches(&mut self, store: &Store, marked: &[Handle], tops: &[Handle])
+    /// objects: of those that are there and move none. Where the lone one alone was solved, its siblings reach
+    /// as far as is told.
+    fn renew_reaches(
+        &mut self,
+        store: &Store,
+        marked: &[Handle],
+        tops: &[Handle],
+        lone: Option<Handle>,
+    )
         requires there { (u : ℕ) → 0 < times tops.now u → has (handles_of (scene_of store.now).trees) u ≡ true }
         requires above { (u q : ℕ) → 0 < times tops.now u →
             parent_of (handles_of (scene_of store.now).trees) u ≡ Some q →
             AreListed (listing_of self.old.entries) (tree_at (handles_of (scene_of store.now).trees) q) }
         requires own { (k : ℕ) → 0 < times marked.now k → has (handles_of (scene_of store.now).trees) k ≡ true →
             AreListed (listing_of self.old.entries) (tree_at (handles_of (scene_of store.now).trees) k) }
+        requires lone { (h : Handle) (q : ℕ) → lone ≡ Some h → tops.now ≡ h ∷ [] →
+            parent_of (handles_of (scene_of store.now).trees) h.0 ≡ Some q →
+            IsFlatWithout (handles_of (scene_of store.now).trees) (layout_of self.old) h.0 q }
         ensures above { (u q : ℕ) → 0 < times tops.now u →
             parent_of (handles_of (scene_of store.now).trees) u ≡ Some q →
             (box_at (layout_of self.old).boxes q).scrollable ≡ false →
@@ -619,7 +642,7 @@ impl Places {
         ensures limits { limits_of self.new ≡ limits_of self.old }
     {
         let tree = store.tree();
-        renew_parents(tree, &mut self.entries, tops);
+        renew_around(tree, &mut self.entries, tops, lone);
         renew_all_there(tree, &mut self.entries, marked);
     }
 

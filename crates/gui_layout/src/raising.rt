@@ -15,7 +15,7 @@ use gui_pool::Table;
 use gui_tree::Tree;
 
 /// Whether an object is there, and by the box that it has its place does not go by its children.
-fn rests(tree: &Tree, entries: &Table<Entry>, h: Handle) -> bool
+pub(crate) fn rests(tree: &Tree, entries: &Table<Entry>, h: Handle) -> bool
     ensures { result ≡ true → Rests tree.now.forest entries.now h.0 }
 {
     if !tree.has(h) {

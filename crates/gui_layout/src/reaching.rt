@@ -26,7 +26,7 @@ use gui_pool::Table;
 use gui_tree::Tree;
 
 /// Where the content area begins of an object that begins there.
-fn inner_corner(axis: &Axis, at: i32) -> i32
+pub(crate) fn inner_corner(axis: &Axis, at: i32) -> i32
     requires { IsPlaced at }
     ensures value { result ≡ at +ℤ pos axis.now.before }
     ensures least { negsuc 998999999 ≤ℤ result }
@@ -65,7 +65,7 @@ fn end(from: i32, size: u16, corner: i32) -> u32
 }
 
 /// The farther ends of those before and of a child, unless it is hidden, from a corner on.
-fn farther(kid: &Entry, x: i32, y: i32, ends: Reach) -> Reach
+pub(crate) fn farther(kid: &Entry, x: i32, y: i32, ends: Reach) -> Reach
     requires left { negsuc 998999999 ≤ℤ x }
     requires right { x ≤ℤ pos 999001100 }
     requires top { negsuc 998999999 ≤ℤ y }

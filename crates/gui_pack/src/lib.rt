@@ -5,6 +5,7 @@
 #![tactic(auto)]
 
 mod items;
+mod moving;
 mod packing;
 mod record;
 

@@ -8,7 +8,10 @@ use Rattle.gui_layout.specs.Marks.{solved_in}
 use Rattle.gui_layout.specs.Tops.{in_trees_at}
 use Rattle.gui_change.specs.Dues.{OwesAll}
 use Rattle.gui_change.specs.Handles.{number_of}
+use Rattle.gui_change.specs.Sights.{KeepOthers}
+use Rattle.gui_change.specs.declared.concerned.Concerned.{Concerned}
 use Rattle.gui_change.proofs.Owing.{again_is_debt}
+use Rattle.gui_change.proofs.Repainted.{painted-known}
 use Rattle.gui_change.proofs.Still.{entries-stay, kept, order-stays, others-seen}
 use Rattle.gui_change.proofs.edits.see_same.Goals as goal
 
@@ -17,6 +20,13 @@ settle_moved-requires-clause-was c = kept c.args.places.now c.args.look.now (sce
 
 pub invariant_of-after-clause-solved : goal.invariant_of-after-clause-solved
 invariant_of-after-clause-solved c = c.settle_moved.ensures.settles.settled.solved
+
+pub see_changed-requires-clause-painted : goal.see_changed-requires-clause-painted
+see_changed-requires-clause-painted c =
+    let look = c.args.look.now in
+    let scene = scene_of c.args.made.now.store.now in
+    subst (λ (some : Concerned). KeepOthers look.seen some scene) (sym c.painted_by.ensures)
+    (painted-known c.args.places.now look scene c.args.made.now.change.now c.args.made.now.concerned c.requires.was c.requires.known)
 
 pub see_changed-requires-clause-order : goal.see_changed-requires-clause-order
 see_changed-requires-clause-order c =

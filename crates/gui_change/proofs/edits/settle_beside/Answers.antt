@@ -1,12 +1,13 @@
-use Rattle.std.proofs.Common.{◌≡◌, ◌∙◌, refl, sym, subst, true, eqb}
+use Rattle.std.proofs.Common.{◌≡◌, ◌∙◌, ◌<◌, refl, sym, subst, true, eqb, arith}
 use Rattle.std.proofs.lemmas.Bool.{both_ways, eqb-true, false_from_ne_true}
 use Rattle.gui_store.specs.Views.{scene_of}
+use Rattle.gui_layout.specs.Listing.{times}
 use Rattle.gui_layout.specs.Marks.{is_changed, is_marked, is_parent, solved_in}
 use Rattle.gui_layout.specs.SettledBut.{AreSettledButMarks, anyone, in_marked}
 use Rattle.gui_layout.proofs.Before.{right_fewer}
 use Rattle.gui_change.proofs.BarsStay.{scrolls-same}
 use Rattle.gui_change.proofs.Edited.{other-kids}
-use Rattle.gui_change.proofs.Unmoved.{beside-told}
+use Rattle.gui_change.proofs.Unmoved.{beside-reordered, beside-told}
 use Rattle.gui_change.proofs.edits.settle_beside.Goals as goal
 use Rattle.gui_change.proofs.edits.settle_beside.Goals.{After-mark_beside}
 
@@ -17,6 +18,28 @@ right c =
     let it = c.requires.was in
     beside-told c.args.places.now (scene_of c.args.store.now) p it.made it.concerned it.removed it.edited (is_changed marks) (is_parent marks)
     (λ k un none. false_from_ne_true (eqb k p.0) (λ e. both_ways (is_parent marks k) none (other-kids marks k (subst (λ j. is_marked marks j ≡ true) (sym (eqb-true k p.0 e)) c.mark_beside.ensures.parent) un)))
+
+-- where it rests, nothing is solved
+pub returns-then-rests-clause-settles : goal.returns-then-rests-clause-settles
+returns-then-rests-clause-settles c =
+    let scene = scene_of c.args.store.now in
+    let it = c.requires.was in
+    record {
+      settled = c.rests.ensures.settled it.edited.was.before c.if-rests.true it.edited.was.settled
+          (beside-reordered c.args.places.now scene c.args.parent it.made it.concerned it.removed it.edited);
+      limits = refl;
+      there = λ u some. let none : 0 < 0 = subst (λ us. 0 < times us u) c.solve_none.ensures.solved some in absurd (omega (arith, none));
+      stays = λ k there out. refl;
+    }
+
+pub returns-then-rests-clause-scrolls : goal.returns-then-rests-clause-scrolls
+returns-then-rests-clause-scrolls c k there other out scrolls = record { reach = refl; offset = refl }
+
+pub returns-then-rests-clause-none : goal.returns-then-rests-clause-none
+returns-then-rests-clause-none c = record {
+  none = λ k. c.solve_none.ensures.marked k ∙ c.requires.none.none k;
+  most = c.solve_none.ensures.most ∙ c.requires.none.most;
+}
 
 pub settle-requires-clause-but : goal.settle-requires-clause-but
 settle-requires-clause-but c =

@@ -1,5 +1,5 @@
-use Rattle.std.proofs.Common.{◌≡◌, ◌∙◌, ◌<◌, refl, sym, ap, subst, ℕ, zero, suc, Bool, true, false, Option, Some, None, List, get_or, inl, inr, arith}
-use Rattle.std.specs.Prelude.{is_some, option_map, IsSome}
+use Rattle.std.proofs.Common.{◌≡◌, ◌∙◌, ◌<◌, refl, sym, ap, subst, ℕ, zero, suc, Bool, true, false, eqb, eq-eqb, Option, Some, None, List, [], ◌∷◌, get_or, inl, inr, arith}
+use Rattle.std.specs.Prelude.{is_some, option_map, IfSome, IsSome}
 use Rattle.gui_tree.proofs.Below.{own_tree}
 use Rattle.gui_layout.specs.declared.layout_box.LayoutBox.{LayoutBox}
 use Rattle.scene_defs.specs.Scene.{Scene}
@@ -15,7 +15,7 @@ use Rattle.gui_layout.specs.Settled.{IsSettled, Known, Layout, known_at}
 use Rattle.gui_layout.specs.Settles.{known_in}
 use Rattle.gui_layout.specs.Solved.{AreStanding, layout_of, offset_in, place_at, reach_in}
 use Rattle.gui_layout.specs.Tables.{IsListed, area_in, listing_of}
-use Rattle.gui_layout.specs.Tops.{in_trees_at, is_over}
+use Rattle.gui_layout.specs.Tops.{ScrollsAt, in_trees_at, is_over}
 use Rattle.gui_layout.specs.Views.{box_at}
 use Rattle.gui_layout.proofs.Apart.{naturals-alike, none-of, place-alike}
 use Rattle.gui_layout.proofs.Listed.{some_listed}
@@ -25,8 +25,11 @@ use Rattle.gui_layout.proofs.ReachSizes.{all-reached, marked-reached, offset-ali
 use Rattle.gui_layout.proofs.Renewals.{some-kept}
 use Rattle.gui_layout.proofs.Rescrolled.{nobody-root, right-scrolled}
 use Rattle.gui_layout.proofs.Before.{marked-closed}
+use Rattle.gui_layout.proofs.Siblings.{around, one-only, one-times, without-kept}
 use Rattle.std.proofs.lemmas.Bool.{cases_Bool, both_ways, false_from_ne_true}
-use Rattle.gui_base.specs.Forest.{Forest, StandsOnce, children_of, has, map_forest}
+use Rattle.gui_base.specs.Forest.{Forest, StandsOnce, children_of, has, map_forest, parent_of}
+use Rattle.gui_base.specs.declared.Handle.{Handle}
+use Rattle.gui_layout.specs.Around.{SparesOne}
 use Rattle.gui_pool.specs.Table.{value_at}
 use Rattle.gui_store.specs.Views.{scene_of}
 use Rattle.scene_defs.specs.Scene.{handles_of}
@@ -49,7 +52,7 @@ were c k is = sym (c.raise_marks.ensures.any k) ∙ all-any (value_at c.raise_ma
 rest : (c : After-raise_marks) (k : ℕ) → is_marked_in c.args.pending.now k ≡ true → is_pending c.raise_marks.new.pending k ≡ false → Rests (handles_of (scene_of c.args.store.now).trees) c.args.self.now.entries k
 rest c k is none =
     let off : is_pending c.args.pending.now k ≡ false = false_from_ne_true (is_pending c.args.pending.now k) (λ on. both_ways (is_pending c.raise_marks.new.pending k) none (c.raise_marks.ensures.more k on)) in
-    subst (λ (f : Forest ℕ). Rests f c.args.self.now.entries k) c.tree.ensures.forest
+    subst (λ (f : Forest ℕ). Rests f c.args.self.now.entries k) c.tree-tree.ensures.forest
     (c.raise_marks.ensures.own k (c.requires.listed k is) (any-part (value_at c.args.pending.now k) is off) none)
 
 half : (c : After-raise_marks) (k : ℕ) → is_partly c.args.pending.now k ≡ true → is_pending c.raise_marks.new.pending k ≡ false → Rests (handles_of (scene_of c.args.store.now).trees) c.args.self.now.entries k
@@ -116,6 +119,29 @@ pub renew_reaches-requires-clause-own : goal.renew_reaches-requires-clause-own
 renew_reaches-requires-clause-own c h some there k is =
     let d = (goal.at.renew_reaches-requires-clause-own c).After-settle_changed in
     placed d k (mark-inside (w d) h h k (f d) (c.requires.marked h some) (own_tree (f d) h there) is)
+
+-- where one object is marked alone and solved alone, its siblings reach as far as they did
+pub renew_reaches-requires-clause-lone : goal.renew_reaches-requires-clause-lone
+renew_reaches-requires-clause-lone c h q lone only up =
+    let d = (goal.at.renew_reaches-requires-clause-lone c).After-settle_changed in
+    let g = f d in
+    let old = c.args.self.now in
+    let forest = c.tree-tree.ensures.forest in
+    let alone : c.args.marked.now ≡ h ∷ [] = subst (λ (o : Option Handle). IfSome o (λ i. c.args.marked.now ≡ i ∷ [])) lone c.lone_child-lone.ensures.alone in
+    let spared : (p : ℕ) → parent_of c.tree-tree.result.now.forest h.0 ≡ Some p → SparesOne c.tree-tree.result.now.forest (layout_of old) h.0 p =
+    subst (λ (o : Option Handle). IfSome o (λ i. (p : ℕ) → parent_of c.tree-tree.result.now.forest i.0 ≡ Some p → SparesOne c.tree-tree.result.now.forest (layout_of old) i.0 p)) lone c.lone_child-lone.ensures.spared in
+    let tops : c.settle_changed.new.solved.items ≡ h ∷ [] = sym c.as_slice.ensures.value ∙ only in
+    let there : has g h.0 ≡ true = c.settle_changed.ensures.moves.tops h.0 (subst (λ us. 0 < times us h.0) (sym tops) (one-times h)) in
+    let at = around g h.0 q (once d) there up in
+    let marked : w d h.0 ≡ true = c.requires.marked h.0 (subst (λ us. 0 < times us h.0) (sym alone) (one-times h)) in
+    let looked : in_marked (w d) (scene d) q ≡ true = mark-inside (w d) h.0 q q g marked (at.inside h.0 (own_tree g h.0 there)) (own_tree g q at.there) in
+    let un : (j : ℕ) → eqb j h.0 ≡ false → w d j ≡ false =
+    λ j other. false_from_ne_true (w d j) (λ is. both_ways (eqb j h.0) other (eq-eqb j h.0 (sym (one-only h j (subst (λ us. 0 < times us j) alone (c.requires.listed j is)))))) in
+    without-kept (scene d) old (mid d) (in_marked (w d) (scene d)) (is_pending c.args.pending.now) (is_partly c.args.pending.now) (n d) h q (once d)
+    (subst (λ us. ScrollsAt old (mid d) (scene d) (n d) us) tops c.settle_changed.ensures.scrolls) there up c.requires.but (right-mid d (in_marked (w d) (scene d)) c.requires.but) looked
+    (λ j kid. marked-closed (w d) q j g (distinct_once g (once d)) looked kid) (λ j other. false_from_ne_true (is_pending c.args.pending.now j) (λ is. both_ways (w d j) (un j other) (all-any (value_at c.args.pending.now j) is)))
+    (λ j other. false_from_ne_true (is_partly c.args.pending.now j) (λ is. both_ways (w d j) (un j other) (part-any (value_at c.args.pending.now j) is)))
+    (subst (λ (t : Forest ℕ). SparesOne t (layout_of old) h.0 q) forest (spared q (subst (λ (t : Forest ℕ). parent_of t h.0 ≡ Some q) (sym forest) up)))
 
 none-times : (m : ℕ) → (0 < m → ⊥) → m ≡ 0
 none-times zero not = refl

@@ -8,8 +8,8 @@ use Rattle.gui_base.specs.Area.{Rect}
 use Rattle.gui_base.specs.Forest.{Forest, Empty, Tree, preorder}
 use Rattle.gui_base.specs.declared.Handle.{Handle}
 use Rattle.gui_base.specs.declared.words.Flag.TheVariants.{Clickable}
-use Rattle.gui_change.specs.Seen.{IsShownAt, visible_of}
-use Rattle.gui_change.specs.declared.seen.ShownEntry.{ShownEntry}
+use Rattle.gui_debts.specs.Seen.{IsShownAt, visible_of}
+use Rattle.gui_debts.specs.declared.seen.ShownEntry.{ShownEntry}
 use Rattle.run_defs.specs.Pointing.{hit, is_flagged, is_hit, seen_handle}
 use Rattle.scene_defs.specs.Scene.{Scene, handles_of}
 use Rattle.scene_defs.specs.Shown.{Entry, Seen, entries, entries_in, order, own, seen}

@@ -26,17 +26,18 @@ use Rattle.gui_layout.specs.declared.places.Places.{Places}
 use Rattle.gui_layout.proofs.Entering.{few}
 use Rattle.gui_layout.proofs.Pendings.{any-part}
 use Rattle.gui_layout.proofs.These.{length-preorder}
-use Rattle.gui_change.specs.Concerned.{is_below}
-use Rattle.gui_change.specs.Edits.{WasEdited, beside, edit_of}
-use Rattle.gui_change.specs.declared.concerned.Concerned.{Concerned}
-use Rattle.gui_change.specs.declared.edits.Edit.TheVariants.{Gone, New, Reparented}
+use Rattle.gui_debts.specs.Concerned.{is_below}
+use Rattle.gui_change.specs.Edits.{WasEdited}
+use Rattle.gui_debts.specs.Edits.{beside, edit_of}
+use Rattle.gui_debts.specs.declared.concerned.Concerned.{Concerned}
+use Rattle.gui_debts.specs.declared.edit.Edit.TheVariants.{Gone, New, Reparented}
 use Rattle.gui_tree.proofs.Paths.{children_gone}
-use Rattle.gui_change.proofs.Changes.{after_is}
+use Rattle.gui_debts.proofs.Changes.{after_is}
 use Rattle.gui_change.proofs.Comings.{Deleted, Made, failed, made-gone, made-new}
 use Rattle.gui_change.proofs.Kids.{parent-child}
 use Rattle.gui_change.proofs.Marked.{in-tree}
 use Rattle.gui_change.proofs.Orders.{root_there}
-use Rattle.gui_change.proofs.Parents.{moved-off, put-there}
+use Rattle.gui_debts.proofs.Parents.{moved-off, put-there}
 use Rattle.gui_change.proofs.Unmoved.{keeps, limits-stay, new-told, removed-told, reparented-told, there-with, valid-after}
 
 -- what is marked and has not changed has other children

@@ -1,11 +1,6 @@
-pub mod Subjects
 pub mod Alike
 pub mod Alone
 pub mod BarsStay
-pub mod Below
-pub mod Changes
-pub mod Covering
-pub mod Keeping
 pub mod Kids
 pub mod Lending
 pub mod Listed
@@ -16,12 +11,10 @@ pub mod Listing
 pub mod Orderless
 pub mod Orders
 pub mod Owing
-pub mod Parents
 pub mod Placing
 pub mod SeenAgain
 pub mod SeenBelow
 pub mod Sighted
-pub mod Sparing
 pub mod Staying
 pub mod Subtrees
 pub mod Tops

@@ -11,9 +11,9 @@ use Rattle.gui_layout.specs.Marks.{most_marks}
 use Rattle.gui_layout.specs.declared.marks.Marks.{Marks}
 use Rattle.gui_tree.proofs.Parts.{IsDistinct, distinct_once, other_than}
 use Rattle.gui_layout.proofs.Settling.{tree-in, tree-there}
-use Rattle.gui_change.specs.Concerned.{is_below, is_below_user}
+use Rattle.gui_debts.specs.Concerned.{is_below, is_below_user}
 use Rattle.gui_change.specs.Marking.{AlsoMarks, AreMarked}
-use Rattle.gui_change.proofs.Below.{below_path, user_path}
+use Rattle.gui_debts.proofs.Below.{below_path, user_path}
 use Rattle.gui_change.proofs.Marks.{flip-eqb, there-still}
 
 -- What is marked still lies in these trees after one of theirs is marked.

@@ -9,7 +9,7 @@ use Rattle.gui_pool.specs.Table.{Table, value_at}
 use Rattle.gui_tree.specs.Handles.{numbers}
 use Rattle.scene_defs.specs.Scene.{Scene}
 use Rattle.gui_change.specs.Gone.{KnowsSome, gone_of, is_shown, shown_of}
-use Rattle.gui_change.specs.declared.seen.Seen.{Seen}
+use Rattle.gui_debts.specs.declared.seen.Seen.{Seen}
 use Rattle.gui_change.proofs.Alike.{same-length}
 use Rattle.gui_change.proofs.Renewing.{times-append}
 

@@ -16,11 +16,11 @@ use Rattle.widget_defs.specs.Items.{Item}
 use Rattle.scene_defs.specs.Items.{items_of as items_at}
 use Rattle.scene_defs.specs.Scene.{Object, Scene, object_at}
 use Rattle.gui_change.specs.Again.{AreSeenOf}
-use Rattle.gui_change.specs.Owed.{sight_of}
-use Rattle.gui_change.specs.Seen.{KeepsItems, items_known, place_in}
-use Rattle.gui_change.specs.Sights.{AreSeen, KeepOthers}
-use Rattle.gui_change.specs.declared.concerned.Concerned.{Concerned}
-use Rattle.gui_change.specs.declared.seen.Seen.{Seen}
+use Rattle.gui_debts.specs.Owed.{sight_of}
+use Rattle.gui_debts.specs.Seen.{KeepsItems, items_known, place_in}
+use Rattle.gui_debts.specs.Sights.{AreSeen, KeepOthers}
+use Rattle.gui_debts.specs.declared.concerned.Concerned.{Concerned}
+use Rattle.gui_debts.specs.declared.seen.Seen.{Seen}
 use Rattle.gui_change.proofs.Orders.{nobody}
 use Rattle.gui_change.proofs.Staying.{some-each}
 

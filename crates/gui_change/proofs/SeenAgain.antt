@@ -25,15 +25,15 @@ use Rattle.scene_defs.proofs.Handles.{has-handles}
 use Rattle.debt_defs.specs.Debt.{is_named}
 use Rattle.debt_defs.proofs.Inside.{among-handles}
 use Rattle.gui_change.specs.Again.{AreKnown, AreSeenOf, KeepRest, owed_again, sight_in}
-use Rattle.gui_change.specs.Owed.{sight_of, owed}
-use Rattle.gui_change.specs.Seen.{IsSeen}
+use Rattle.gui_debts.specs.Owed.{sight_of, owed}
+use Rattle.gui_debts.specs.Seen.{IsSeen}
 use Rattle.gui_change.specs.Sees.{IsSeenIn, KnowsShown, SeesAgain, owing}
-use Rattle.gui_change.specs.Sights.{AreSeen, KeepOthers}
-use Rattle.gui_change.specs.declared.concerned.Concerned.{Concerned}
-use Rattle.gui_change.specs.declared.seen.Seen.{Seen}
+use Rattle.gui_debts.specs.Sights.{AreSeen, KeepOthers}
+use Rattle.gui_debts.specs.declared.concerned.Concerned.{Concerned}
+use Rattle.gui_debts.specs.declared.seen.Seen.{Seen}
 use Rattle.gui_change.proofs.Orders.{shown_once}
 use Rattle.gui_change.proofs.Orderless.{all-first, same-off, same-order}
-use Rattle.gui_change.proofs.Sparing.{seen-keeps}
+use Rattle.gui_debts.proofs.Sparing.{seen-keeps}
 use Rattle.gui_change.proofs.Staying.{nothing-owed, sight-is}
 
 -- something is known of the same objects still

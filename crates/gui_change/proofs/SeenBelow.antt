@@ -25,17 +25,17 @@ use Rattle.debt_defs.specs.Concerns.{lies_in}
 use Rattle.debt_defs.proofs.Inside.{among-handles}
 use Rattle.debt_defs.proofs.Moved.{lies-in-tree}
 use Rattle.gui_change.specs.Again.{owed_again}
-use Rattle.gui_change.specs.Concerned.{is_below, is_below_user, may_be}
+use Rattle.gui_debts.specs.Concerned.{is_below, is_below_user, may_be}
 use Rattle.gui_change.specs.Dues.{OwesAll}
 use Rattle.gui_change.specs.Sees.{IsSeenIn, KnowsShown, SeesAgain, is_below_one, is_below_other, owing}
-use Rattle.gui_change.specs.Sights.{AreSeen, KeepOthers}
-use Rattle.gui_change.specs.declared.concerned.Concerned.{Concerned}
-use Rattle.gui_change.specs.declared.concerned.Concerned.TheVariants.{Nobody}
-use Rattle.gui_change.specs.declared.seen.Seen.{Seen}
-use Rattle.gui_change.proofs.Below.{below_met, climbs, meets_from, steps_from, user_met}
+use Rattle.gui_debts.specs.Sights.{AreSeen, KeepOthers}
+use Rattle.gui_debts.specs.declared.concerned.Concerned.{Concerned}
+use Rattle.gui_debts.specs.declared.concerned.Concerned.TheVariants.{Nobody}
+use Rattle.gui_debts.specs.declared.seen.Seen.{Seen}
+use Rattle.gui_debts.proofs.Below.{below_met, climbs, meets_from, steps_from, user_met}
 use Rattle.gui_change.proofs.Orders.{shown_there}
 use Rattle.gui_change.proofs.SeenAgain.{all-owed, nothing-known, shown-has, shown-still}
-use Rattle.gui_change.proofs.Sparing.{seen-keeps}
+use Rattle.gui_debts.proofs.Sparing.{seen-keeps}
 
 module _ (scene : Scene) (valid : IsValid scene) (h : ℕ) where
   lies-tree : (k : ℕ) → lies_in scene h k ≡ true → has (tree_at (handles_of scene.trees) h) k ≡ true

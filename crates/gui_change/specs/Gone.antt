@@ -9,8 +9,8 @@ use Rattle.scene_defs.specs.Scene.{Scene}
 use Rattle.scene_defs.specs.Shown.{order}
 use Rattle.debt_defs.specs.Debt.{is_named}
 use Rattle.debt_defs.specs.SceneLook.{is_among}
-use Rattle.gui_change.specs.Owed.{owed, sight_of}
-use Rattle.gui_change.specs.declared.seen.Seen.{Seen}
+use Rattle.gui_debts.specs.Owed.{owed, sight_of}
+use Rattle.gui_debts.specs.declared.seen.Seen.{Seen}
 
 abbrev pub is_shown : Scene → ℕ → Bool
 is_shown scene h = is_among (order scene) h

@@ -13,8 +13,8 @@ use Rattle.gui_layout.specs.declared.places.Places.{Places}
 use Rattle.gui_layout.specs.Marks.{is_changed, is_marked, is_parent, most_marks}
 use Rattle.gui_layout.specs.SettledBut.{AreSettledButMarks}
 use Rattle.gui_change.specs.Edits.{WasEdited}
-use Rattle.gui_change.specs.declared.concerned.Concerned.{Concerned}
-use Rattle.gui_change.specs.declared.edits.Edit.{Edit}
+use Rattle.gui_debts.specs.declared.concerned.Concerned.{Concerned}
+use Rattle.gui_debts.specs.declared.edit.Edit.{Edit}
 
 -- only objects of these trees are marked, and each of them may be
 pub record AreMarked (marks : Marks) (f : Forest ℕ) : Type 0 where

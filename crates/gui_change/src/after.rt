@@ -2,7 +2,7 @@
 ghost use Rattle.gui_layout.specs.Solved.{AreReached, AreSolved};
 ghost use Rattle.gui_store.specs.Views.{scene_of};
 
-use crate::concerned::Concerned;
+use gui_debts::Concerned;
 use gui_layout::Places;
 use gui_store::Store;
 

@@ -17,26 +17,15 @@
 
 mod after;
 mod again;
-mod bars;
 mod canvas;
-mod concerned;
-mod debts;
 mod edits;
 mod entries;
 mod gone;
-mod kept;
 mod marking;
-mod moving;
-mod named;
 mod renew;
 mod reorder;
-mod same;
 mod scene_look;
 mod seeing;
-mod seen;
 mod shown;
-mod sighting;
 
-pub use bars::Bars;
 pub use canvas::Canvas;
-pub use seen::ShownEntry;

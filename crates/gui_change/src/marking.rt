@@ -8,14 +8,13 @@ ghost use Rattle.gui_style.specs.Styles.{uses_style};
 ghost use Rattle.gui_tree.specs.Handles.{numbers};
 ghost use Rattle.debt_defs.specs.SceneLook.{is_among};
 ghost use Rattle.scene_defs.specs.Scene.{handles_of, is_there};
-ghost use Rattle.gui_change.specs.Concerned.{is_below_user, may_be};
+ghost use Rattle.gui_debts.specs.Concerned.{is_below_user, may_be};
 ghost use Rattle.gui_change.specs.Marking.{AlsoMarks, AreMarked, AreUnmarked, BoxesStay, MarksTell};
-ghost use Rattle.gui_change.specs.Edits.{is_gone};
-ghost use Rattle.gui_change.specs.declared.edits.Edit.{Edit};
+ghost use Rattle.gui_debts.specs.Edits.{is_gone};
+ghost use Rattle.gui_debts.specs.declared.edit.Edit.{Edit};
 
-use crate::concerned::Concerned;
-use crate::moving::moves_nobody;
 use gui_base::Handle;
+use gui_debts::{Concerned, moves_nobody};
 use gui_layout::Marks;
 use gui_store::Store;
 use gui_tree::{Children, Tree};

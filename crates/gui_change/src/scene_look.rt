@@ -3,7 +3,7 @@ ghost use Rattle.std.specs.Prelude.{◌≡◌, ◌≤◌, [], IfOk, length, get_
 ghost use Rattle.scene_defs.specs.Scene.{Scene};
 ghost use Rattle.scene_defs.specs.Valid.{IsValid};
 ghost use Rattle.gui_change.specs.Sees.{IsRoom};
-ghost use Rattle.gui_change.specs.Sights.{AreSeen};
+ghost use Rattle.gui_debts.specs.Sights.{AreSeen};
 ghost use Rattle.gui_tree.specs.Handles.{numbers};
 ghost use Rattle.scene_defs.specs.Shown.{entries, order, own};
 ghost use Rattle.gui_layout.specs.Listing.{HasThese};
@@ -11,11 +11,10 @@ ghost use Rattle.gui_layout.specs.Solved.{AreReached, AreSolved};
 ghost use Rattle.gui_store.specs.Views.{scene_of};
 
 use crate::entries::{Entry, list_entries, open_entries};
-use crate::seen::{Seen, ShownEntry, see};
 use crate::shown::list_shown;
-use crate::sighting::Nearby;
 use gui_base::intervals::HANDLE;
 use gui_base::{Handle, NoMemory};
+use gui_debts::{Nearby, Seen, ShownEntry, see};
 use gui_layout::{Places, put};
 use gui_pool::Table;
 use gui_store::Store;
@@ -67,7 +66,7 @@ pub(crate) fn open_list(alloc: Global, objects: u32) -> Result<Vec<Handle>, NoMe
 impl SceneLook {
     ghost use Rattle.std.specs.Prelude.{MatchOption};
     ghost use Rattle.gui_change.specs.Looks.{Shows};
-    ghost use Rattle.gui_change.specs.Seen.{IsShownAt};
+    ghost use Rattle.gui_debts.specs.Seen.{IsShownAt};
 
     /// What is seen of a store. It takes all the memory that seeing so many objects will need, or answers
     /// NoMemory where there is too little.

@@ -5,8 +5,8 @@ use Rattle.std.specs.Prelude.{Some}
 use Rattle.std.specs.List.{list_any}
 use Rattle.gui_base.specs.Area.{Rect}
 use Rattle.gui_color.specs.Buffer.{Buffer}
-use Rattle.gui_change.specs.Seen.{IsKnown, IsShownAt, entry_of, items_by}
-use Rattle.gui_change.specs.declared.seen.ShownEntry.{ShownEntry}
+use Rattle.gui_debts.specs.Seen.{IsKnown, IsShownAt, entry_of, items_by}
+use Rattle.gui_debts.specs.declared.seen.ShownEntry.{ShownEntry}
 use Rattle.gui_paint.specs.Painting.{Paints, painted_bars, painted_object}
 use Rattle.cover_defs.specs.Cover.{hides, is_cover, sees_all}
 use Rattle.cover_defs.specs.Steps.{bar_steps, object_steps, steps_of}

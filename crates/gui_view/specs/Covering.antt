@@ -3,8 +3,8 @@ use Rattle.std.specs.Prelude.{Bool, false, ◌&&◌, if◌then◌else◌}
 use Rattle.std.specs.List.{list_any}
 use Rattle.gui_base.specs.Area.{Rect}
 use Rattle.cover_defs.specs.Cover.{hides, sees_all}
-use Rattle.gui_change.specs.Seen.{items_by, visible_of}
-use Rattle.gui_change.specs.declared.seen.ShownEntry.{ShownEntry}
+use Rattle.gui_debts.specs.Seen.{items_by, visible_of}
+use Rattle.gui_debts.specs.declared.seen.ShownEntry.{ShownEntry}
 
 -- whether it covers an area; bars cover nothing
 abbrev pub covers_known : ShownEntry → Rect → Bool

@@ -3,7 +3,7 @@ ghost use Rattle.std.specs.Prelude.{◌≡◌, ◌≤◌, ◌<◌, ◌+◌, ◌*
 ghost use Rattle.gui_base.specs.Area.{size_of};
 ghost use Rattle.gui_base.specs.Corners.{rect_of};
 ghost use Rattle.gui_change.specs.Canvas.{scene_in};
-ghost use Rattle.gui_change.specs.Seen.{IsKnown, entry_of};
+ghost use Rattle.gui_debts.specs.Seen.{IsKnown, entry_of};
 ghost use Rattle.gui_color.specs.Buffer.{IsBlack};
 ghost use Rattle.gui_draw.specs.Drawing.{ShowsColors};
 ghost use Rattle.gui_paint.specs.Painting.{Paints};

@@ -1,6 +1,6 @@
 use Rattle.std.proofs.Common.{◌∙◌, ap, sym}
-use Rattle.gui_change.specs.Bars.{items_in}
-use Rattle.gui_change.proofs.Keeping.{same-kept}
+use Rattle.gui_debts.specs.Bars.{items_in}
+use Rattle.gui_debts.proofs.Keeping.{same-kept}
 use Rattle.gui_change.proofs.again.keeps_bars.Goals as goal
 
 pub returns-in-Some : goal.returns-in-Some

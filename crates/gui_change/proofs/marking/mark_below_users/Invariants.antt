@@ -1,7 +1,7 @@
 use Rattle.std.proofs.Common.{◌≡◌, ℕ, true, ◌&&◌, ◌||◌, length}
 use Rattle.std.specs.List.{list_any}
 use Rattle.gui_store.specs.Views.{scene_of}
-use Rattle.gui_change.specs.Concerned.{is_below_user}
+use Rattle.gui_debts.specs.Concerned.{is_below_user}
 use Rattle.gui_change.proofs.Marked.{holds}
 use Rattle.scene_defs.specs.Scene.{handles_of, is_there}
 use Rattle.gui_layout.specs.Marks.{is_changed, is_parent, most_marks}

@@ -2,8 +2,8 @@ use Rattle.std.proofs.Common.{◌≡◌, ◌∙◌, sym, ap, refl, ℕ, Bool, tr
 use Rattle.gui_base.specs.Forest.{Forest, has, tree_at}
 use Rattle.gui_store.specs.Views.{scene_of}
 use Rattle.scene_defs.specs.Scene.{is_there}
-use Rattle.gui_change.specs.Concerned.{is_below, may_be}
-use Rattle.gui_change.specs.declared.concerned.Concerned.{Concerned}
+use Rattle.gui_debts.specs.Concerned.{is_below, may_be}
+use Rattle.gui_debts.specs.declared.concerned.Concerned.{Concerned}
 use Rattle.gui_change.proofs.Marked.{in-tree}
 use Rattle.gui_change.proofs.Marks.{also-alike, also-both, flip-eqb}
 use Rattle.gui_change.proofs.marking.mark_concerned.Goals as goal

@@ -4,7 +4,7 @@ use Rattle.gui_store.specs.Views.{scene_of}
 use Rattle.scene_defs.specs.Scene.{is_there}
 use Rattle.gui_layout.specs.Marks.{is_changed, is_marked, is_parent}
 use Rattle.gui_layout.proofs.Entering.{few}
-use Rattle.gui_change.specs.Concerned.{may_be}
+use Rattle.gui_debts.specs.Concerned.{may_be}
 use Rattle.gui_change.proofs.Marks.{marked-changed}
 use Rattle.gui_change.proofs.Unmoved.{nobody-boxes, nobody-told, others-boxes, others-told}
 use Rattle.gui_change.proofs.marking.mark_moved.Goals as goal

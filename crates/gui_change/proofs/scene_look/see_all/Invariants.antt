@@ -1,8 +1,8 @@
 use Rattle.std.proofs.Common.{drop}
 use Rattle.gui_layout.proofs.These.{HasBut}
 use Rattle.gui_store.specs.Views.{scene_of}
-use Rattle.gui_change.specs.Sightings.{AreSighted}
-use Rattle.gui_change.specs.Sights.{AreSeen}
+use Rattle.gui_debts.specs.Sightings.{AreSighted}
+use Rattle.gui_debts.specs.Sights.{AreSeen}
 use Rattle.gui_change.proofs.scene_look.see_all.Given as goal
 
 abbrev pub invariant-loop-h : goal.invariant-loop-h

@@ -4,11 +4,11 @@ use Rattle.std.proofs.lemmas.Bool.{cases_Bool}
 use Rattle.gui_layout.proofs.These.{these_kept}
 use Rattle.gui_store.specs.Views.{scene_of}
 use Rattle.scene_defs.specs.Scene.{handles_of}
-use Rattle.gui_change.specs.Concerned.{may_be}
-use Rattle.gui_change.specs.Handles.{number_of}
+use Rattle.gui_debts.specs.Concerned.{may_be}
+use Rattle.gui_debts.specs.Handles.{number_of}
 use Rattle.gui_layout.specs.Tops.{in_trees_at}
 use Rattle.gui_change.specs.Sees.{SeesAgain}
-use Rattle.gui_change.specs.Sights.{AreSeen}
+use Rattle.gui_debts.specs.Sights.{AreSeen}
 use Rattle.gui_change.proofs.SeenAgain.{shown-still, then-again}
 use Rattle.gui_change.proofs.SeenBelow.{all-kept, knows-shown, owes-all}
 use Rattle.gui_change.proofs.seeing.see_changed.Goals as goal

@@ -16,7 +16,7 @@ use Rattle.gui_layout.proofs.Settling.{tree-in}
 use Rattle.gui_layout.proofs.These.{has-times, times_is}
 use Rattle.debt_defs.specs.Debt.{is_named}
 use Rattle.gui_change.specs.Again.{AreKnown}
-use Rattle.gui_change.specs.Handles.{number_of}
+use Rattle.gui_debts.specs.Handles.{number_of}
 use Rattle.gui_change.proofs.Reordering.{copied-some}
 use Rattle.gui_change.proofs.SeenAgain.{hidden-again, listed-again, nothing-known, shown-has}
 use Rattle.gui_change.proofs.ShownTrees.{count-tree, shown-below, shown-above}

@@ -1,7 +1,7 @@
 use Rattle.std.proofs.Common.{◌≡◌, ◌∙◌, sym, ap, option_map, ℤ, true, false, Some, ◌&&◌, arith}
 use Rattle.gui_base.specs.Area.{Rect, has, size_of}
 use Rattle.gui_base.specs.Corners.{rect_of}
-use Rattle.gui_change.specs.Seen.{entry_of}
+use Rattle.gui_debts.specs.Seen.{entry_of}
 use Rattle.gui_store.specs.Views.{scene_of}
 use Rattle.gui_widgets.specs.Looks.{items_of}
 use Rattle.scene_defs.specs.Visible.{visible}

@@ -1,0 +1,10 @@
+pub mod Bars
+pub mod Concerned
+pub mod Edits
+pub mod Handles
+pub mod Kept
+pub mod Moving
+pub mod Owed
+pub mod Seen
+pub mod Sightings
+pub mod Sights

@@ -102,7 +102,7 @@ fn bring_behind(listed: &mut [Entry], len: usize, more: usize)
     ensures { listed.new
         ≡ drop len (take (len + more) listed.old) ++ (take len listed.old ++ drop (len + more) listed.old) }
 {
-    // Three times over the part, where `rotate_left` would clear a room of 4,096 bytes first.
+    // Three reversals, since `rotate_left` would clear a room of 4,096 bytes first.
     listed[..len].reverse();
     listed[len..len + more].reverse();
     listed[..len + more].reverse();

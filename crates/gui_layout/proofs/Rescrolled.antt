@@ -94,6 +94,7 @@ module _ (box : ℕ → Box) (l : Layout) (f : Forest ℕ) (k : ℕ) where
       Fits (known_at box l k) kids → IsScrolledIn (known_at box l) l.scrolls f k
   flat-told flat same all fits =
       let tall = tall_of (known_at box l k) in
+      let slot = slot_at l.slots k in
       let still : (box k).scrollable ≡ false = sym (ap (λ (b : Box). b.scrollable) same) ∙ flat.still in
       flat.read
       ∙ (ap (λ (r : Span). both r no_span) (reaches flat.still same all fits) ∙ ap (both (kid_reach tall slot (map tall_of kids))) (sym (offset-still tall.box (kid_reach tall slot (map tall_of kids)) still)))

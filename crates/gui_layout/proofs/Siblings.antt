@@ -1,5 +1,5 @@
 -- A child that is changed alone, and its parent.
-use Rattle.std.proofs.Common.{◌≡◌, ◌∙◌, ◌<◌, ◌+◌, ◌⊎◌, refl, sym, ap, subst, ℕ, Bool, true, false, cond, eqb, eq-eqb, List, [], ◌∷◌, Option, Some, None, inl, inr, arith}
+use Rattle.std.proofs.Common.{◌≡◌, ◌∙◌, ◌<◌, ◌+◌, ◌⊎◌, refl, sym, ap, subst, ℕ, Bool, true, false, cond, eqb, eq-eqb, [], ◌∷◌, Option, Some, None, inl, inr, arith}
 use Rattle.std.proofs.lemmas.Bool.{cases_Bool, both_ways, eqb-true, false_from_ne_true, false≢true, or_left, or_right}
 use Rattle.gui_base.specs.Forest.{Forest, Empty, Tree, StandsOnce, children_of, has, parent_by, parent_of, tree_at}
 use Rattle.gui_base.specs.declared.Handle.{Handle}
@@ -9,7 +9,7 @@ use Rattle.gui_tree.proofs.Paths.{children_gone}
 use Rattle.layout_defs.specs.Boxes.{Box}
 use Rattle.scene_defs.specs.Scene.{Scene, handles_of}
 use Rattle.gui_layout.specs.declared.places.Places.{Places}
-use Rattle.gui_layout.specs.Around.{IsFlat, IsFlatWithout, SparesOne, flat_of, without}
+use Rattle.gui_layout.specs.Around.{IsFlatWithout, SparesOne, flat_of, without}
 use Rattle.gui_layout.specs.Listing.{times}
 use Rattle.gui_layout.specs.Marked.{is_root}
 use Rattle.gui_layout.specs.Scenes.{scene_box}

@@ -7,7 +7,7 @@ use Rattle.layout_defs.specs.OwnHeights.{but_height}
 use Rattle.layout_defs.specs.Solving.{Slot, Span, Tall, end_across, end_down, far_end, no_span, nowhere, reach_in, room_of}
 use Rattle.layout_defs.proofs.OwnHeights.{roots-map}
 use Rattle.gui_layout.specs.declared.entry.Entry.{Entry}
-use Rattle.gui_layout.specs.Around.{IsFlat, IsFlatWithout, SparesOne, flat_of, out_of, without}
+use Rattle.gui_layout.specs.Around.{IsFlatWithout, SparesOne, flat_of, out_of, without}
 use Rattle.gui_layout.specs.Kids.{told_trees}
 use Rattle.gui_layout.specs.Marked.{is_root}
 use Rattle.gui_layout.specs.Scrolls.{Scrolled, scrolled_at, span_of}

@@ -1,4 +1,4 @@
-use Rattle.std.proofs.Common.{◌≡◌, ◌∙◌, sym, subst, Option, Some, get_or}
+use Rattle.std.proofs.Common.{◌≡◌, ◌∙◌, sym, subst, Some, get_or}
 use Rattle.std.specs.Prelude.{option_map}
 use Rattle.gui_base.specs.Forest.{parent_of}
 use Rattle.gui_tree.specs.Handles.{as_handle}

@@ -1,11 +1,12 @@
 //! Runs over a panel that counts what each frame is sent.
 
 use arrayvec::ArrayVec;
-use gui_edge::{MemSink, MemSource, SimPanel, SimPlan};
-use scene_run::{Status, run_scene};
+use gui_edge::MemSink;
+use scene_run::Status;
 use std::alloc::Global;
 use std::test::Fail;
 use test_panels::ListingPanel;
+use test_runs::{Fault, Outside, run_over};
 
 /// What a run came to.
 #[derive(Drop)]
@@ -18,28 +19,27 @@ pub(crate) struct Ran {
     pub(crate) sent: u64,
 }
 
-/// Runs a script with these words, over a panel of which the starts of these numbers fail, from 1.
+/// Runs a script with these words, of which these calls fail.
 pub(crate) fn run(
     alloc: Global,
     words: &[&str],
     script: &[u8],
-    faults: &[u64],
+    faults: &[Fault],
 ) -> Result<Ran, Fail> {
-    let mut source = MemSource::new(Vec::from_slice(alloc, script)?, 4096, Vec::new(alloc));
-    let mut log = MemSink::with_capacity(alloc, 4096, Vec::new(alloc))?;
-    let plan = SimPlan {
-        fail_open: false,
-        fail_flush: Vec::from_slice(alloc, faults)?,
-        fail_poll: Vec::new(alloc),
-        moves: Vec::new(alloc),
-    };
-    let frames = MemSink::with_capacity(alloc, 4096, Vec::new(alloc))?;
-    let mut panel = ListingPanel::new(SimPanel::new(frames, plan));
-    let status = run_scene(alloc, words, &mut source, &mut log, &mut panel);
+    let script = Vec::from_slice(alloc, script)?;
+    let mut outside = Outside::new(alloc, script, 4096, faults)?;
+    let mut panel = ListingPanel::new(outside.panel);
+    let status = run_over(
+        alloc,
+        words,
+        &mut outside.source,
+        &mut outside.log,
+        &mut panel,
+    );
     let sent = panel.panel.sent();
     Ok(Ran {
         status,
-        log,
+        log: outside.log,
         counts: panel.counts,
         sent,
     })

@@ -5,6 +5,7 @@ use scene_run::Status;
 use std::alloc::Global;
 use std::process::Abort;
 use std::test::Fail;
+use test_runs::Fault::Start;
 
 /// A run and what each of its frames is sent.
 struct Case {
@@ -130,7 +131,7 @@ fn a_list_that_overflows_sends_the_panel(rt: HostRuntime) -> Result<(), Fail> {
 /// The frame after a fault sends the slice that failed, and nothing that had arrived.
 #[test]
 fn a_slice_that_failed_is_sent_again(rt: HostRuntime) -> Result<(), Fail> {
-    let ran = run(rt.alloc(), &["4", "2", "1"], b"frame\nframe\n", &[2])?;
+    let ran = run(rt.alloc(), &["4", "2", "1"], b"frame\nframe\n", &[Start(2)])?;
     assert!(rt; ran.status == Status::Noted);
     assert_eq!(rt; ran.log.bytes(), &b"1 frame 1 fault\n2 frame 2 done\n"[..]);
     assert_eq!(rt; ran.counts.as_slice(), [12].as_slice());
@@ -143,7 +144,7 @@ fn a_slice_that_failed_is_sent_again(rt: HostRuntime) -> Result<(), Fail> {
 fn after_a_fault_only_what_was_pending_is_sent(rt: HostRuntime) -> Result<(), Fail> {
     let script = b"new 10 3 obj\nsize 10 4 2\nlocal 10 main bg_opa 255\nframe\n\
         local 10 main bg_color #FF0000\nframe\nframe\nframe\n";
-    let ran = run(rt.alloc(), &["4", "4", "1"], script, &[6])?;
+    let ran = run(rt.alloc(), &["4", "4", "1"], script, &[Start(6)])?;
     assert!(rt; ran.status == Status::Noted);
     assert_eq!(rt; ran.counts.as_slice(), [16, 12, 0].as_slice());
     Ok(())

@@ -1,0 +1,29 @@
+//! The checks that all tests make. To prove each expansion of `assert_eq!` takes seconds, and a call next to
+//! nothing.
+use std::fmt::Debug;
+use std::process::Abort;
+
+/// Two values are the same.
+pub(crate) fn same<T: PartialEq + Debug>(rt: &impl Abort, value: &T, wanted: &T) {
+    assert_eq!(rt; value, wanted);
+}
+
+/// Two values are the same at a place of a table, which a failure names.
+pub(crate) fn same_at<P: Debug, T: PartialEq + Debug>(
+    rt: &impl Abort,
+    place: &P,
+    value: &T,
+    wanted: &T,
+) {
+    assert_eq!(rt; value, wanted, "at {place:?}");
+}
+
+/// Something is so.
+pub(crate) fn holds(rt: &impl Abort, is_so: bool) {
+    assert!(rt; is_so);
+}
+
+/// Something is so at a place of a table, which a failure names.
+pub(crate) fn holds_at<P: Debug>(rt: &impl Abort, place: &P, is_so: bool) {
+    assert!(rt; is_so, "at {place:?}");
+}

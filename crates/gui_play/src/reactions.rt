@@ -100,7 +100,13 @@ fn tell_change<S: Sink>(board: &mut Board, changed: bool, h: Handle, log: &mut S
 }
 
 /// An event, and then value_changed where that value was another before.
-fn tell_after<S: Sink>(board: &mut Board, before: ControlValue, kind: EventKind, h: Handle, log: &mut S)
+fn tell_after<S: Sink>(
+    board: &mut Board,
+    before: ControlValue,
+    kind: EventKind,
+    h: Handle,
+    log: &mut S,
+)
     ensures { Plays board.old board.new (S.state log.old) (S.state log.new) (tell_after before kind h) }
 {
     let changed = differs(before, control_value(board, h));

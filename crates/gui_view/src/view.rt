@@ -17,8 +17,9 @@ ghost use Rattle.gui_view.specs.Painted.{asked_steps, entry_steps, painted_all, 
 
 use arrayvec::ArrayVec;
 use gui_base::{Area, Steps};
-use gui_change::{Canvas, ShownEntry};
+use gui_change::Canvas;
 use gui_color::DrawBuf;
+use gui_debts::ShownEntry;
 use gui_draw::Picture;
 use gui_paint::{Shown, covers, has_area};
 use std::sync::ledger::Ledger;

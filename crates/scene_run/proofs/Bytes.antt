@@ -4,7 +4,7 @@ use Rattle.run_defs.specs.Script.{says_cut}
 use Rattle.run_defs.proofs.Lines.{says_cut-longer}
 use Rattle.scene_script.specs.Cutting.{Cutting, Takes, Finishes, cut_says}
 use Rattle.scene_run.specs.Effects.{Output, Halted}
-use Rattle.scene_run.specs.Running.{Running, Reading, Answered, HasRead, GoesOn, Halts, Reads, Stops, Ends}
+use Rattle.scene_run.specs.Running.{Running, Reading, Answered, HasRead, GoesOn, Halts, Reads, Stops, Ends, StopsAtEnd}
 use Rattle.scene_run.proofs.Going.{ready_less, halted_on}
 
 pub reads_none : (now : Reading) → Reads now now []
@@ -40,3 +40,7 @@ stops_more a b c xs ys rest all e h k = record {
 
 pub ends : (old : Reading) (new : Running) (cutter : Cutting) → Finishes old.cutter cutter → GoesOn old.run new (cut_says cutter) → Ends old new
 ends old new cutter finishes goes = record { from = λ first start script h. subst (Answered first start new) (finishes.says script h.line) (goes.from first start _ h.answered) }
+
+-- a write failed at the last line
+pub stops_at_end : (old : Reading) (new : Output) (cutter : Cutting) → Finishes old.cutter cutter → Halts old.run new (cut_says cutter) → StopsAtEnd old new
+stops_at_end old new cutter finishes halts = record { from = λ first start script h. subst (Halted first start new) (finishes.says script h.line) (halts.from first start _ h.answered) }

@@ -1,5 +1,6 @@
 -- How effects go on, and what a line does before a write fails.
 use Rattle.std.proofs.Common.{◌≡◌, ◌∙◌, ◌≤◌, ℕ, List, [], ◌∷◌, ◌++◌, arith, rules, refl, inl, inr, append-nil, Option, Ok, Err}
+use Rattle.std.specs.Prelude.{IfSome}
 use Rattle.std.specs.Io.KnownBytes.{Appends}
 use Rattle.std.proofs.KnownBytes.{Appends-trans, Appends-nil}
 use Rattle.std.proofs.lemmas.Grind.{flat_map-append}
@@ -15,6 +16,7 @@ use Rattle.run_defs.proofs.Runs.{fault_count-append}
 use Rattle.gui_edge.specs.Causes.{Rose}
 use Rattle.gui_edge.specs.Panel.{PanelState}
 use Rattle.gui_edge.specs.Sink.{SinkState, AppendsPrefix}
+use Rattle.gui_play.specs.Panels.{ShowsScene}
 use Rattle.scene_run.specs.Effects.{Output, output, PanelKeeps, Effects, Breaks, BreakCause, WriteFailed}
 use Rattle.scene_run.specs.Making.{panel_alone}
 
@@ -40,6 +42,19 @@ Effects-more a b c seen ts us h k = record {
   };
   log = rw (flat_map-append log_lines ts us) (Appends-trans _ _ _ _ _ h.log k.log);
   log_faults = search rules;
+}
+
+-- a line that says nothing does nothing
+pub no_effects : (now : Output) (seen : Option Scene) → IfSome seen (ShowsScene now.panel) → Effects now now seen []
+no_effects now seen shown = record {
+  panel = record {
+    frames = λ t. Appends-nil now.panel.frames;
+    shown = shown;
+    faults = omega arith;
+    keeps = record { told = λ t. t; flush_faults = omega arith; present_faults = omega arith; turn = refl };
+  };
+  log = Appends-nil now.log.held;
+  log_faults = omega arith;
 }
 
 -- the log did not take the lines of a reply whole

@@ -1,13 +1,14 @@
 -- The headline from the reading.
-use Rattle.std.proofs.Common.{◌≡◌, ◌∙◌, ◌<◌, ◌⊎◌, ap, subst, sym, false, rules, arith, refl, inl, inr, Option, Some, None, ℕ}
+use Rattle.std.proofs.Common.{◌≡◌, ◌∙◌, ◌<◌, ◌*◌, ◌⊎◌, ap, subst, sym, false, rules, arith, refl, inl, inr, Option, Some, None, ℕ}
 use Rattle.std.specs.Option.{ForSome}
 use Rattle.std.proofs.KnownBytes.{Appends-nil}
+use Rattle.std.proofs.Math.Nat.{mul-pos}
 use Rattle.gui_base.specs.Grids.{BlockSize}
-use Rattle.gui_base.specs.Limits.{Bounds}
+use Rattle.gui_base.specs.Limits.{Bounds, IsPanel}
 use Rattle.run_defs.specs.Machine.{Machine, first_machine}
 use Rattle.gui_edge.specs.Causes.{Rose}
 use Rattle.gui_color.specs.Buffer.{Buffer}
-use Rattle.gui_edge.specs.Panel.{PanelState, CanStart, Opens, StaysClosed}
+use Rattle.gui_edge.specs.Panel.{PanelState, CanStart, HasSizes, Opens, StaysClosed}
 use Rattle.gui_edge.proofs.Flying.{none_started}
 use Rattle.gui_refresh.specs.Stages.{Refreshing}
 use Rattle.gui_edge.specs.Sink.{SinkState}
@@ -45,6 +46,21 @@ none_of (Some buf) h = absurd (h buf refl)
 pub unstarted : (closed opened : PanelState) (width height limit : ℕ) (block : BlockSize) → closed.limit ≡ 0 → ForSome closed.coming (CanStart closed) → Opens closed opened width height limit block → opened.coming ≡ None
 unstarted closed opened width height limit block none flying opens =
     ap (λ (p : PanelState). p.coming) opens.is ∙ none_of closed.coming (λ buf is. none_started closed buf none (flying buf is))
+
+-- a panel that was just opened has the sizes of a machine that begins
+pub sizes_opened : (old new : PanelState) (limits : Bounds) (first : Machine) → IsPanel limits.width limits.height limits.lines → first ≡ first_machine limits → Opens old new limits.width limits.height (limits.width * limits.lines) limits.block →
+    HasSizes new first.scene.limits
+sizes_opened old new limits first is begins opens =
+    let width : 0 < limits.width = omega (arith, is.some_width) in
+    let lines : 0 < limits.lines = omega (arith, is.some_lines) in
+    let limit = ap (λ (p : PanelState). p.limit) opens.is in
+    subst (λ (m : Machine). HasSizes new m.scene.limits) (sym begins) (record {
+      width_is = ap (λ (p : PanelState). p.width) opens.is;
+      height_is = ap (λ (p : PanelState). p.height) opens.is;
+      limit_is = limit;
+      block_is = ap (λ (p : PanelState). p.block) opens.is;
+      opened = subst (λ (n : ℕ). 0 < n) (sym limit) (mul-pos width lines);
+    })
 
 -- the buffers of a machine that was just opened
 pub still_of : (r : Refreshing) → r ≡ record r { drawn = None; free = 2; started = false } → IsStill r
@@ -104,7 +120,7 @@ runs_panel_fault words limits source log old new some closed rose = record {
 }
 
 -- a run that was started did not end before
-unless_started : (status : Status) (P : Type 0) → IfUnstarted status ⊥ → IfUnstarted status P
+pub unless_started : (status : Status) (P : Type 0) → IfUnstarted status ⊥ → IfUnstarted status P
 unless_started Usage P h = absurd h
 unless_started PanelFault P h = absurd h
 unless_started NoMemory P h = absurd h

@@ -8,6 +8,7 @@ use Rattle.gui_play.specs.Panels.{CanSend, AgreesWith, Pumps}
 use Rattle.gui_refresh.specs.Stages.{Refreshing, Stage, stage}
 use Rattle.owed_defs.specs.declared.Pumped.{Pumped as Answer}
 use Rattle.owed_defs.specs.declared.Pumped.TheVariants.{Idle, Moved, Waiting, Fault}
+use Rattle.run_defs.specs.Machine.{Machine}
 use Rattle.run_defs.specs.Run.{Pumped, fault_count}
 use Rattle.scene_defs.specs.Scene.{Scene}
 use Rattle.scene_run.specs.Effects.{PanelEffects}
@@ -43,3 +44,7 @@ can_keeps old new panel before after scene same can = record {
 
 pub agrees_keeps : (old new : Refreshing) (panel : PanelState) (pending : Pending) (scene : Scene) → new ≡ old → AgreesWith (stage old panel pending) scene → AgreesWith (stage new panel pending) scene
 agrees_keeps old new panel pending scene same = subst (λ (r : Refreshing). AgreesWith (stage r panel pending) scene) (sym same)
+
+-- where the machine stays as it is, what agreed with its scene still does
+pub agrees_on : (now : Stage) (old new : Machine) → new ≡ old → AgreesWith now old.scene → AgreesWith now new.scene
+agrees_on now old new same = subst (λ (m : Machine). AgreesWith now m.scene) (sym same)

@@ -87,7 +87,6 @@ impl Runner {
     }
 
     /// Takes a byte of the script.
-    #[tactic(auto, using(crate::proofs::Bytes::reads_byte))]
     fn take_byte<L: Sink, P: Panel>(
         &mut self,
         byte: u8,

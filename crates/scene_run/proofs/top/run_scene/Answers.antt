@@ -1,9 +1,10 @@
 use Rattle.std.proofs.Common.{◌∙◌, ap, refl, sym, option_map}
 use Rattle.gui_base.specs.Bounded.{bounds_of}
 use Rattle.gui_core.specs.Machines.{machine_of}
+use Rattle.run_defs.specs.Machine.{Machine}
 use Rattle.scene_run.specs.Effects.{output}
 use Rattle.scene_run.specs.Headline.{outside, MadeEnded}
-use Rattle.scene_run.proofs.Headlines.{unstarted, still_of, since_opening, fault_since, not_asked, runs_usage, runs_no_memory, runs_panel_fault, runs_started}
+use Rattle.scene_run.proofs.Headlines.{unstarted, sizes_opened, unless_started, still_of, since_opening, fault_since, not_asked, runs_usage, runs_no_memory, runs_panel_fault, runs_started}
 use Rattle.scene_run.proofs.top.run_scene.Given.{Over}
 use Rattle.scene_run.proofs.top.run_scene.Goals as goal
 use Rattle.scene_run.proofs.top.run_scene.Goals.{After-run_made}
@@ -71,3 +72,42 @@ run_made-requires-clause-least g c = (c.in-Ok-Some.limits.made c.in-Some.k c.in-
 
 pub run_made-requires-clause-most : goal.run_made-requires-clause-most
 run_made-requires-clause-most g c = (c.in-Ok-Some.limits.made c.in-Some.k c.in-Some.is).1
+
+pub read_script-requires-clause-sizes : goal.read_script-requires-clause-sizes
+read_script-requires-clause-sizes g c = sizes_opened (g.P.Panel.state c.args.panel.now) (g.P.Panel.state c.open-2.new.self) (bounds_of c.in-Ok-Some.limits) (machine_of c.in-Ok.gui) c.in-Ok-Some.limits.panel c.in-Ok.ensures.machine c.in-Ok-open.ensures
+
+pub read_script-requires-clause-whole : goal.read_script-requires-clause-whole
+read_script-requires-clause-whole g c = c.in-Ok.ensures.whole
+
+pub read_script-requires-clause-agrees : goal.read_script-requires-clause-agrees
+read_script-requires-clause-agrees g c = c.in-Ok.ensures.agrees _ (sizes_opened (g.P.Panel.state c.args.panel.now) (g.P.Panel.state c.open-2.new.self) (bounds_of c.in-Ok-Some.limits) (machine_of c.in-Ok.gui) c.in-Ok-Some.limits.panel c.in-Ok.ensures.machine c.in-Ok-open.ensures)
+
+pub run_made-requires-clause-sizes : goal.run_made-requires-clause-sizes
+run_made-requires-clause-sizes g c = sizes_opened (g.P.Panel.state c.args.panel.now) (g.P.Panel.state c.open-2.new.self) (bounds_of c.in-Ok-Some.limits) (machine_of c.in-Ok.gui) c.in-Ok-Some.limits.panel c.in-Ok.ensures.machine c.in-Ok-open.ensures
+
+pub run_made-requires-clause-whole : goal.run_made-requires-clause-whole
+run_made-requires-clause-whole g c = c.in-Ok.ensures.whole
+
+pub run_made-requires-clause-agrees : goal.run_made-requires-clause-agrees
+run_made-requires-clause-agrees g c = c.in-Ok.ensures.agrees _ (sizes_opened (g.P.Panel.state c.args.panel.now) (g.P.Panel.state c.open-2.new.self) (bounds_of c.in-Ok-Some.limits) (machine_of c.in-Ok.gui) c.in-Ok-Some.limits.panel c.in-Ok.ensures.machine c.in-Ok-open.ensures)
+
+pub run_made-requires-clause-limits : goal.run_made-requires-clause-limits
+run_made-requires-clause-limits g c = sym (ap (λ (m : Machine). m.scene.limits) c.in-Ok.ensures.machine)
+
+pub returns-in-None-clause-unread : goal.returns-in-None-clause-unread
+returns-in-None-clause-unread g c = unless_started _ _ c.read_script.ensures.started
+
+pub returns-in-None-clause-unwritten : goal.returns-in-None-clause-unwritten
+returns-in-None-clause-unwritten g c = unless_started _ _ c.read_script.ensures.started
+
+pub returns-in-None-clause-unopened : goal.returns-in-None-clause-unopened
+returns-in-None-clause-unopened g c = λ e. absurd (rw e at c.read_script.ensures.started)
+
+pub returns-in-Ok-open-clause-unread : goal.returns-in-Ok-open-clause-unread
+returns-in-Ok-open-clause-unread g c = unless_started _ _ c.run_made.ensures.started
+
+pub returns-in-Ok-open-clause-unwritten : goal.returns-in-Ok-open-clause-unwritten
+returns-in-Ok-open-clause-unwritten g c = unless_started _ _ c.run_made.ensures.started
+
+pub returns-in-Ok-open-clause-unopened : goal.returns-in-Ok-open-clause-unopened
+returns-in-Ok-open-clause-unopened g c = λ e. absurd (rw e at c.run_made.ensures.started)

@@ -1,6 +1,5 @@
 //! Fonts in memory. The texts and lines that are expected were worked out by hand.
 
-use crate::checks::{holds, same};
 use bdf_font::{BdfStatus, run_bdf};
 use gui_edge::{MemSink, MemSource};
 use std::alloc::Global;
@@ -46,8 +45,8 @@ fn a_font_of_one_glyph(rt: HostRuntime) -> Result<(), Fail> {
             Vec::new(alloc),
             Vec::new(alloc),
         )?;
-        same(&rt, &status, &BdfStatus::Done);
-        same(&rt, &out.bytes(), &ITS_LINES);
+        assert_eq!(rt; status, BdfStatus::Done);
+        assert_eq!(rt; out.bytes(), ITS_LINES);
     }
     Ok(())
 }
@@ -63,8 +62,8 @@ fn a_row_is_missing(rt: HostRuntime) -> Result<(), Fail> {
         Vec::new(alloc),
         Vec::new(alloc),
     )?;
-    same(&rt, &status, &BdfStatus::Bad { line: 12 });
-    holds(&rt, out.bytes().is_empty());
+    assert_eq!(rt; status, BdfStatus::Bad { line: 12 });
+    assert!(rt; out.bytes().is_empty());
     Ok(())
 }
 
@@ -79,8 +78,8 @@ fn a_read_or_the_put_fails(rt: HostRuntime) -> Result<(), Fail> {
         vec![in alloc; 2]?,
         Vec::new(alloc),
     )?;
-    same(&rt, &status, &BdfStatus::ReadFault);
-    holds(&rt, out.bytes().is_empty());
+    assert_eq!(rt; status, BdfStatus::ReadFault);
+    assert!(rt; out.bytes().is_empty());
     let (status, _) = written(
         alloc,
         "1",
@@ -89,7 +88,7 @@ fn a_read_or_the_put_fails(rt: HostRuntime) -> Result<(), Fail> {
         Vec::new(alloc),
         vec![in alloc; 1]?,
     )?;
-    same(&rt, &status, &BdfStatus::WriteFault);
+    assert_eq!(rt; status, BdfStatus::WriteFault);
     Ok(())
 }
 
@@ -98,8 +97,8 @@ fn words_that_are_no_number_of_a_font(rt: HostRuntime) -> Result<(), Fail> {
     let alloc = rt.alloc();
     for word in ["0", "100", "01", "-1", "x", ""] {
         let (status, out) = written(alloc, word, ONE_GLYPH, 64, Vec::new(alloc), Vec::new(alloc))?;
-        same(&rt, &status, &BdfStatus::Usage);
-        holds(&rt, out.bytes().is_empty());
+        assert_eq!(rt; status, BdfStatus::Usage);
+        assert!(rt; out.bytes().is_empty());
     }
     Ok(())
 }

@@ -2,7 +2,6 @@
 
 ghost use Rattle.std.specs.Prelude.{◌<◌};
 
-use crate::checks::{holds, same};
 use gui_edge::{MemSink, MemSource};
 use scene_json::{JsonStatus, run_json};
 use std::alloc::Global;
@@ -48,8 +47,8 @@ fn a_scene_of_one_label(rt: HostRuntime) -> Result<(), Fail> {
             Vec::new(alloc),
             Vec::new(alloc),
         )?;
-        same(&rt, &status, &JsonStatus::Done);
-        same(&rt, &out.bytes(), &ITS_LINES);
+        assert_eq!(rt; status, JsonStatus::Done);
+        assert_eq!(rt; out.bytes(), ITS_LINES);
     }
     Ok(())
 }
@@ -58,8 +57,8 @@ fn a_scene_of_one_label(rt: HostRuntime) -> Result<(), Fail> {
 fn its_lines_are_run(rt: HostRuntime) -> Result<(), Fail> {
     let alloc = rt.alloc();
     let mut outside = Outside::new(alloc, Vec::from_slice(alloc, ITS_LINES)?, 64, &[])?;
-    same(&rt, &(outside.run(alloc, &WORDS) as u8), &0);
-    same(&rt, &outside.log.bytes(), &b"1 ok\n2 ok\n3 ok\n".as_slice());
+    assert_eq!(rt; outside.run(alloc, &WORDS) as u8, 0);
+    assert_eq!(rt; outside.log.bytes(), b"1 ok\n2 ok\n3 ok\n".as_slice());
     Ok(())
 }
 
@@ -67,8 +66,8 @@ fn its_lines_are_run(rt: HostRuntime) -> Result<(), Fail> {
 fn an_id_is_too_low(rt: HostRuntime) -> Result<(), Fail> {
     let alloc = rt.alloc();
     let (status, out) = written(alloc, &[], LOW_ID, 64, Vec::new(alloc), Vec::new(alloc))?;
-    same(&rt, &status, &JsonStatus::Bad);
-    holds(&rt, out.bytes().is_empty());
+    assert_eq!(rt; status, JsonStatus::Bad);
+    assert!(rt; out.bytes().is_empty());
     Ok(())
 }
 
@@ -83,8 +82,8 @@ fn a_read_or_the_put_fails(rt: HostRuntime) -> Result<(), Fail> {
         vec![in alloc; 1]?,
         Vec::new(alloc),
     )?;
-    same(&rt, &status, &JsonStatus::ReadFault);
-    holds(&rt, out.bytes().is_empty());
+    assert_eq!(rt; status, JsonStatus::ReadFault);
+    assert!(rt; out.bytes().is_empty());
     let (status, _) = written(
         alloc,
         &[],
@@ -93,7 +92,7 @@ fn a_read_or_the_put_fails(rt: HostRuntime) -> Result<(), Fail> {
         Vec::new(alloc),
         vec![in alloc; 1]?,
     )?;
-    same(&rt, &status, &JsonStatus::WriteFault);
+    assert_eq!(rt; status, JsonStatus::WriteFault);
     Ok(())
 }
 
@@ -108,7 +107,7 @@ fn there_is_a_word(rt: HostRuntime) -> Result<(), Fail> {
         Vec::new(alloc),
         Vec::new(alloc),
     )?;
-    same(&rt, &status, &JsonStatus::Usage);
-    holds(&rt, out.bytes().is_empty());
+    assert_eq!(rt; status, JsonStatus::Usage);
+    assert!(rt; out.bytes().is_empty());
     Ok(())
 }

@@ -6,7 +6,6 @@ ghost use Rattle.gui_base.specs.Corners.{rect_of};
 ghost use Rattle.gui_base.specs.Grids.{one_pixel};
 ghost use Rattle.gui_edge.specs.Panel.{CanStart};
 
-use crate::checks::{holds, same};
 use gui_base::{Area, Block, Rgb565, Steps};
 use gui_color::DrawBuf;
 use gui_edge::{
@@ -70,21 +69,21 @@ impl Write for Device {
 fn a_reader_fails_once(rt: HostRuntime) {
     let mut source = StdSource::new(Device::new(&[Some(2), None, Some(9)]));
     let mut buf = [0; 4];
-    same(&rt, &source.read(&mut buf), &Ok(2));
-    same(&rt, &source.read(&mut buf), &Err(Failed));
-    same(&rt, &source.read(&mut buf), &Ok(4));
-    same(&rt, &source.read(&mut buf), &Ok(0));
+    assert_eq!(rt; source.read(&mut buf), Ok(2));
+    assert_eq!(rt; source.read(&mut buf), Err(Failed));
+    assert_eq!(rt; source.read(&mut buf), Ok(4));
+    assert_eq!(rt; source.read(&mut buf), Ok(0));
 }
 
 #[test]
 fn a_writer_takes_parts_and_fails(rt: HostRuntime) {
     let mut device = Device::new(&[Some(2), Some(1), Some(1), None, Some(2), Some(0), Some(3)]);
     let mut sink = StdSink::new(&mut device);
-    same(&rt, &sink.put(b"abc"), &Ok(()));
-    same(&rt, &sink.put(b"abc"), &Err(Failed));
-    same(&rt, &sink.put(b"abc"), &Err(Failed));
-    same(&rt, &sink.put(b"abc"), &Ok(()));
-    same(&rt, &device.moved, &9);
+    assert_eq!(rt; sink.put(b"abc"), Ok(()));
+    assert_eq!(rt; sink.put(b"abc"), Err(Failed));
+    assert_eq!(rt; sink.put(b"abc"), Err(Failed));
+    assert_eq!(rt; sink.put(b"abc"), Ok(()));
+    assert_eq!(rt; device.moved, 9);
 }
 
 #[test]
@@ -93,13 +92,13 @@ fn memory_gives_and_takes(rt: HostRuntime) -> Result<(), Fail> {
     let mut source = MemSource::new(Vec::from_slice(alloc, b"abcde")?, 3, vec![in alloc; 2]?);
     let mut sink = MemSink::with_capacity(alloc, 8, vec![in alloc; 1]?)?;
     let mut buf = [0; 4];
-    same(&rt, &source.read(&mut buf), &Ok(3));
-    same(&rt, &sink.put(&buf[..3]), &Err(Failed));
-    same(&rt, &sink.put(&buf[..3]), &Ok(()));
-    same(&rt, &source.read(&mut buf), &Err(Failed));
-    same(&rt, &source.read(&mut buf), &Ok(2));
-    same(&rt, &sink.put(b"123456"), &Err(Failed));
-    same(&rt, &sink.bytes(), &&b"aabc1234"[..]);
+    assert_eq!(rt; source.read(&mut buf), Ok(3));
+    assert_eq!(rt; sink.put(&buf[..3]), Err(Failed));
+    assert_eq!(rt; sink.put(&buf[..3]), Ok(()));
+    assert_eq!(rt; source.read(&mut buf), Err(Failed));
+    assert_eq!(rt; source.read(&mut buf), Ok(2));
+    assert_eq!(rt; sink.put(b"123456"), Err(Failed));
+    assert_eq!(rt; sink.bytes(), &b"aabc1234"[..]);
     Ok(())
 }
 
@@ -206,12 +205,12 @@ fn send_all(rt: &impl Abort, alloc: Global, panel: &mut SimPanel<MemSink>) -> Re
     ensures still { IfOk result (λ it. panel.new.coming ≡ None) }
 {
     let column = Area::at(1, 0, 1, 2);
-    holds(rt, send_black(alloc, panel, Area::at(0, 1, 2, 1))?);
-    holds(rt, shows(panel, [0xA5A5, 0xA5A5, 0, 0]));
-    holds(rt, !send_black(alloc, panel, column)?);
-    holds(rt, shows(panel, [0xA5A5, 0x5A5A, 0, 0x5A5A]));
-    holds(rt, !send_black(alloc, panel, column)?);
-    holds(rt, send_black(alloc, panel, column)?);
+    assert!(rt; send_black(alloc, panel, Area::at(0, 1, 2, 1))?);
+    assert!(rt; shows(panel, [0xA5A5, 0xA5A5, 0, 0]));
+    assert!(rt; !send_black(alloc, panel, column)?);
+    assert!(rt; shows(panel, [0xA5A5, 0x5A5A, 0, 0x5A5A]));
+    assert!(rt; !send_black(alloc, panel, column)?);
+    assert!(rt; send_black(alloc, panel, column)?);
     Ok(())
 }
 
@@ -220,13 +219,12 @@ fn a_panel_shows_and_presents(rt: HostRuntime) -> Result<(), Fail> {
     let alloc = rt.alloc();
     let mut panel = small_panel(alloc)?;
     send_all(&rt, alloc, &mut panel)?;
-    same(&rt, &panel.sent(), &8);
-    same(&rt, &panel.present(), &Ok(()));
+    assert_eq!(rt; panel.sent(), 8);
+    assert_eq!(rt; panel.present(), Ok(()));
     let frames = panel.into_frames();
-    same(
-        &rt,
-        &frames.bytes(),
-        &&b"P6\n2 2\n255\n\xA5\xB6\x29\0\0\0\0\0\0\0\0\0"[..],
+    assert_eq!(rt;
+        frames.bytes(),
+        &b"P6\n2 2\n255\n\xA5\xB6\x29\0\0\0\0\0\0\0\0\0"[..]
     );
     Ok(())
 }

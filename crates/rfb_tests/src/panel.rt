@@ -3,7 +3,6 @@ ghost use Rattle.std.specs.Prelude.{◌≡◌, ◌<◌, false, IfOk};
 ghost use Rattle.gui_base.specs.Area.{is_empty, size_of};
 ghost use Rattle.gui_base.specs.Corners.{rect_of};
 
-use crate::checks::{holds, same};
 use gui_base::{Area, Block, Rgb565, Steps};
 use gui_color::DrawBuf;
 use gui_edge::{Panel, Polled};
@@ -33,17 +32,16 @@ fn black_buffer<L: Ledger>(alloc: Global, area: Area, blank: Blank) -> Result<Dr
 fn a_panel_shows_what_it_is_sent(rt: HostRuntime) -> Result<(), Fail> {
     let alloc = rt.alloc();
     let mut panel = ViewPanel::new();
-    holds(&rt, panel.pixels().is_empty());
+    assert!(rt; panel.pixels().is_empty());
     panel.open(alloc, 2, 2, 4, Block { w: 1, h: 1 })?;
     let line = black_buffer::<Brand>(alloc, Area::at(0, 1, 2, 1), Blank::new(1))?;
     assert!(rt; panel.start(line).is_ok());
     assert!(rt; matches!(panel.poll(), Polled::Ready(_)));
     let unsent = Rgb565(0xA5A5);
-    same(
-        &rt,
-        &panel.pixels(),
-        &[unsent, unsent, Rgb565(0), Rgb565(0)].as_slice(),
+    assert_eq!(rt;
+        panel.pixels(),
+        [unsent, unsent, Rgb565(0), Rgb565(0)].as_slice()
     );
-    same(&rt, &panel.present(), &Ok(()));
+    assert_eq!(rt; panel.present(), Ok(()));
     Ok(())
 }

@@ -1,6 +1,5 @@
 //! Pixels in the formats of viewers.
 
-use crate::checks::same;
 use arrayvec::ArrayVec;
 use gui_base::Rgb565;
 use rfb_view::pixels::{number, push_pixels};
@@ -44,8 +43,8 @@ fn pixels_have_numbers(rt: HostRuntime) -> Result<(), Fail> {
         (0x001F, 0x03, 0x00_00FF),
         (0x8410, 0x92, 0x84_8284),
     ] {
-        same(&rt, &number(SMALL, Rgb565(color)), &small);
-        same(&rt, &number(LARGE, Rgb565(color)), &large);
+        assert_eq!(rt; number(SMALL, Rgb565(color)), small);
+        assert_eq!(rt; number(LARGE, Rgb565(color)), large);
     }
     Ok(())
 }
@@ -55,10 +54,6 @@ fn pixels_have_bytes(rt: HostRuntime) -> Result<(), Fail> {
     let row = [Rgb565(0xF800), Rgb565(0x001F)];
     let mut bytes: ArrayVec<u8, 8> = ArrayVec::new();
     push_pixels(&mut bytes, LARGE, &row);
-    same(
-        &rt,
-        &bytes.as_slice(),
-        &[0, 0xFF, 0, 0, 0, 0, 0, 0xFF].as_slice(),
-    );
+    assert_eq!(rt; bytes.as_slice(), [0, 0xFF, 0, 0, 0, 0, 0, 0xFF].as_slice());
     Ok(())
 }

@@ -1,6 +1,5 @@
 //! Places and values after lines, worked out by hand.
 
-use crate::checks::holds;
 use crate::playing::{Want, is_so_after};
 use gui_base::{Limits, State};
 use std::test::Fail;
@@ -15,10 +14,7 @@ fn growing_objects_share_a_row(rt: HostRuntime) -> Result<(), Fail> {
         Want::Place(11, [3, 0, 5, 0]),
         Want::Place(12, [6, 0, 9, 0]),
     ];
-    holds(
-        &rt,
-        is_so_after(rt.alloc(), &Limits::with_sizes(10, 2, 2), script, &wanted)?,
-    );
+    assert!(rt; is_so_after(rt.alloc(), &Limits::with_sizes(10, 2, 2), script, &wanted)?);
     Ok(())
 }
 
@@ -27,10 +23,7 @@ fn growing_objects_share_a_row(rt: HostRuntime) -> Result<(), Fail> {
 fn a_single_object_has_no_space_between(rt: HostRuntime) -> Result<(), Fail> {
     let script = "flex 3 row\nplaces 3 space_between start start\nnew 10 3 obj\nsize 10 4 1\n";
     let wanted = [Want::Place(10, [0, 0, 3, 0])];
-    holds(
-        &rt,
-        is_so_after(rt.alloc(), &Limits::with_sizes(10, 2, 2), script, &wanted)?,
-    );
+    assert!(rt; is_so_after(rt.alloc(), &Limits::with_sizes(10, 2, 2), script, &wanted)?);
     Ok(())
 }
 
@@ -44,10 +37,7 @@ fn what_does_not_fit_is_cut(rt: HostRuntime) -> Result<(), Fail> {
         Want::Place(11, [8, 0, 15, 0]),
         Want::Seen(11, [8, 0, 9, 0]),
     ];
-    holds(
-        &rt,
-        is_so_after(rt.alloc(), &Limits::with_sizes(10, 2, 2), script, &wanted)?,
-    );
+    assert!(rt; is_so_after(rt.alloc(), &Limits::with_sizes(10, 2, 2), script, &wanted)?);
     Ok(())
 }
 
@@ -64,10 +54,7 @@ fn a_percentage_counts_nothing_in_a_content(rt: HostRuntime) -> Result<(), Fail>
         Want::Place(12, [33, 3, 47, 12]),
         Want::Seen(12, [33, 3, 35, 12]),
     ];
-    holds(
-        &rt,
-        is_so_after(rt.alloc(), &Limits::with_sizes(64, 32, 8), script, &wanted)?,
-    );
+    assert!(rt; is_so_after(rt.alloc(), &Limits::with_sizes(64, 32, 8), script, &wanted)?);
     Ok(())
 }
 
@@ -82,10 +69,7 @@ fn a_drag_scrolls_by_its_last_step(rt: HostRuntime) -> Result<(), Fail> {
         Want::States(10, 1 << State::Scrolled.bit()),
         Want::States(11, 1 << State::Pressed.bit()),
     ];
-    holds(
-        &rt,
-        is_so_after(rt.alloc(), &Limits::with_sizes(20, 20, 20), script, &wanted)?,
-    );
+    assert!(rt; is_so_after(rt.alloc(), &Limits::with_sizes(20, 20, 20), script, &wanted)?);
     Ok(())
 }
 
@@ -98,10 +82,7 @@ fn a_text_is_broken_after_a_space(rt: HostRuntime) -> Result<(), Fail> {
         Want::Place(10, [0, 0, 47, 15]),
         Want::Place(11, [0, 0, 23, 15]),
     ];
-    holds(
-        &rt,
-        is_so_after(rt.alloc(), &Limits::with_sizes(64, 32, 8), script, &wanted)?,
-    );
+    assert!(rt; is_so_after(rt.alloc(), &Limits::with_sizes(64, 32, 8), script, &wanted)?);
     Ok(())
 }
 
@@ -118,10 +99,7 @@ fn a_word_that_does_not_fit_is_broken(rt: HostRuntime) -> Result<(), Fail> {
         Want::Place(12, [0, 0, 5, 7]),
         Want::Place(13, [0, 0, 1, 1]),
     ];
-    holds(
-        &rt,
-        is_so_after(rt.alloc(), &Limits::with_sizes(64, 32, 8), script, &wanted)?,
-    );
+    assert!(rt; is_so_after(rt.alloc(), &Limits::with_sizes(64, 32, 8), script, &wanted)?);
     Ok(())
 }
 
@@ -131,14 +109,13 @@ fn a_turn_sets_a_slider(rt: HostRuntime) -> Result<(), Fail> {
     let script = "new 10 3 slider\ngroup 1\njoin 1 10\nencoder 1\nrange 10 0 5\nvalue 10 4\n\
          on 10 value_changed say\npush down\ntick 400\npush up\nturn 3\n";
     let wanted = [Want::Value(10, 5)];
-    holds(
-        &rt,
+    assert!(rt;
         is_so_after(
             rt.alloc(),
             &Limits::with_sizes(100, 10, 10),
             script,
-            &wanted,
-        )?,
+            &wanted
+        )?
     );
     Ok(())
 }
@@ -148,10 +125,7 @@ fn a_turn_sets_a_slider(rt: HostRuntime) -> Result<(), Fail> {
 fn an_animation_sets_the_wanted_place(rt: HostRuntime) -> Result<(), Fail> {
     let script = "new 10 3 obj\nanim 10 x 0 100 1000 0 0 1 linear\ntick 250\n";
     let wanted = [Want::X(10, 25)];
-    holds(
-        &rt,
-        is_so_after(rt.alloc(), &Limits::with_sizes(4, 2, 1), script, &wanted)?,
-    );
+    assert!(rt; is_so_after(rt.alloc(), &Limits::with_sizes(4, 2, 1), script, &wanted)?);
     Ok(())
 }
 
@@ -160,10 +134,7 @@ fn an_animation_sets_the_wanted_place(rt: HostRuntime) -> Result<(), Fail> {
 fn an_animation_goes_on(rt: HostRuntime) -> Result<(), Fail> {
     let script = "new 10 3 obj\nanim 10 x 0 100 1000 0 0 1 linear\ntick 250\ntick 250\n";
     let wanted = [Want::X(10, 50)];
-    holds(
-        &rt,
-        is_so_after(rt.alloc(), &Limits::with_sizes(4, 2, 1), script, &wanted)?,
-    );
+    assert!(rt; is_so_after(rt.alloc(), &Limits::with_sizes(4, 2, 1), script, &wanted)?);
     Ok(())
 }
 
@@ -172,9 +143,6 @@ fn an_animation_goes_on(rt: HostRuntime) -> Result<(), Fail> {
 fn an_animation_begins_slowly(rt: HostRuntime) -> Result<(), Fail> {
     let script = "new 10 3 obj\nanim 10 x 0 100 1000 0 0 1 ease_in\ntick 500\n";
     let wanted = [Want::X(10, 17)];
-    holds(
-        &rt,
-        is_so_after(rt.alloc(), &Limits::with_sizes(4, 2, 1), script, &wanted)?,
-    );
+    assert!(rt; is_so_after(rt.alloc(), &Limits::with_sizes(4, 2, 1), script, &wanted)?);
     Ok(())
 }

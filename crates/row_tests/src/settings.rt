@@ -1,6 +1,5 @@
 //! A settings screen: a list of eight buttons with labels, two sliders, a checkbox and a bar.
 
-use crate::checks::holds;
 use crate::playing::{Want, is_so_after};
 use gui_base::Limits;
 use std::test::Fail;
@@ -32,14 +31,13 @@ fn a_screen_stands_and_is_hit(rt: HostRuntime) -> Result<(), Fail> {
         Want::Hit(0, 0, 10),
         Want::Hit(319, 239, 3),
     ];
-    holds(
-        &rt,
+    assert!(rt;
         is_so_after(
             rt.alloc(),
             &Limits::with_sizes(320, 240, 20),
             SCREEN,
-            &wanted,
-        )?,
+            &wanted
+        )?
     );
     Ok(())
 }
@@ -48,14 +46,13 @@ fn a_screen_stands_and_is_hit(rt: HostRuntime) -> Result<(), Fail> {
 #[test]
 fn a_touch_checks_and_a_bar_fills(rt: HostRuntime) -> Result<(), Fail> {
     let wanted = [Want::States(42, 1), Want::Value(43, 50)];
-    holds(
-        &rt,
+    assert!(rt;
         is_so_after(
             rt.alloc(),
             &Limits::with_sizes(320, 240, 20),
             TOUCHED,
-            &wanted,
-        )?,
+            &wanted
+        )?
     );
     Ok(())
 }
@@ -66,9 +63,6 @@ fn the_colours_of_a_picture_are_summed_up(rt: HostRuntime) -> Result<(), Fail> {
     let script =
         "new 10 3 obj\nsize 10 1 1\nlocal 10 main bg_opa 255\nlocal 10 main bg_color #FF0000\n";
     let wanted = [Want::Sum(63481)];
-    holds(
-        &rt,
-        is_so_after(rt.alloc(), &Limits::with_sizes(4, 2, 1), script, &wanted)?,
-    );
+    assert!(rt; is_so_after(rt.alloc(), &Limits::with_sizes(4, 2, 1), script, &wanted)?);
     Ok(())
 }

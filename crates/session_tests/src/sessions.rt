@@ -2,7 +2,6 @@
 
 ghost use Rattle.std.specs.Prelude.{◌<◌};
 
-use crate::checks::{holds, same};
 use gui_edge::{MemSink, MemSource};
 use rfb_view::{RfbBad, RfbStatus};
 use scene_rfb::run_rfb;
@@ -53,8 +52,8 @@ fn a_request_is_answered_however_the_bytes_are_cut(rt: HostRuntime) -> Result<()
     let alloc = rt.alloc();
     for piece in [1, 2, 7, 4096] {
         let (status, out) = sent(alloc, WHOLE, piece, Vec::new(alloc))?;
-        same(&rt, &status, &RfbStatus::Done);
-        same(&rt, &out.bytes(), &TWO_WHITE);
+        assert_eq!(rt; status, RfbStatus::Done);
+        assert_eq!(rt; out.bytes(), TWO_WHITE);
     }
     Ok(())
 }
@@ -63,8 +62,8 @@ fn a_request_is_answered_however_the_bytes_are_cut(rt: HostRuntime) -> Result<()
 fn nothing_is_sent_where_nothing_changed(rt: HostRuntime) -> Result<(), Fail> {
     let alloc = rt.alloc();
     let (status, out) = sent(alloc, CHANGES, 7, Vec::new(alloc))?;
-    same(&rt, &status, &RfbStatus::Done);
-    same(&rt, &out.bytes(), &TWO_WHITE);
+    assert_eq!(rt; status, RfbStatus::Done);
+    assert_eq!(rt; out.bytes(), TWO_WHITE);
     Ok(())
 }
 
@@ -72,8 +71,8 @@ fn nothing_is_sent_where_nothing_changed(rt: HostRuntime) -> Result<(), Fail> {
 fn a_press_answers_a_request_that_waits(rt: HostRuntime) -> Result<(), Fail> {
     let alloc = rt.alloc();
     let (status, out) = sent(alloc, PRESS, 4096, Vec::new(alloc))?;
-    same(&rt, &status, &RfbStatus::Done);
-    holds(&rt, out.bytes().ends_with(DARKER));
+    assert_eq!(rt; status, RfbStatus::Done);
+    assert!(rt; out.bytes().ends_with(DARKER));
     Ok(())
 }
 
@@ -82,8 +81,8 @@ fn another_version_is_turned_down(rt: HostRuntime) -> Result<(), Fail> {
     let alloc = rt.alloc();
     for session in [b"rfb\nRFB 003.003\n", b"rfb\nRFB 003.08\n\n"] {
         let (status, out) = sent(alloc, session, 4096, Vec::new(alloc))?;
-        same(&rt, &status, &RfbStatus::Bad(RfbBad::Version));
-        same(&rt, &out.bytes(), &b"RFB 003.008\n".as_slice());
+        assert_eq!(rt; status, RfbStatus::Bad(RfbBad::Version));
+        assert_eq!(rt; out.bytes(), b"RFB 003.008\n".as_slice());
     }
     Ok(())
 }
@@ -93,7 +92,7 @@ fn a_failing_put_ends_the_run(rt: HostRuntime) -> Result<(), Fail> {
     let alloc = rt.alloc();
     for put in 1..=6 {
         let (status, _out) = sent(alloc, WHOLE, 4096, vec![in alloc; put]?)?;
-        same(&rt, &status, &RfbStatus::WriteFault);
+        assert_eq!(rt; status, RfbStatus::WriteFault);
     }
     Ok(())
 }

@@ -37,3 +37,4 @@ pub mod Entering
 pub mod Fronted
 pub mod Fronting
 pub mod Still
+pub mod Arrived

@@ -58,7 +58,7 @@ active-stays scene c is = by (answer_of scene c) where
   by (Some refusal) = refl
 
 -- The parent of what lies in none of these trees lies in none of them.
-above-out : (f : Forest ℕ) (us : List Handle) (k : ℕ) (p : Handle) → StandsOnce f → has f k ≡ true → Some p ≡ option_map as_handle (parent_of f k) → in_trees_at f us k ≡ false → in_trees_at f us p.0 ≡ false
+pub above-out : (f : Forest ℕ) (us : List Handle) (k : ℕ) (p : Handle) → StandsOnce f → has f k ≡ true → Some p ≡ option_map as_handle (parent_of f k) → in_trees_at f us k ≡ false → in_trees_at f us p.0 ≡ false
 above-out f [] k p once there up out = refl
 above-out f (u ∷ us) k p once there up out =
     let parts : (has (tree_at f u.0) k ≡ false) × (in_trees_at f us k ≡ false) = or_parts _ _ out in
@@ -107,7 +107,7 @@ module _ (old : Places) (look : SceneLook) (after : Scene) (made : Change) (conc
 
     differs : DifferBut before after Out
     differs = record {
-      parents = λ k. ap (λ (f : Forest ℕ). parent_of f k) trees-stay;
+      parents = λ k out. ap (λ (f : Forest ℕ). parent_of f k) trees-stay;
       limits = limits-stay old after made concerned was.edited.was;
       active = ap (λ (s : Scene). s.active) was.edited.was.is ∙ active-stays before made was.edited.does;
       hides = λ k out. boxes-hidden before after k (ap (λ (f : Forest ℕ). has f k) trees-stay) (boxes k out.0 out.1);

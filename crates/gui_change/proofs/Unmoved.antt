@@ -81,10 +81,10 @@ same-kids false m new old same = same
 pub there-by-row : (before after : Scene) (k : ℕ) → row_at after k ≡ row_at before k → is_there after k ≡ is_there before k
 there-by-row before after k same = there-is after k ∙ (ap is_some same ∙ sym (there-is before k))
 
-there-by-path : (before after : Scene) (k : ℕ) → path_at after k ≡ path_at before k → is_there after k ≡ is_there before k
+pub there-by-path : (before after : Scene) (k : ℕ) → path_at after k ≡ path_at before k → is_there after k ≡ is_there before k
 there-by-path before after k same = there-by-row before after k (ap (option_map row_of) (same-object before after k same))
 
-parent-by-path : (before after : Scene) (k : ℕ) → path_at after k ≡ path_at before k → parent_of (handles_of after.trees) k ≡ parent_of (handles_of before.trees) k
+pub parent-by-path : (before after : Scene) (k : ℕ) → path_at after k ≡ path_at before k → parent_of (handles_of after.trees) k ≡ parent_of (handles_of before.trees) k
 parent-by-path before after k same = parent-second k after.trees ∙ (ap (λ (p : List Object). option_map handle_of (second p)) same ∙ sym (parent-second k before.trees))
 
 -- A change from which no object goes leaves those that it does not concern below their parents.

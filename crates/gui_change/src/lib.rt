@@ -22,6 +22,7 @@ mod edits;
 mod entries;
 mod gone;
 mod marking;
+mod more;
 mod renew;
 mod reorder;
 mod scene_look;

@@ -185,6 +185,8 @@ pub(crate) fn mark_new(marks: &mut Marks, store: &Store, child: Handle, parent: 
     requires none { AreUnmarked marks.old (scene_of store.now).limits.objects }
     ensures own { is_changed marks.new child.0 ≡ true }
     ensures parent { is_marked marks.new parent.0 ≡ true }
+    ensures others { (k : ℕ) → (k == child.0) ≡ false → (k == parent.0) ≡ false →
+        is_marked marks.new k ≡ false }
     ensures most { most_marks marks.new ≡ most_marks marks.old }
 {
     // Lending the tree tells that the scene is in order.

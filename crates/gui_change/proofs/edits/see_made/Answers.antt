@@ -1,0 +1,49 @@
+use Rattle.std.proofs.Common.{◌≡◌, sym, subst, false, List}
+use Rattle.gui_base.specs.declared.Handle.{Handle}
+use Rattle.gui_store.specs.Views.{removed_of, scene_of}
+use Rattle.scene_defs.specs.Scene.{handles_of}
+use Rattle.gui_layout.specs.Marks.{solved_in}
+use Rattle.gui_layout.specs.Tops.{in_trees_at}
+use Rattle.gui_change.proofs.Arrived.{fresh, others-seen, still}
+use Rattle.gui_change.proofs.edits.see_made.Goals as goal
+
+pub settle_new-requires-clause-was : goal.settle_new-requires-clause-was
+settle_new-requires-clause-was c = record {
+  made = c.args.made.now.change.now;
+  concerned = c.args.made.now.concerned;
+  removed = removed_of c.args.made.now.store.now;
+  edited = c.requires.was.edited;
+}
+
+pub invariant_of-after-clause-solved : goal.invariant_of-after-clause-solved
+invariant_of-after-clause-solved c = c.settle_new.ensures.settles.settled.solved
+
+pub invariant_of-after-clause-reached : goal.invariant_of-after-clause-reached
+invariant_of-after-clause-reached c = c.settle_new.ensures.settles.settled.reached
+
+pub see_more-requires-clause-table : goal.see_more-requires-clause-table
+see_more-requires-clause-table c = c.requires.was.shows.table
+
+pub see_more-requires-clause-still : goal.see_more-requires-clause-still
+see_more-requires-clause-still c =
+    still c.args.places.now c.args.look.now (scene_of c.args.made.now.store.now) c.args.made.now.change.now c.args.made.now.concerned (removed_of c.args.made.now.store.now) c.args.h c.args.parent c.requires.was
+
+pub see_more-requires-clause-order_room : goal.see_more-requires-clause-order_room
+see_more-requires-clause-order_room c = c.requires.was.shows.room
+
+pub see_more-requires-clause-entries_room : goal.see_more-requires-clause-entries_room
+see_more-requires-clause-entries_room c = c.requires.was.shows.entries_room
+
+pub see_more-requires-clause-fresh : goal.see_more-requires-clause-fresh
+see_more-requires-clause-fresh c =
+    let scene = scene_of c.args.made.now.store.now in
+    subst (λ (us : List Handle). in_trees_at (handles_of scene.trees) us _ ≡ _) (sym c.solved.ensures)
+    (fresh c.args.places.now c.args.look.now scene c.args.made.now.change.now c.args.made.now.concerned (removed_of c.args.made.now.store.now) c.args.h c.args.parent c.requires.was (solved_in c.settle_new.new.marks) c.settle_new.ensures.own)
+
+pub see_more-requires-clause-others : goal.see_more-requires-clause-others
+see_more-requires-clause-others c k s found out off =
+    let scene = scene_of c.args.made.now.store.now in
+    let settles = c.settle_new.ensures.settles in
+    others-seen c.args.places.now c.args.look.now scene c.args.made.now.change.now c.args.made.now.concerned (removed_of c.args.made.now.store.now) c.args.h c.args.parent c.requires.was
+    (solved_in c.settle_new.new.marks) c.settle_new.ensures.own c.settle_new.new.places settles.settled settles.stays c.settle_new.ensures.scrolls k s found
+    (subst (λ (us : List Handle). in_trees_at (handles_of scene.trees) us k ≡ false) c.solved.ensures out) off

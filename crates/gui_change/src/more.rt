@@ -25,9 +25,9 @@ ghost use Rattle.gui_debts.specs.declared.concerned.Concerned.{Concerned};
 ghost use Rattle.gui_debts.specs.declared.seen.Seen.{Seen};
 
 use crate::after::After;
-use crate::entries::{list_entries, list_own};
+use crate::entries::list_entries;
 use crate::gone::put_missing;
-use crate::scene_look::SceneLook;
+use crate::scene_look::{SceneLook, list_order};
 use crate::seeing::see_changed;
 use gui_base::{Grid, Handle};
 use gui_damage::Damage;
@@ -43,11 +43,9 @@ fn list_all(look: &mut SceneLook, store: &Store)
     ensures entries_room { vec_capacity look.new.entries ≡ vec_capacity look.old.entries }
     ensures seen { look.new.seen ≡ look.old.seen }
 {
-    let _tree = store.tree();
     look.entries.clear();
     list_entries(store, &mut look.entries);
-    look.order.clear();
-    list_own(look.entries.as_slice(), &mut look.order);
+    list_order(look, store);
 }
 
 /// Lists what is shown where all is shown still that was, and sees the objects that may differ: the one that a

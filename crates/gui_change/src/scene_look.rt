@@ -1,7 +1,8 @@
 //! What is seen of a scene.
-ghost use Rattle.std.specs.Prelude.{◌≡◌, ◌≤◌, [], IfOk, length, get_or};
+ghost use Rattle.std.specs.Prelude.{◌≡◌, ◌≤◌, [], IfOk, length, get_or, vec_capacity};
 ghost use Rattle.scene_defs.specs.Scene.{Scene};
 ghost use Rattle.scene_defs.specs.Valid.{IsValid};
+ghost use Rattle.gui_change.specs.Entries.{all_entries};
 ghost use Rattle.gui_change.specs.Sees.{IsRoom};
 ghost use Rattle.gui_debts.specs.Sights.{AreSeen};
 ghost use Rattle.gui_tree.specs.Handles.{numbers};
@@ -10,7 +11,7 @@ ghost use Rattle.gui_layout.specs.Listing.{HasThese};
 ghost use Rattle.gui_layout.specs.Solved.{AreReached, AreSolved};
 ghost use Rattle.gui_store.specs.Views.{scene_of};
 
-use crate::entries::{Entry, list_entries, open_entries};
+use crate::entries::{Entry, list_entries, list_own, open_entries};
 use crate::shown::list_shown;
 use gui_base::intervals::HANDLE;
 use gui_base::{Handle, NoMemory};
@@ -51,6 +52,20 @@ fn see_all(table: &mut Table<Seen>, listed: &[Handle], store: &Store, places: &P
         let seen = see(store, places, &sighting, None);
         put(table, *h, seen);
     }
+}
+
+/// Lists what is shown, by what is listed as painted.
+pub(crate) fn list_order(look: &mut SceneLook, store: &Store)
+    requires entries { all_entries look.old.entries.items ≡ entries (scene_of store.now) }
+    requires order_room { (scene_of store.now).limits.objects ≤ vec_capacity look.old.order }
+    ensures order { numbers look.new.order.items ≡ order (scene_of store.now) }
+    ensures order_room { vec_capacity look.new.order ≡ vec_capacity look.old.order }
+    ensures entries { look.new.entries ≡ look.old.entries }
+    ensures seen { look.new.seen ≡ look.old.seen }
+{
+    let _tree = store.tree();
+    look.order.clear();
+    list_own(look.entries.as_slice(), &mut look.order);
 }
 
 /// An empty list with room for so many objects, or NoMemory where there is too little.

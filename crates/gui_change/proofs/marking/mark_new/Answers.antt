@@ -1,9 +1,10 @@
-use Rattle.std.proofs.Common.{◌≡◌, ◌∙◌, subst, true, eqb}
+use Rattle.std.proofs.Common.{◌≡◌, ◌∙◌, refl, subst, Bool, true, false, eqb, not, ◌&&◌}
 use Rattle.std.proofs.lemmas.Bool.{eqb-true}
 use Rattle.gui_base.specs.Forest.{has}
 use Rattle.gui_store.specs.Views.{scene_of}
 use Rattle.scene_defs.specs.Scene.{handles_of}
-use Rattle.gui_change.proofs.Marks.{also-mark, none-there, room, there-still}
+use Rattle.gui_layout.specs.Marks.{is_parent}
+use Rattle.gui_change.proofs.Marks.{also-mark, none-there, room, there-still, unmarked-still}
 use Rattle.gui_change.proofs.marking.mark_new.Goals as goal
 
 pub mark-requires : goal.mark-requires
@@ -23,3 +24,13 @@ mark_children-requires c =
 
 pub returns-clause-own : goal.returns-clause-own
 returns-clause-own c = c.mark_children.ensures.changed c.args.child.0 ∙ c.mark.ensures.own
+
+kept : (b c : Bool) → c ≡ false → (b && not c) ≡ b
+kept true c off = rw off refl
+kept false c off = refl
+
+pub returns-clause-others : goal.returns-clause-others
+returns-clause-others c k own above =
+    let old = c.args.marks.now in
+    unmarked-still old c.mark_children.new.self k (c.requires.none.none k) (c.mark_children.ensures.changed k ∙ c.mark.ensures.others k own)
+    (c.mark_children.ensures.others k above ∙ (c.mark.ensures.parents k ∙ kept (is_parent old k) (eqb k c.args.child.0) own))

@@ -1,4 +1,4 @@
-use Rattle.std.proofs.Common.{◌≡◌, sym, subst, false, List}
+use Rattle.std.proofs.Common.{◌≡◌, sym, subst, true, false, List}
 use Rattle.gui_base.specs.declared.Handle.{Handle}
 use Rattle.gui_store.specs.Views.{removed_of, scene_of}
 use Rattle.scene_defs.specs.Scene.{handles_of}
@@ -35,10 +35,10 @@ pub see_more-requires-clause-entries_room : goal.see_more-requires-clause-entrie
 see_more-requires-clause-entries_room c = c.requires.was.shows.entries_room
 
 pub see_more-requires-clause-fresh : goal.see_more-requires-clause-fresh
-see_more-requires-clause-fresh c =
+see_more-requires-clause-fresh c k is none =
     let scene = scene_of c.args.made.now.store.now in
-    subst (λ (us : List Handle). in_trees_at (handles_of scene.trees) us _ ≡ _) (sym c.solved.ensures)
-    (fresh c.args.places.now c.args.look.now scene c.args.made.now.change.now c.args.made.now.concerned (removed_of c.args.made.now.store.now) c.args.h c.args.parent c.requires.was (solved_in c.settle_new.new.marks) c.settle_new.ensures.own)
+    subst (λ (us : List Handle). in_trees_at (handles_of scene.trees) us k ≡ true) (sym c.solved.ensures)
+    (fresh c.args.places.now c.args.look.now scene c.args.made.now.change.now c.args.made.now.concerned (removed_of c.args.made.now.store.now) c.args.h c.args.parent c.requires.was (solved_in c.settle_new.new.marks) c.settle_new.ensures.own k is none)
 
 pub see_more-requires-clause-others : goal.see_more-requires-clause-others
 see_more-requires-clause-others c k s found out off =

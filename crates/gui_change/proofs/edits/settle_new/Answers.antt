@@ -1,4 +1,4 @@
-use Rattle.std.proofs.Common.{◌≡◌, ◌∙◌, refl, subst, ℕ, true, false, eqb}
+use Rattle.std.proofs.Common.{◌≡◌, ◌∙◌, refl, subst, ℕ, Bool, true, false, eqb}
 use Rattle.std.proofs.lemmas.Bool.{both_ways, eqb-true, false_from_ne_true}
 use Rattle.gui_store.specs.Views.{scene_of}
 use Rattle.scene_defs.specs.Scene.{handles_of}
@@ -47,7 +47,7 @@ pub returns-clause-scrolls : goal.returns-clause-scrolls
 returns-clause-scrolls c k there above out =
     let d = (goal.at.returns-clause-scrolls c).After-settle in
     let scene = scene_of c.args.store.now in
-    let inside : ℕ → _ = in_trees_at (handles_of scene.trees) (solved_in c.settle.new.marks) in
+    let inside : ℕ → Bool = in_trees_at (handles_of scene.trees) (solved_in c.settle.new.marks) in
     let marks = c.mark_new.new.marks in
     let other : eqb k c.args.h.0 ≡ false = false_from_ne_true (eqb k c.args.h.0) (λ e. both_ways (inside c.args.h.0) (subst (λ (j : ℕ). inside j ≡ false) (eqb-true k c.args.h.0 e) out) (own d)) in
     scrolls-same c.args.places.now c.settle.new.self scene (is_marked marks) (solved_in c.settle.new.marks) k c.settle.ensures.scrolls_stay there out (c.mark_new.ensures.others k other above)

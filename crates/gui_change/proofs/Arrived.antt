@@ -1,18 +1,18 @@
--- A change that made an object: all that was shown is shown still, and what the change does not concern is seen as
--- it was, where its tree was not solved.
-use Rattle.std.proofs.Common.{◌≡◌, ◌∙◌, sym, ap, subst, ℕ, ◌<◌, true, false, eqb, List, Some, None, is_some, inl, inr, arith}
-use Rattle.std.proofs.lemmas.Bool.{both_ways, cases_Bool, eqb-true, false_from_ne_true, or_parts}
+-- A change that made an object: all that was shown is shown still, and all but its parent are seen as they were, where
+-- their trees were not solved.
+use Rattle.std.proofs.Common.{◌≡◌, ◌∙◌, sym, ap, subst, ℕ, ◌<◌, true, false, eqb, List, Option, Some, None, is_some, inl, inr}
+use Rattle.std.proofs.lemmas.Bool.{both_ways, cases_Bool, eqb-true, false_from_ne_true}
 use Rattle.gui_base.specs.Forest.{has}
 use Rattle.gui_base.specs.declared.Handle.{Handle}
 use Rattle.gui_pool.specs.Table.{value_at}
+use Rattle.widget_defs.specs.Looks.{Look}
 use Rattle.scene_defs.specs.declared.Change.{Change}
 use Rattle.scene_defs.specs.declared.Change.TheVariants as change
 use Rattle.scene_defs.specs.Change.{answer_of, scene_after}
-use Rattle.scene_defs.specs.Scene.{Object, Scene, handles_of, is_there, new_object, path_at}
+use Rattle.scene_defs.specs.Scene.{Object, Scene, handles_of, is_there, new_object, object_at, path_at}
 use Rattle.scene_defs.specs.Valid.{IsValid}
 use Rattle.scene_defs.specs.Visible.{shown_trees}
 use Rattle.scene_defs.proofs.Handles.{has-handles}
-use Rattle.debt_defs.specs.Concerns.{concerns}
 use Rattle.debt_defs.proofs.Inside.{among-handles}
 use Rattle.debt_defs.proofs.SameTrees.{made-path}
 use Rattle.gui_layout.specs.Listing.{times}
@@ -22,24 +22,27 @@ use Rattle.gui_layout.specs.Tops.{in_trees_at}
 use Rattle.gui_layout.specs.declared.places.Places.{Places}
 use Rattle.gui_layout.proofs.Climbing.{is_above}
 use Rattle.gui_layout.proofs.These.{has-times, has_value}
-use Rattle.gui_debts.specs.Concerned.{may_be}
 use Rattle.gui_debts.specs.Seen.{IsSeen}
+use Rattle.gui_debts.specs.Sights.{KeepOthers}
 use Rattle.gui_debts.specs.declared.concerned.Concerned.{Concerned}
+use Rattle.gui_debts.specs.declared.concerned.Concerned.TheVariants.{Nobody}
 use Rattle.gui_debts.specs.declared.edit.Edit.TheVariants.{New}
 use Rattle.gui_debts.specs.declared.seen.Seen.{Seen}
 use Rattle.gui_debts.proofs.Changes.{after_is}
+use Rattle.gui_debts.proofs.Sparing.{keeps, painted, painted-is}
 use Rattle.gui_change.specs.Edits.{WasSeenEdited}
 use Rattle.gui_change.specs.Gone.{is_shown}
 use Rattle.gui_change.specs.Marking.{ScrollsSame}
+use Rattle.gui_change.specs.Settled.{LooksSame}
 use Rattle.gui_change.specs.declared.scene_look.SceneLook.{SceneLook}
 use Rattle.gui_change.proofs.BarsStay.{bars-alike}
 use Rattle.gui_change.proofs.Comings.{Made, failed, made-new}
-use Rattle.gui_change.proofs.Moves.{box-on-path}
+use Rattle.gui_change.proofs.Moves.{looks-on-path}
 use Rattle.gui_change.proofs.Orders.{shown_there}
 use Rattle.gui_change.proofs.Rooted.{ends_shown, shown-by}
 use Rattle.gui_change.proofs.Still.{above-out}
-use Rattle.gui_change.proofs.Unchanged.{DifferBut, boxes-hidden, looks-same, still-seen}
-use Rattle.gui_change.proofs.Unmoved.{limits-stay, off-concerned, parent-by-path, same-after, there-by-path, valid-after}
+use Rattle.gui_change.proofs.Unchanged.{DifferBut, box-alike, boxes-hidden, still-seen}
+use Rattle.gui_change.proofs.Unmoved.{limits-stay, parent-by-path, there-by-path, valid-after}
 
 -- what is shown stands in the trees that are shown
 pub shown-is : (scene : Scene) (k : ℕ) → is_shown scene k ≡ has (handles_of (shown_trees scene)) k
@@ -61,6 +64,12 @@ module _ (old : Places) (look : SceneLook) (after : Scene) (made : Change) (conc
   -- all others keep their paths
   path : (k : ℕ) → eqb k h.0 ≡ false → path_at after k ≡ path_at before k
   path k other = ap (λ (s : Scene). path_at s k) now ∙ made-path before k p.0 (new_object h.0 it.kind) other
+
+  -- and look the same
+  looks : (k : ℕ) → eqb k h.0 ≡ false → LooksSame before after k
+  looks k other =
+      subst (λ (s : Scene). LooksSame before s k) (sym now)
+      (looks-on-path before (scene_after before (change.New h p it.kind)).trees k (made-path before k p.0 (new_object h.0 it.kind) other))
 
   active : after.active ≡ before.active
   active = ap (λ (s : Scene). s.active) now
@@ -94,6 +103,13 @@ module _ (old : Places) (look : SceneLook) (after : Scene) (made : Change) (conc
   known : (k : ℕ) → is_some (value_at look.seen k) ≡ has (handles_of (shown_trees before)) k
   known k = has_value look.order.items (handles_of (shown_trees before)) was.shows.order after.limits.objects look.seen was.shows.table k
 
+  -- what is known of those that were shown is what they paint still, wherever they stand
+  pub all-keep : KeepOthers look.seen Nobody after
+  all-keep k s there off found =
+      let same = looks k (was-other k (was-there k (sym (known k) ∙ ap is_some found))) in
+      keeps before after k s (was.shows.seen k s found) (λ at.
+      painted-is after (object_at after k) at ∙ (ap (λ (l : Option Look). painted l at) same.look ∙ sym (painted-is before (object_at before k) at)))
+
   module _ (tops : List Handle) (own : in_trees_at (handles_of after.trees) tops h.0 ≡ true) where
     -- what is shown for the first time lies in a tree that was solved
     pub fresh : (k : ℕ) → is_shown after k ≡ true → value_at look.seen k ≡ None → in_trees_at (handles_of after.trees) tops k ≡ true
@@ -114,9 +130,7 @@ module _ (old : Places) (look : SceneLook) (after : Scene) (made : Change) (conc
     there-same k out = there-by-path before after k (path k (other-out k out))
 
     box-same : (k : ℕ) → in_trees_at (handles_of after.trees) tops k ≡ false → scene_box after k ≡ scene_box before k
-    box-same k out =
-        ap (λ (s : Scene). scene_box s k) now
-        ∙ box-on-path before (scene_after before (change.New h p it.kind)).trees k (made-path before k p.0 (new_object h.0 it.kind) (other-out k out))
+    box-same k out = box-alike before after k (looks k (other-out k out))
 
     module _ (new : Places) (settled : AreSettled new after)
         (stays : (k : ℕ) → is_there after k ≡ true → in_trees_at (handles_of after.trees) tops k ≡ false → place_at new k ≡ place_at old k)
@@ -135,18 +149,10 @@ module _ (old : Places) (look : SceneLook) (after : Scene) (made : Change) (conc
             ((is_above (handles_of after.trees) k q valid.trees.once there up).there, above-out (handles_of after.trees) tops k q valid.trees.once there up out.1);
       }
 
-      -- what the change does not concern is not the parent
-      not-parent : (k : ℕ) → concerns before made k ≡ false → eqb k p.0 ≡ false
-      not-parent k off =
-          let parts : (eqb k h.0 ≡ false) × (eqb k p.0 ≡ false) = or_parts _ _ (ap (λ (c : Change). concerns before c k) (sym it.is) ∙ off) in
-          parts.1
-
-      pub others-seen : (k : ℕ) (s : Seen) → value_at look.seen k ≡ Some s → in_trees_at (handles_of after.trees) tops k ≡ false → may_be after concerned k ≡ false → IsSeen after k s
-      others-seen k s found out off =
+      pub others-seen : (k : ℕ) (s : Seen) → value_at look.seen k ≡ Some s → in_trees_at (handles_of after.trees) tops k ≡ false → eqb k p.0 ≡ false → IsSeen after k s
+      others-seen k s found out above =
           let there_before : is_there before k ≡ true = was-there k (sym (known k) ∙ ap is_some found) in
           let there : is_there after k ≡ true = there-same k out ∙ there_before in
-          let none = off-concerned old after (New h p) made concerned removed was.edited k there off in
-          let looks = looks-same before after k (same-after old after made concerned was.edited.was k none) in
-          let shows =
-          bars-alike before after old new was.edited.was.settled.reached settled.reached k looks (differs.stands k (there, out)) there there_before (box-same k out) (scrolls k there (not-parent k none) out) in
-          still-seen before after Out was.edited.was.valid valid differs k s (there, out) looks shows (was.shows.seen k s found)
+          let same = looks k (other-out k out) in
+          let shows = bars-alike before after old new was.edited.was.settled.reached settled.reached k same (differs.stands k (there, out)) there there_before (box-same k out) (scrolls k there above out) in
+          still-seen before after Out was.edited.was.valid valid differs k s (there, out) same shows (was.shows.seen k s found)

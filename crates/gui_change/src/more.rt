@@ -18,10 +18,8 @@ ghost use Rattle.gui_change.specs.Looks.{Shows};
 ghost use Rattle.gui_change.specs.Sees.{IsRoom};
 ghost use Rattle.gui_debts.specs.Concerned.{may_be};
 ghost use Rattle.gui_debts.specs.Handles.{number_of};
-ghost use Rattle.gui_debts.specs.Owed.{sight_of};
 ghost use Rattle.gui_debts.specs.Seen.{IsSeen};
 ghost use Rattle.gui_debts.specs.Sights.{KeepOthers};
-ghost use Rattle.gui_debts.specs.declared.concerned.Concerned.{Concerned};
 ghost use Rattle.gui_debts.specs.declared.seen.Seen.{Seen};
 
 use crate::after::After;

@@ -36,7 +36,7 @@ root-handles (Tree object cs rest) r = elim (cases_Bool (is_at r object)) [
 abbrev pub three_of : Forest ℕ → ℕ → Forest ℕ
 three_of f a = and_then (root_of f a) (and_then (root_of f 1) (root_of f 2))
 
-shown-handles : (scene : Scene) → handles_of (shown_trees scene) ≡ three_of (handles_of scene.trees) scene.active
+pub shown-handles : (scene : Scene) → handles_of (shown_trees scene) ≡ three_of (handles_of scene.trees) scene.active
 shown-handles scene =
     let f = scene.trees in
     map-and_then handle_of (root_tree f scene.active) (and_then (root_tree f 1) (root_tree f 2))

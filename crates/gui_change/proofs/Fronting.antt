@@ -31,7 +31,7 @@ pub cut-off : (f : Forest ℕ) (h : ℕ) → has f h ≡ false → cut f h ≡ f
 cut-off Empty h off = refl
 cut-off (Tree k cs rest) h off = grind (arith, nat_tests, cut-off cs h, cut-off rest h)
 
-kids-off : (f : Forest ℕ) (p : ℕ) (g : Forest ℕ → Forest ℕ) → has f p ≡ false → with_children_by (λ k. eqb k p) g f ≡ f
+pub kids-off : (f : Forest ℕ) (p : ℕ) (g : Forest ℕ → Forest ℕ) → has f p ≡ false → with_children_by (λ k. eqb k p) g f ≡ f
 kids-off Empty p g off = refl
 kids-off (Tree k cs rest) p g off = grind (arith, nat_tests, kids-off cs p g, kids-off rest p g)
 
@@ -236,7 +236,7 @@ abbrev pub root_of : Forest ℕ → ℕ → Forest ℕ
 root_of Empty r = Empty
 root_of (Tree k cs rest) r = cond (eqb k r) (Tree k cs Empty) (root_of rest r)
 
-root-in : (f : Forest ℕ) (r k : ℕ) → has f k ≡ false → has (root_of f r) k ≡ false
+pub root-in : (f : Forest ℕ) (r k : ℕ) → has f k ≡ false → has (root_of f r) k ≡ false
 root-in Empty r k out = refl
 root-in (Tree j cs rest) r k out = grind (arith, nat_tests, out, root-in rest r k)
 
@@ -293,7 +293,7 @@ module _ (h p : ℕ) (t : Forest ℕ) where
   ]
 
 -- No object stands in two of the trees that are shown.
-count-and_then : (f g : Forest ℕ) (k : ℕ) → count (and_then f g) k ≡ count f k + count g k
+pub count-and_then : (f g : Forest ℕ) (k : ℕ) → count (and_then f g) k ≡ count f k + count g k
 count-and_then Empty g k = omega arith
 count-and_then (Tree h cs rest) g k = omega (arith, count-and_then rest g k)
 

@@ -38,3 +38,5 @@ pub mod Fronted
 pub mod Fronting
 pub mod Still
 pub mod Arrived
+pub mod Growing
+pub mod Added

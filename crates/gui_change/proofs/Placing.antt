@@ -47,7 +47,7 @@ found-nowhere h es none =
     rw (at, past) refl
 
 -- Entries at the head that go behind those that follow them.
-turned : (es : List Entry) (front back after : List Painted) (len more : ℕ) → all_entries es ≡ front ++ (back ++ after) → length front ≡ len → length back ≡ more →
+pub turned : (es : List Entry) (front back after : List Painted) (len more : ℕ) → all_entries es ≡ front ++ (back ++ after) → length front ≡ len → length back ≡ more →
     all_entries (drop len (take (len + more) es) ++ (take len es ++ drop (len + more) es)) ≡ back ++ (front ++ after)
 turned es front back after len more is long wide =
     let n = len + more in

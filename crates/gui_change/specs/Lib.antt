@@ -1,6 +1,7 @@
 pub mod After
 pub mod Again
 pub mod Canvas
+pub mod Comes
 pub mod Dues
 pub mod Edits
 pub mod Entries

@@ -70,6 +70,15 @@ module _ (h p : ℕ) (es : List Entry) (new : List Painted) where
           g.is
           ∙ (sym (append_assoc g.before (own p ∷ []) (g.inside ++ (own h ∷ (bars_over h ∷ (bars_over p ∷ g.after))))) ∙ sym (append_assoc head g.inside (own h ∷ (bars_over h ∷ (bars_over p ∷ g.after)))))
 
+      -- two entries more
+      pub size : length new ≡ length es + 2
+      size =
+          let a = length-append front (bars_over p ∷ g.after) in
+          let b = length-append front (own h ∷ (bars_over h ∷ (bars_over p ∷ g.after))) in
+          let c = ap length is in
+          let d = sym (length-map es entry_in) ∙ ap length was in
+          omega (arith, a, b, c, d)
+
       -- after two more entries were listed behind all, and were brought there
       module _ (fs xs : List Entry) (more : all_entries fs ≡ all_entries es ++ (own h ∷ (bars_over h ∷ []))) (count : ℕ) (rest : count ≡ length es - place)
           (brought : xs ≡ drop count (take (count + 2) (drop place fs)) ++ (take count (drop place fs) ++ drop (count + 2) (drop place fs))) where

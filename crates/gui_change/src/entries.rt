@@ -5,6 +5,7 @@ ghost use Rattle.gui_base.specs.Forest.{has, size, tree_at};
 ghost use Rattle.gui_store.specs.Views.{scene_of};
 ghost use Rattle.gui_tree.specs.Handles.{numbers};
 ghost use Rattle.scene_defs.specs.Shown.{Entry as Painted, bars_over, entries, entries_in, own};
+ghost use Rattle.gui_change.specs.Comes.{Comes};
 ghost use Rattle.gui_change.specs.Entries.{IsEntryRoom, all_entries, own_handles};
 ghost use Rattle.gui_change.specs.Fronts.{Fronts, is_of, names};
 
@@ -137,4 +138,24 @@ pub(crate) fn bring_to_front(listed: &mut Vec<Entry>, h: Handle, parent: Handle)
         return;
     };
     bring_to_bars(&mut listed.as_mut_slice()[start..], h, parent);
+}
+
+/// Lists an object that came, the last child of its parent, right before the bars of that one, where this is listed.
+pub(crate) fn add_last(listed: &mut Vec<Entry>, h: Handle, parent: Handle)
+    requires room { vec_len listed.old + 2 ≤ vec_capacity listed.old }
+    ensures listed { (after : List Painted) → Comes h.0 parent.0 (all_entries listed.old.items) after →
+        all_entries listed.new.items ≡ after }
+    ensures capacity { vec_capacity listed.new ≡ vec_capacity listed.old }
+{
+    let Some(start) = place_of(listed.as_slice(), parent) else {
+        return;
+    };
+    let Some(below) = place_of(&listed.as_slice()[start + 1..], parent) else {
+        return;
+    };
+    let place = start + 1 + below;
+    let count = listed.len() - place;
+    listed.push_reserved(Entry { h, is_bars: false });
+    listed.push_reserved(Entry { h, is_bars: true });
+    bring_behind(&mut listed.as_mut_slice()[place..], count, 2);
 }

@@ -1,7 +1,9 @@
 -- A change that made an object: all that was shown is shown still, and all but its parent are seen as they were, where
 -- their trees were not solved.
-use Rattle.std.proofs.Common.{◌≡◌, ◌∙◌, sym, ap, subst, ℕ, ◌<◌, true, false, eqb, List, Option, Some, None, is_some, inl, inr}
-use Rattle.std.proofs.lemmas.Bool.{both_ways, cases_Bool, eqb-true, false_from_ne_true}
+use Rattle.std.proofs.Common.{◌≡◌, ◌∙◌, sym, ap, subst, ℕ, ◌<◌, true, false, eqb, List, Option, Some, None, is_some, ◌+◌, ◌≤◌, length, inl, inr, arith}
+use Rattle.std.specs.Prelude.{vec_capacity}
+use Rattle.std.proofs.lemmas.Bool.{both_ways, cases_Bool, eqb-true, false_from_ne_true, not-false}
+use Rattle.std.proofs.lemmas.List.{length-map}
 use Rattle.gui_base.specs.Forest.{has}
 use Rattle.gui_base.specs.declared.Handle.{Handle}
 use Rattle.gui_pool.specs.Table.{value_at}
@@ -10,6 +12,7 @@ use Rattle.scene_defs.specs.declared.Change.{Change}
 use Rattle.scene_defs.specs.declared.Change.TheVariants as change
 use Rattle.scene_defs.specs.Change.{answer_of, scene_after}
 use Rattle.scene_defs.specs.Scene.{Object, Scene, handles_of, is_there, new_object, object_at, path_at}
+use Rattle.scene_defs.specs.Shown.{entries}
 use Rattle.scene_defs.specs.Valid.{IsValid}
 use Rattle.scene_defs.specs.Visible.{shown_trees}
 use Rattle.scene_defs.proofs.Handles.{has-handles}
@@ -30,13 +33,16 @@ use Rattle.gui_debts.specs.declared.edit.Edit.TheVariants.{New}
 use Rattle.gui_debts.specs.declared.seen.Seen.{Seen}
 use Rattle.gui_debts.proofs.Changes.{after_is}
 use Rattle.gui_debts.proofs.Sparing.{keeps, painted, painted-is}
+use Rattle.gui_change.specs.Comes.{Comes}
 use Rattle.gui_change.specs.Edits.{WasSeenEdited}
+use Rattle.gui_change.specs.Entries.{all_entries, entry_in}
 use Rattle.gui_change.specs.Gone.{is_shown}
 use Rattle.gui_change.specs.Marking.{ScrollsSame}
 use Rattle.gui_change.specs.Settled.{LooksSame}
 use Rattle.gui_change.specs.declared.scene_look.SceneLook.{SceneLook}
 use Rattle.gui_change.proofs.BarsStay.{bars-alike}
 use Rattle.gui_change.proofs.Comings.{Made, failed, made-new}
+use Rattle.gui_change.proofs.Growing.{entries-fit, new-entries}
 use Rattle.gui_change.proofs.Moves.{looks-on-path}
 use Rattle.gui_change.proofs.Orders.{shown_there}
 use Rattle.gui_change.proofs.Rooted.{ends_shown, shown-by}
@@ -102,6 +108,21 @@ module _ (old : Places) (look : SceneLook) (after : Scene) (made : Change) (conc
   -- something is known of what was shown
   known : (k : ℕ) → is_some (value_at look.seen k) ≡ has (handles_of (shown_trees before)) k
   known k = has_value look.order.items (handles_of (shown_trees before)) was.shows.order after.limits.objects look.seen was.shows.table k
+
+  -- it is painted last in its parent
+  pub entries-come : Comes h.0 p.0 (all_entries look.entries.items) (entries after)
+  entries-come =
+      subst (λ es. Comes h.0 p.0 es (entries after)) (sym was.shows.entries)
+      (subst (λ (s : Scene). Comes h.0 p.0 (entries before) (entries s)) (sym now) (new-entries before was.edited.was.valid h p it.kind))
+
+  pub entries-room : length look.entries.items + 2 ≤ vec_capacity look.entries
+  entries-room =
+      let t = failed before (change.New h p it.kind) (ap (answer_of before) (sym it.is) ∙ was.edited.was.done) in
+      let fits = entries-fit before was.edited.was.valid h p it.kind (subst IsValid now valid) (not-false (is_there before p.0) t.0) in
+      let same = ap (λ (s : Scene). s.limits.objects) now in
+      let long = sym (length-map look.entries.items entry_in) ∙ ap length was.shows.entries in
+      let room = was.shows.entries_room in
+      omega (arith, fits, same, long, room)
 
   -- what is known of those that were shown is what they paint still, wherever they stand
   pub all-keep : KeepOthers look.seen Nobody after

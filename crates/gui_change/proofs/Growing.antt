@@ -1,10 +1,10 @@
 -- What is painted where an object comes, the last child of another.
-use Rattle.std.proofs.Common.{◌≡◌, ◌∙◌, refl, sym, ap, subst, ℕ, true, false, eqb, ◌||◌, List, [], ◌∷◌, ◌++◌, append_assoc, inl, inr, arith}
+use Rattle.std.proofs.Common.{◌≡◌, ◌∙◌, ◌+◌, ◌*◌, ◌≤◌, refl, sym, ap, subst, length, length-append, ℕ, true, false, eqb, ◌||◌, List, [], ◌∷◌, ◌++◌, append_assoc, inl, inr, arith}
 use Rattle.std.proofs.lemmas.Bool.{cases_Bool, eqb-true, false≢true, false_from_ne_true, or_from, or_left, or_right}
-use Rattle.gui_base.specs.Forest.{Forest, Empty, Tree, StandsOnce, and_then, has, leaf, with_children_by}
+use Rattle.gui_base.specs.Forest.{Forest, Empty, Tree, StandsOnce, and_then, has, leaf, size, with_children_by}
 use Rattle.gui_base.specs.declared.Handle.{Handle}
 use Rattle.gui_base.specs.declared.words.Kind.{Kind}
-use Rattle.gui_base.proofs.Forests.{map-added_by}
+use Rattle.gui_base.proofs.Forests.{map-added_by, map-size}
 use Rattle.gui_base.proofs.Visits.{count-has}
 use Rattle.gui_tree.proofs.Parts.{IsDistinct, distinct_once}
 use Rattle.scene_defs.specs.declared.Change.TheVariants as change
@@ -12,12 +12,14 @@ use Rattle.scene_defs.specs.Change.{scene_after}
 use Rattle.scene_defs.specs.Scene.{Scene, handle_of, handles_of, new_object}
 use Rattle.scene_defs.specs.Shown.{Entry as Painted, bars_over, entries, entries_in, own}
 use Rattle.scene_defs.specs.Valid.{IsValid}
+use Rattle.scene_defs.specs.Visible.{root_tree, shown_trees}
+use Rattle.gui_layout.proofs.Entering.{few}
 use Rattle.gui_change.specs.Comes.{AddsLast, Comes}
 use Rattle.gui_change.specs.Fronts.{names}
 use Rattle.gui_change.proofs.Entering.{entries-and_then}
 use Rattle.gui_change.proofs.Fronted.{shown-handles, three_of}
 use Rattle.gui_change.proofs.Fronting.{count-and_then, kids-off, names-append, names-entries, root-in, root_of}
-use Rattle.gui_change.proofs.Orders.{shown_once}
+use Rattle.gui_change.proofs.Orders.{shown_once, size-and_then, size-roots}
 
 module _ (h p : ℕ) where
   abbrev last : Forest ℕ → Forest ℕ
@@ -148,6 +150,25 @@ module _ (h p : ℕ) where
       rw (root-grown f a d, root-grown f 1 d, root-grown f 2 d)
       (ap (and_then (grown x)) (sym (grown-and_then y z (apart y z (later x (and_then y z) once)))) ∙ sym (grown-and_then x (and_then y z) (apart x (and_then y z) once)))
 
+-- one object more
+size-grown : (h p : ℕ) (f : Forest ℕ) → IsDistinct f → has f p ≡ true → size (grown h p f) ≡ size f + 1
+size-grown h p Empty d there = absurd (false≢true there)
+size-grown h p (Tree k cs rest) d there = elim (cases_Bool (eqb k p)) [
+  | inl top ↦ rw top (let a = size-and_then cs (leaf h) in omega (arith, a))
+  | inr lower ↦ elim (cases_Bool (has cs p)) [
+    | inl under ↦ rw lower (let a = size-grown h p cs d.3 under in let b = ap size (still h p rest (d.0 p under)) in omega (arith, a, b))
+    | inr off ↦ let late : has rest p ≡ true = rw (lower, off) at there in rw lower (let a = size-grown h p rest d.4 late in let b = ap size (still h p cs off) in omega (arith, a, b))
+  ]
+]
+
+length-entries : (f : Forest ℕ) → length (entries_in f) ≡ 2 * size f
+length-entries Empty = omega arith
+length-entries (Tree k cs rest) =
+    let a = length-append (entries_in cs) (bars_over k ∷ entries_in rest) in
+    let b = length-entries cs in
+    let c = length-entries rest in
+    omega (arith, a, b, c)
+
 -- What is painted after a change that made an object.
 module _ (scene : Scene) (valid : IsValid scene) (h p : Handle) (kind : Kind) where
   abbrev pub after : Scene
@@ -167,3 +188,17 @@ module _ (scene : Scene) (valid : IsValid scene) (h p : Handle) (kind : Kind) wh
       ∙ (ap (λ (u : Forest ℕ). entries_in (three_of u scene.active)) trees-grown
       ∙ ap entries_in (three-grown h.0 p.0 f scene.active (distinct_once f valid.trees.once) once)) in
       subst (λ es. Comes h.0 p.0 es (entries after)) (sym old) (subst (λ es. Comes h.0 p.0 (entries_in t) es) (sym new) (comes h.0 p.0 t (distinct_once t once)))
+
+  -- so there is room for two entries more
+  pub entries-fit : IsValid after → has (handles_of scene.trees) p.0 ≡ true → length (entries scene) + 2 ≤ 2 * after.limits.objects
+  entries-fit now there =
+      let f = scene.trees in
+      let all = size-roots f scene.active valid.trees.above_top valid.trees.above_system in
+      let a = size-and_then (root_tree f scene.active) (and_then (root_tree f 1) (root_tree f 2)) in
+      let b = size-and_then (root_tree f 1) (root_tree f 2) in
+      let c = map-size handle_of (shown_trees scene) in
+      let d = map-size handle_of f in
+      let e = length-entries (handles_of (shown_trees scene)) in
+      let g = few after now in
+      let more = ap size trees-grown ∙ size-grown h.0 p.0 (handles_of f) (distinct_once (handles_of f) valid.trees.once) there in
+      omega (arith, all, a, b, c, d, e, g, more)

@@ -142,7 +142,7 @@ pub(crate) fn bring_to_front(listed: &mut Vec<Entry>, h: Handle, parent: Handle)
 
 /// Lists an object that came, the last child of its parent, right before the bars of that one, where this is listed.
 pub(crate) fn add_last(listed: &mut Vec<Entry>, h: Handle, parent: Handle)
-    requires room { vec_len listed.old + 2 ≤ vec_capacity listed.old }
+    requires room { length listed.old.items + 2 ≤ vec_capacity listed.old }
     ensures listed { (after : List Painted) → Comes h.0 parent.0 (all_entries listed.old.items) after →
         all_entries listed.new.items ≡ after }
     ensures capacity { vec_capacity listed.new ≡ vec_capacity listed.old }

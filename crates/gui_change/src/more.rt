@@ -1,5 +1,5 @@
 //! What is seen of a scene after a change by which more is shown, and nothing less, and what the change owes.
-ghost use Rattle.std.specs.Prelude.{◌≡◌, ◌≤◌, ◌<◌, ◌*◌, ℕ, true, false, None, Some, option_map, vec_capacity};
+ghost use Rattle.std.specs.Prelude.{◌≡◌, ◌≤◌, ◌<◌, ◌+◌, ◌*◌, ℕ, length, true, false, None, Some, option_map, vec_capacity};
 ghost use Rattle.debt_defs.specs.Debt.{touched_areas};
 ghost use Rattle.debt_defs.specs.Same.{same_item};
 ghost use Rattle.debt_defs.specs.Scenes.{look_of};
@@ -11,6 +11,7 @@ ghost use Rattle.gui_tree.specs.Handles.{numbers};
 ghost use Rattle.scene_defs.specs.Scene.{Scene, handles_of, is_there};
 ghost use Rattle.scene_defs.specs.Shown.{entries, order};
 ghost use Rattle.gui_change.specs.After.{scene_after};
+ghost use Rattle.gui_change.specs.Comes.{Comes};
 ghost use Rattle.gui_change.specs.Dues.{OwesAll};
 ghost use Rattle.gui_change.specs.Entries.{all_entries};
 ghost use Rattle.gui_change.specs.Gone.{is_shown};
@@ -23,7 +24,7 @@ ghost use Rattle.gui_debts.specs.Sights.{KeepOthers};
 ghost use Rattle.gui_debts.specs.declared.seen.Seen.{Seen};
 
 use crate::after::After;
-use crate::entries::list_entries;
+use crate::entries::add_last;
 use crate::gone::put_missing;
 use crate::scene_look::{SceneLook, list_order};
 use crate::seeing::see_changed;
@@ -31,18 +32,18 @@ use gui_base::{Grid, Handle};
 use gui_damage::Damage;
 use gui_store::Store;
 
-/// Lists what is painted, and by that what is shown.
-fn list_all(look: &mut SceneLook, store: &Store)
+/// Lists an object that came, the last child of its parent, where that is listed, and by that what is shown.
+fn list_new(look: &mut SceneLook, store: &Store, h: Handle, parent: Handle)
+    requires comes { Comes h.0 parent.0 (all_entries look.old.entries.items) (entries (scene_of store.now)) }
+    requires room { length look.old.entries.items + 2 ≤ vec_capacity look.old.entries }
     requires order_room { (scene_of store.now).limits.objects ≤ vec_capacity look.old.order }
-    requires entries_room { 2 * (scene_of store.now).limits.objects ≤ vec_capacity look.old.entries }
     ensures order { numbers look.new.order.items ≡ order (scene_of store.now) }
     ensures order_room { vec_capacity look.new.order ≡ vec_capacity look.old.order }
     ensures entries { all_entries look.new.entries.items ≡ entries (scene_of store.now) }
     ensures entries_room { vec_capacity look.new.entries ≡ vec_capacity look.old.entries }
     ensures seen { look.new.seen ≡ look.old.seen }
 {
-    look.entries.clear();
-    list_entries(store, &mut look.entries);
+    add_last(&mut look.entries, h, parent);
     list_order(look, store);
 }
 
@@ -54,6 +55,8 @@ pub(crate) fn see_more(
     listed: &mut Vec<Handle>,
     damage: &mut Damage<Grid>,
     named: Option<Handle>,
+    h: Handle,
+    parent: Handle,
     after: &After<'_>,
     solved: &[Handle],
 )
@@ -63,6 +66,8 @@ pub(crate) fn see_more(
     requires still { (k : ℕ) → 0 < times look.old.order.items k → is_shown (scene_after after.now) k ≡ true }
     requires order_room { (scene_after after.now).limits.objects ≤ vec_capacity look.old.order }
     requires entries_room { 2 * (scene_after after.now).limits.objects ≤ vec_capacity look.old.entries }
+    requires comes { Comes h.0 parent.0 (all_entries look.old.entries.items) (entries (scene_after after.now)) }
+    requires more { length look.old.entries.items + 2 ≤ vec_capacity look.old.entries }
     requires tops { (u : ℕ) → 0 < times solved.now u → is_there (scene_after after.now) u ≡ true }
     requires fresh { (k : ℕ) → is_shown (scene_after after.now) k ≡ true → value_at look.old.seen k ≡ None →
         in_trees_at (handles_of (scene_after after.now).trees) solved.now k ≡ true }
@@ -78,7 +83,7 @@ pub(crate) fn see_more(
 {
     let store = after.store;
     let _tree = store.tree();
-    list_all(look, store);
+    list_new(look, store, h, parent);
     put_missing(&mut look.seen, store, look.order.as_slice());
     see_changed(look, listed, damage, named, after, solved);
 }

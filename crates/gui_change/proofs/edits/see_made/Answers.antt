@@ -6,7 +6,7 @@ use Rattle.gui_layout.specs.Marks.{solved_in}
 use Rattle.gui_layout.specs.Tops.{in_trees_at}
 use Rattle.gui_debts.specs.Sights.{KeepOthers}
 use Rattle.gui_debts.specs.declared.concerned.Concerned.TheVariants.{Nobody}
-use Rattle.gui_change.proofs.Arrived.{all-keep, fresh, others-seen, still}
+use Rattle.gui_change.proofs.Arrived.{all-keep, entries-come, entries-room, fresh, others-seen, still}
 use Rattle.gui_change.proofs.edits.see_made.Goals as goal
 use Rattle.gui_change.proofs.edits.see_made.Goals.{After-settle_new}
 
@@ -61,3 +61,9 @@ see_more-requires-clause-known c k s there off found = all (goal.at.see_more-req
 
 pub see_more-requires-clause-painted : goal.see_more-requires-clause-painted
 see_more-requires-clause-painted c = all (goal.at.see_more-requires-clause-painted c).After-settle_new
+
+pub see_more-requires-clause-comes : goal.see_more-requires-clause-comes
+see_more-requires-clause-comes c = entries-come c.args.places.now c.args.look.now (scene_of c.args.made.now.store.now) c.args.made.now.change.now c.args.made.now.concerned (removed_of c.args.made.now.store.now) c.args.h c.args.parent c.requires.was
+
+pub see_more-requires-clause-more : goal.see_more-requires-clause-more
+see_more-requires-clause-more c = entries-room c.args.places.now c.args.look.now (scene_of c.args.made.now.store.now) c.args.made.now.change.now c.args.made.now.concerned (removed_of c.args.made.now.store.now) c.args.h c.args.parent c.requires.was

@@ -26,10 +26,10 @@ pub put_missing-requires-clause-some : goal.put_missing-requires-clause-some
 put_missing-requires-clause-some c =
     let scene = scene_of c.args.after.now.store.now in
     let look = c.args.look.now in
-    let listed : numbers c.as_slice.result.now ≡ order scene = ap numbers c.as_slice.ensures.value ∙ c.list_all.ensures.order in
+    let listed : numbers c.as_slice.result.now ≡ order scene = ap numbers c.as_slice.ensures.value ∙ c.list_new.ensures.order in
     record {
       known = look.order.items;
-      these = subst (λ (t : Table Seen). HasThese scene.limits.objects t look.order.items) (sym c.list_all.ensures.seen) c.requires.table;
+      these = subst (λ (t : Table Seen). HasThese scene.limits.objects t look.order.items) (sym c.list_new.ensures.seen) c.requires.table;
       within = λ k some. among-times c.as_slice.result.now k (subst (λ (ks : List ℕ). is_among ks k ≡ true) (sym listed) (c.requires.still k some));
     }
 
@@ -37,7 +37,7 @@ put_missing-requires-clause-some c =
 kept : (c : After-put_missing) (some : Concerned) → KeepOthers c.args.look.now.seen some (scene_of c.args.after.now.store.now) → KeepOthers c.put_missing.new.table some (scene_of c.args.after.now.store.now)
 kept c some known =
     let scene = scene_of c.args.after.now.store.now in
-    c.put_missing.ensures.known some scene (subst (λ (t : Table Seen). KeepOthers t some scene) (sym c.list_all.ensures.seen) known)
+    c.put_missing.ensures.known some scene (subst (λ (t : Table Seen). KeepOthers t some scene) (sym c.list_new.ensures.seen) known)
 
 pub see_changed-requires-clause-known : goal.see_changed-requires-clause-known
 see_changed-requires-clause-known c = kept (goal.at.see_changed-requires-clause-known c).After-put_missing c.args.after.now.concerned c.requires.known
@@ -46,7 +46,7 @@ pub see_changed-requires-clause-painted : goal.see_changed-requires-clause-paint
 see_changed-requires-clause-painted c = kept (goal.at.see_changed-requires-clause-painted c).After-put_missing c.args.after.now.painted c.requires.painted
 
 -- something is known of all that is listed
-these : (c : After-put_missing) → HasThese (scene_of c.args.after.now.store.now).limits.objects c.put_missing.new.table c.list_all.new.look.order.items
+these : (c : After-put_missing) → HasThese (scene_of c.args.after.now.store.now).limits.objects c.put_missing.new.table c.list_new.new.look.order.items
 these c =
     subst (λ (hs : List Handle). HasThese (scene_of c.args.after.now.store.now).limits.objects c.put_missing.new.table hs) c.as_slice.ensures.value c.put_missing.ensures.these
 
@@ -55,16 +55,16 @@ see_changed-requires-clause-table c = these (goal.at.see_changed-requires-clause
 
 -- what is known tells the same sights
 sights : (c : After-put_missing) (k : ℕ) → sight_of (value_at c.put_missing.new.table k) ≡ sight_of (value_at c.args.look.now.seen k)
-sights c k = c.put_missing.ensures.sights k ∙ ap (λ (t : Table Seen). sight_of (value_at t k)) c.list_all.ensures.seen
+sights c k = c.put_missing.ensures.sights k ∙ ap (λ (t : Table Seen). sight_of (value_at t k)) c.list_new.ensures.seen
 
 -- and of what is shown alone
 shown : (c : After-put_missing) (k : ℕ) (s : Seen) → value_at c.put_missing.new.table k ≡ Some s → is_shown (scene_of c.args.after.now.store.now) k ≡ true
 shown c k s found =
-    let hs = c.list_all.new.look.order.items in
+    let hs = c.list_new.new.look.order.items in
     let count : value_count c.put_missing.new.table k ≡ 1 = ap (λ (o : Option Seen). cond (is_some o) 1 0) found in
     let each = (these c).each k in
     let more : 0 < times hs k = omega (arith, count, each) in
-    subst (λ (ks : List ℕ). is_among ks k ≡ true) c.list_all.ensures.order (times-among hs k more)
+    subst (λ (ks : List ℕ). is_among ks k ≡ true) c.list_new.ensures.order (times-among hs k more)
 
 pub see_changed-requires-clause-others : goal.see_changed-requires-clause-others
 see_changed-requires-clause-others c k s found out off = by (value_at c.args.look.now.seen k) refl where

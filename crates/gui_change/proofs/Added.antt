@@ -1,14 +1,13 @@
 -- Where the entries of an object go that comes, the last child of another.
-use Rattle.std.proofs.Common.{◌≡◌, ◌∙◌, ◌+◌, ◌-◌, ◌≤◌, refl, sym, ap, ℕ, eq-eqb, inl, inr, List, [], ◌∷◌, ◌++◌, Some, None, take, drop, length, append_assoc, arith}
+use Rattle.std.proofs.Common.{◌≡◌, ◌∙◌, ◌+◌, ◌-◌, refl, sym, ap, ℕ, eq-eqb, inl, inr, List, [], ◌∷◌, ◌++◌, Some, None, take, drop, length, append_assoc, arith}
 use Rattle.std.specs.List.{position}
-use Rattle.std.proofs.lemmas.List.{append-nil, drop-map, drop_all, drop_at, length-append, length-drop, length-map, map-append, take-map, take_at}
+use Rattle.std.proofs.lemmas.List.{append-nil, drop-map, drop_at, length-append, length-map, map-append, take-map, take_at}
 use Rattle.scene_defs.specs.Shown.{Entry as Painted, bars_over, own}
 use Rattle.gui_change.specs.Comes.{AddsLast, Comes}
 use Rattle.gui_change.specs.Entries.{all_entries, entry_in}
 use Rattle.gui_change.specs.Fronts.{is_of}
 use Rattle.gui_change.specs.declared.entries.Entry.{Entry}
 use Rattle.gui_change.proofs.Placing.{found-at, found-nowhere, turned}
-use borrow.Rule.Slice.PartMut.{put_mid}
 
 module _ (h p : ℕ) (es : List Entry) (new : List Painted) where
   pub none-there : position (is_of p) es ≡ None → Comes h p (all_entries es) new → all_entries es ≡ new

@@ -47,6 +47,7 @@ fn list_new(look: &mut SceneLook, store: &Store, h: Handle, parent: Handle)
     list_order(look, store);
 }
 
+// Each parameter by itself, as in `see_changed`, and what came besides: a caller has them from different places.
 /// Lists what is shown where all is shown still that was, and sees the objects that may differ: the one that a
 /// change names, those that it may concern, and all of the trees at the objects in `solved`. Of what is shown for the
 /// first time nothing was known. `listed` is empty, and is so afterwards.

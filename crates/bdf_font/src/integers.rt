@@ -10,7 +10,7 @@ use crate::characters::Extents;
 use crate::lines::next_word;
 
 /// Beyond every number: one that is farther from 0 is read as this one.
-const BEYOND: i64 = 4_294_967_296;
+const BEYOND: u64 = 4_294_967_296;
 
 /// What numbers are at most, but for the codes of characters.
 pub(crate) const MOST_NUMBER: i32 = 32_767;
@@ -61,11 +61,11 @@ fn are_digits(bytes: &[u8]) -> bool
 fn capped_value(digits: &[u8]) -> i64
     ensures { result ≡ pos (min (value_of digits.now) beyond) }
 {
-    let mut value = 0;
+    let mut value: u64 = 0;
     for digit in digits {
-        value = (value * 10 + i64::from(digit.saturating_sub(b'0'))).min(BEYOND);
+        value = (value * 10 + u64::from(digit.saturating_sub(b'0'))).min(BEYOND);
     }
-    value
+    value as i64
 }
 
 /// Whether all these words are numbers.

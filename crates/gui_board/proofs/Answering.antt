@@ -1,5 +1,5 @@
 -- Commands against which nothing is.
-use Rattle.std.proofs.Common.{◌≡◌, ◌∙◌, sym, ap, subst, refl, ℕ, ◌-◌, Bool, true, false, ◌||◌, List, [], ◌∷◌, length, sum_by, Result, Ok, Err, Option, Some, None, arith}
+use Rattle.std.proofs.Common.{◌≡◌, ◌∙◌, sym, ap, refl, ℕ, ◌-◌, Bool, true, false, List, [], ◌∷◌, length, sum_by, Result, Ok, Err, Option, Some, None, arith}
 use Rattle.std.specs.Prelude.{◌==◌, nat_le, not, if◌then◌else◌, OnOk, is_some}
 use Rattle.std.proofs.lemmas.Bool.{not-false}
 use Rattle.std.proofs.lemmas.Bool.Decides.{nat_tests}
@@ -11,16 +11,10 @@ use Rattle.gui_base.specs.declared.refusal.Refusal.TheVariants.{Range, Full}
 use Rattle.gui_event.specs.Groups.{FocusGroups, group_answer}
 use Rattle.gui_event.specs.Handlers.{Handlers, add_answer}
 use Rattle.play_defs.specs.Focus.{has_group, group_of}
-use Rattle.gui_damage.specs.Adding.{AddsAll}
-use Rattle.gui_damage.specs.Pending.{Pending}
 use Rattle.run_defs.specs.Machine.{Machine}
-use Rattle.run_defs.specs.Play.{with}
 use Rattle.run_defs.specs.Step.{full_by, answer, gone, is_command_in_range, tests_of}
 use Rattle.run_defs.specs.declared.Command.TheVariants as ask
 use Rattle.scene_defs.specs.Scene.{is_there}
-use Rattle.gui_board.specs.Stages.{Stage, Played}
-use Rattle.gui_board.specs.Writing.{WritesBy}
-use Rattle.gui_board.proofs.Adding.{adds_nothing}
 
 -- a command that is done: its numbers are in range, and each of its tests fails
 pub in_range : (b : Bool) (o : Option Refusal) → (if b then o else Some Range) ≡ None → o ≡ None
@@ -55,21 +49,6 @@ pub group_left : (s t : FocusGroups) (id : ℕ) (r : Result (Unit {0}) Refusal) 
 group_left s t id r slots pool same new e answer left =
     let few = room s.size (length s.all.groups) pool (ap (λ (n : ℕ). full_by n (length s.all.groups) pool) same ∙ e) in
     ok_leaves r (group_answer s id) answer (rw (new, few) refl) left
-
--- another machine with the same scene, and nothing else
-pub played_with : (a b : Stage) (f : Machine → Machine) → b.machine ≡ f a.machine → (f a.machine).scene ≡ a.machine.scene → b.pending ≡ a.pending →
-    WritesBy a.cut b.cut a.log b.log [] → b.noted ≡ a.noted → Played a b (with f a.machine)
-unfolding with
-played_with a b f machine scene pending lines noted = record {
-  machine = machine;
-  scene = scene;
-  owed = λ is. subst (λ (p : Pending). AddsAll a.pending p []) (sym pending) (adds_nothing a.pending is);
-  lines = lines;
-  noted = noted ∙ or_false a.noted;
-} where
-  or_false : (b : Bool) → b ≡ (b || false)
-  or_false true = refl
-  or_false false = refl
 
 none_by : (o : Option ℕ) → is_some o ≡ false → o ≡ None
 none_by None e = refl

@@ -9,7 +9,6 @@ pub mod Handled
 pub mod LastHit
 pub mod NoHandlers
 pub mod Plays
-pub mod Points
 pub mod Refused
 pub mod Regrouped
 pub mod Removals

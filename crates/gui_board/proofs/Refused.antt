@@ -1,16 +1,14 @@
 -- What is asked of an animation before it is started or stopped.
-use Rattle.std.proofs.Common.{◌≡◌, ◌∙◌, sym, ap, subst, refl, ℕ, Bool, true, false, Option, Some, None, List, [], ◌∷◌, length, Ok}
-use Rattle.std.specs.Prelude.{option_map, is_some, if◌then◌else◌, not}
+use Rattle.std.proofs.Common.{◌≡◌, ◌∙◌, ap, subst, refl, ℕ, Bool, true, false, Option, Some, None, List, [], ◌∷◌, length, Ok}
+use Rattle.std.specs.Prelude.{if◌then◌else◌, not}
 use Rattle.std.proofs.lemmas.Bool.{not-false}
 use Rattle.gui_anim.specs.Anims.{Anims, start_answer}
-use Rattle.gui_base.specs.Forest.{Forest, parent_of}
 use Rattle.gui_base.specs.Refusing.{Test, first_of, Unknown}
 use Rattle.gui_base.specs.declared.Handle.{Handle}
 use Rattle.gui_base.specs.declared.events.Var.{Var}
 use Rattle.gui_base.specs.declared.limits.Pool.TheVariants.{Anims as AnimSlots}
 use Rattle.gui_base.specs.declared.refusal.Refusal.{Refusal}
 use Rattle.gui_base.specs.declared.refusal.Refusal.TheVariants.{Range}
-use Rattle.gui_tree.specs.Handles.{as_handle}
 use Rattle.play_defs.specs.Animation.{IsAnim, is_moved}
 use Rattle.play_defs.specs.declared.Anim.{Anim}
 use Rattle.play_defs.specs.declared.AnimSpec.{AnimSpec}
@@ -18,24 +16,9 @@ use Rattle.run_defs.specs.Machine.{Machine}
 use Rattle.run_defs.specs.Step.{answer, full_by, full_for, gone, is_anim_in_range, is_command_in_range, tests_of}
 use Rattle.run_defs.specs.declared.Command.TheVariants as ask
 use Rattle.run_defs.proofs.Anims.{anim-is}
-use Rattle.scene_defs.specs.Edits.{has_feature_at, is_featured}
-use Rattle.scene_defs.specs.Row.{has_feature, shown_row}
-use Rattle.scene_defs.specs.Scene.{Object, Scene, object_at, row_at, row_of}
-use Rattle.scene_defs.specs.declared.Feature.{Feature}
-use Rattle.scene_defs.specs.declared.Row.{Row}
 use Rattle.gui_board.proofs.Answering.{first_fails, in_range, room}
 
--- what is asked whatever room there is comes first
-pub tests_hold : (ts : List Test) (later : Option Refusal) (refusal : Refusal) → first_of ts None ≡ Some refusal → first_of ts later ≡ Some refusal
-tests_hold [] later refusal e = cc
-tests_hold ((true, reason) ∷ ts) later refusal e = e
-tests_hold ((false, reason) ∷ ts) later refusal e = tests_hold ts later refusal e
-
-pub tests_fail : (ts : List Test) (later : Option Refusal) → first_of ts None ≡ None → first_of ts later ≡ later
-tests_fail [] later e = refl
-tests_fail ((true, reason) ∷ ts) later e = cc
-tests_fail ((false, reason) ∷ ts) later e = tests_fail ts later e
-
+-- a command against which nothing is has room
 pub later_fails : (ts : List Test) (later : Option Refusal) → first_of ts later ≡ None → later ≡ None
 later_fails [] later e = e
 later_fails ((true, reason) ∷ ts) later e = cc
@@ -74,23 +57,3 @@ may_be_stopped machine h var e =
     let one = first_fails (gone machine h) (still ∷ []) None tests in
     let two = first_fails still [] None one.1 in
     not-false _ two.0
-
--- whether an object has a feature, by its row
-pub not_featured : (feature : Feature) (scene : Scene) (h : ℕ) → row_at scene h ≡ None → false ≡ has_feature_at scene feature h
-not_featured feature scene h e = by (object_at scene h) e where
-  by : (object : Option Object) → option_map row_of object ≡ None → false ≡ is_featured feature object
-  by None f = refl
-  by (Some object) f = cc
-
-pub featured_by : (feature : Feature) (scene : Scene) (h : ℕ) (row : Row) → row_at scene h ≡ Some (shown_row row) → has_feature feature row.kind ≡ has_feature_at scene feature h
-featured_by feature scene h row e = by (object_at scene h) e where
-  by : (object : Option Object) → option_map row_of object ≡ Some (shown_row row) → has_feature feature row.kind ≡ is_featured feature object
-  by None f = cc
-  by (Some object) f = let same : object.row ≡ shown_row row = cc in ap (λ (r : Row). has_feature feature r.kind) (sym same)
-
--- whether an object has a parent, by the handle of it
-pub has_parent : (f : Forest ℕ) (h : ℕ) (up : Option Handle) → up ≡ option_map as_handle (parent_of f h) → is_some (parent_of f h) ≡ is_some up
-has_parent f h up e = by (parent_of f h) ∙ ap (λ (o : Option Handle). is_some o) (sym e) where
-  by : (o : Option ℕ) → is_some o ≡ is_some (option_map as_handle o)
-  by None = refl
-  by (Some k) = refl

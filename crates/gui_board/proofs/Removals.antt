@@ -10,9 +10,11 @@ use Rattle.gui_damage.specs.Adding.{AddsAll}
 use Rattle.gui_damage.specs.Pending.{Pending}
 use Rattle.gui_store.specs.Removed.{removed_after, removed_by}
 use Rattle.gui_tree.specs.Handles.{numbers}
-use Rattle.run_defs.specs.Making.{make, make_by, made, removed, handles, forget, note, attempt, attempt_by, refused_line}
+use Rattle.run_defs.specs.Making.{make, make_by, made, removed, handles, forget, leave_group, note, attempt, attempt_by, refused_line}
+use Rattle.run_defs.specs.Making.{without_anims, without_handlers, without_targets}
+use Rattle.run_defs.specs.Machine.{Machine}
 use Rattle.run_defs.specs.Making.{removed_by as removed_of}
-use Rattle.run_defs.specs.Play.{only, nothing, ◌▷◌, ◌⊳◌, each}
+use Rattle.run_defs.specs.Play.{only, nothing, with, ◌▷◌, ◌⊳◌, each}
 use Rattle.run_laws.proofs.Scenes.{removes_all_below}
 use Rattle.scene_defs.specs.declared.Change.{Change}
 use Rattle.scene_defs.specs.declared.Change.TheVariants as kind
@@ -25,8 +27,9 @@ use Rattle.gui_board.specs.Stages.{Stage, Played}
 use Rattle.gui_board.specs.Writing.{WritesBy}
 use Rattle.gui_board.specs.declared.board.Board.{Board}
 use Rattle.gui_board.proofs.Adding.{adds_nothing}
-use Rattle.gui_board.proofs.Boards.{quiet_nothing, quiet_then}
+use Rattle.gui_board.proofs.Boards.{played_with, quiet_nothing, quiet_then}
 use Rattle.gui_board.proofs.Plays.{played_then, played_step, played_whole}
+use Rattle.gui_board.proofs.Writes.{writes_nothing}
 
 -- a change that deletes nothing leaves those that were removed last
 pub removed_stay : (answer : Option Refusal) (before : List ℕ) (scene : Scene) (change : Change) → removed_after before scene change ≡ before → removed_by answer before scene change ≡ before
@@ -77,6 +80,33 @@ made_delete a b c change h is valid none changes gone forgotten =
           ap handles listed
           ∙ sym (removes_all_below (scene_in a.canvas) h valid (subst (λ (asked : Change). answer_of (scene_in a.canvas) asked ≡ None) is none))
           ∙ ap (removed (scene_in a.canvas)) (sym is)
+
+-- An object is forgotten.
+
+-- another machine with the same scene, as a rule
+quiet_with : (a : Stage) (f : Machine → Machine) → (f a.machine).scene ≡ a.machine.scene → Played a (record a { machine = f a.machine }) (with f a.machine)
+quiet_with a f scene = played_with a (record a { machine = f a.machine }) f refl scene refl (writes_nothing a.cut a.log) refl
+
+-- what goes with an object: all but its place in its group, and then that
+pub forgets : (a b c : Stage) (h : Handle) → Played b c (leave_group h b.machine) → b ≡ record a { machine = without_anims h (without_targets h (without_handlers h a.machine)) } → Played a c (forget h a.machine)
+unfolding forget
+forgets a b c h last e =
+    played_then a b c (with (without_handlers h) ▷ with (without_targets h) ▷ with (without_anims h)) (leave_group h)
+    (subst (λ (s : Stage). Played a s ((with (without_handlers h) ▷ with (without_targets h) ▷ with (without_anims h)) a.machine)) (sym e) three) last where
+      one : Stage
+      one = record a { machine = without_handlers h a.machine }
+
+      two : Stage
+      two = record a { machine = without_targets h one.machine }
+
+      gone : Stage
+      gone = record a { machine = without_anims h two.machine }
+
+      three : Played a gone ((with (without_handlers h) ▷ with (without_targets h) ▷ with (without_anims h)) a.machine)
+      three =
+          played_then a two gone (with (without_handlers h) ▷ with (without_targets h)) (with (without_anims h))
+          (played_then a one two (with (without_handlers h)) (with (without_targets h)) (quiet_with a (without_handlers h) refl) (quiet_with one (without_targets h) refl))
+          (quiet_with two (without_anims h) refl)
 
 -- Objects are forgotten in turn.
 

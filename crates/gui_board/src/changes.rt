@@ -7,8 +7,8 @@ ghost use Rattle.gui_edge.specs.Sink.{SinkState};
 ghost use Rattle.play_defs.specs.Focus.{group_of};
 ghost use Rattle.run_defs.specs.Making.{attempt as attempt_of, forget as forget_of, handles, heir as heir_of};
 ghost use Rattle.run_defs.specs.Making.{is_hidden, is_usable, leave_group, made, note as note_of, pass_on};
-ghost use Rattle.run_defs.specs.Making.{put_state, without_anims, without_handlers, without_targets};
-ghost use Rattle.run_defs.specs.Play.{each, nothing, with};
+ghost use Rattle.run_defs.specs.Making.{put_state};
+ghost use Rattle.run_defs.specs.Play.{each, nothing};
 ghost use Rattle.scene_defs.specs.Change.{answer_of};
 ghost use Rattle.scene_defs.specs.Scene.{path_at, row_at};
 ghost use Rattle.scene_defs.specs.Valid.{IsChange};
@@ -70,7 +70,7 @@ impl Board {
         if self.groups.focused(id) != Some(h) {
             return None;
         }
-        self.groups.focus_next(id, |k| self.is_usable(k))
+        self.next_to_focus(true, id)
     }
 
     /// Takes an object out of its group, if it is in one. The focus passes on from it, and no event tells so.
@@ -97,39 +97,15 @@ impl Board {
         }
     }
 
-    /// Drops the handlers of an object that is removed.
-    fn forget_handlers(&mut self, h: Handle)
-        ensures done { Quiet self.old self.new (with (without_handlers h)) }
-        ensures gone { removed_in self.new.canvas ≡ removed_in self.old.canvas }
-    {
-        self.handlers.forget(h);
-    }
-
-    /// What is held on it is held on nothing, and what scrolls it scrolls nothing.
-    fn forget_targets(&mut self, h: Handle)
-        ensures done { Quiet self.old self.new (with (without_targets h)) }
-        ensures gone { removed_in self.new.canvas ≡ removed_in self.old.canvas }
-    {
-        self.inputs.forget(h);
-    }
-
-    /// Its animations are over.
-    fn forget_anims(&mut self, h: Handle)
-        ensures done { Quiet self.old self.new (with (without_anims h)) }
-        ensures gone { removed_in self.new.canvas ≡ removed_in self.old.canvas }
-    {
-        self.anims.forget(h);
-    }
-
     /// Drops what goes with an object that is removed: its handlers, what is held on it, its animations, and
     /// its place in its group.
     fn forget(&mut self, h: Handle)
         ensures done { Quiet self.old self.new (forget_of h) }
         ensures gone { removed_in self.new.canvas ≡ removed_in self.old.canvas }
     {
-        self.forget_handlers(h);
-        self.forget_targets(h);
-        self.forget_anims(h);
+        self.handlers.forget(h);
+        self.inputs.forget(h);
+        self.anims.forget(h);
         self.leave_group(h);
     }
 

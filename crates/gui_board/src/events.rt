@@ -147,7 +147,6 @@ impl Board {
     }
 
     /// Sends an event to an object that is there.
-    #[tactic(auto, unfolding(run_defs::specs::Events::send_there), using(crate::proofs::Plays::idle))]
     pub fn send_there<S: Sink>(&mut self, kind: EventKind, target: Handle, log: &mut S)
         ensures { Plays self.old self.new (S.state log.old) (S.state log.new) (send_there kind target) }
     {
@@ -164,7 +163,6 @@ impl Board {
     }
 
     /// Sends an event of input to an object that takes it.
-    #[tactic(auto, unfolding(run_defs::specs::Events::send_input), using(crate::proofs::Plays::idle))]
     pub fn send_input<S: Sink>(&mut self, kind: EventKind, target: Handle, log: &mut S)
         ensures { Plays self.old self.new (S.state log.old) (S.state log.new) (send_input kind target) }
     {

@@ -4,8 +4,8 @@ ghost use Rattle.gui_base.specs.declared.events.EventKind.TheVariants as Event;
 ghost use Rattle.gui_edge.specs.Sink.{SinkState};
 ghost use Rattle.play_defs.specs.Focus.{group_at, group_of, has_group, focused_in};
 ghost use Rattle.run_defs.specs.Events.{send_there};
-ghost use Rattle.run_defs.specs.Focusing.{first_focus, focus, focus_taken, hand_over, has_focus, join, leave};
-ghost use Rattle.run_defs.specs.Focusing.{move_focus, move_from, next_to_focus, refocus, step_focus, unfocus};
+ghost use Rattle.run_defs.specs.Focusing.{first_focus, focus, focus_taken, has_focus, join, leave, move_focus};
+ghost use Rattle.run_defs.specs.Focusing.{next_to_focus, refocus, step_focus, unfocus};
 ghost use Rattle.run_defs.specs.Making.{with_groups};
 ghost use Rattle.run_defs.specs.Play.{aimed, nothing};
 
@@ -45,7 +45,6 @@ impl Board {
     }
 
     /// Tells who had the focus that it lost it, if there is one.
-    #[tactic(auto, unfolding(run_defs::specs::Play::aimed), using(crate::proofs::Plays::idle))]
     fn tell_old<S: Sink>(&mut self, old: Option<Handle>, log: &mut S)
         ensures { Plays self.old self.new (S.state log.old) (S.state log.new)
             (aimed old (send_there Event.Defocused)) }
@@ -63,69 +62,38 @@ impl Board {
         self.groups.set_editing(id, false);
     }
 
-    /// The focus of a group goes from one to another, as far as states tell.
-    fn hand_over(&mut self, old: Option<Handle>, id: u8, by_key: bool, h: Handle)
-        ensures { Quiet self.old self.new (hand_over old id by_key h) }
-    {
-        self.take_focus(id, h);
-        self.unfocus_old(old);
-        self.refocus(by_key, h);
-    }
-
-    /// The same with its events, which come after the states.
-    fn move_from<S: Sink>(
-        &mut self,
-        old: Option<Handle>,
-        id: u8,
-        by_key: bool,
-        h: Handle,
-        log: &mut S,
-    )
-        ensures { Plays self.old self.new (S.state log.old) (S.state log.new) (move_from old id by_key h) }
-    {
-        self.hand_over(old, id, by_key, h);
-        self.tell_old(old, log);
-        self.send_there(EventKind::Focused, h, log);
-    }
-
-    /// The focus of a group moves to an object. `by_key` tells that a device moves it.
-    #[tactic(auto, unfolding(run_defs::specs::Focusing::move_focus))]
+    /// The focus of a group moves to an object. `by_key` tells that a device moves it. The events come after
+    /// the states.
     pub(crate) fn move_focus<S: Sink>(&mut self, id: u8, by_key: bool, h: Handle, log: &mut S)
         ensures { Plays self.old self.new (S.state log.old) (S.state log.new) (move_focus id by_key h) }
     {
         let old = self.groups.focused(id);
-        self.move_from(old, id, by_key, h, log);
+        self.take_focus(id, h);
+        self.unfocus_old(old);
+        self.refocus(by_key, h);
+        self.tell_old(old, log);
+        self.send_there(EventKind::Focused, h, log);
     }
 
     /// Who gets the focus of a group where a device moves it on, forwards or backwards.
-    fn next_to_focus(&self, forwards: bool, id: u8) -> Option<Handle>
+    pub(crate) fn next_to_focus(&self, forwards: bool, id: u8) -> Option<Handle>
         ensures { result ≡ next_to_focus forwards id (machine_of self.now) }
     {
+        let usable = |k: Handle| self.is_usable(k);
         if forwards {
-            self.groups.focus_next(id, |k| self.is_usable(k))
+            self.groups.focus_next(id, usable)
         } else {
-            self.groups.focus_prev(id, |k| self.is_usable(k))
-        }
-    }
-
-    /// The focus of a group moves to an object, if there is one, by a device.
-    #[tactic(auto, unfolding(run_defs::specs::Play::aimed), using(crate::proofs::Plays::idle))]
-    fn move_focus_aimed<S: Sink>(&mut self, next: Option<Handle>, id: u8, log: &mut S)
-        ensures { Plays self.old self.new (S.state log.old) (S.state log.new)
-            (aimed next (move_focus id true)) }
-    {
-        if let Some(h) = next {
-            self.move_focus(id, true, h, log);
+            self.groups.focus_prev(id, usable)
         }
     }
 
     /// A device moves the focus of a group on, where there is a member that may get it.
-    #[tactic(auto, unfolding(run_defs::specs::Focusing::step_focus))]
     pub fn step_focus<S: Sink>(&mut self, forwards: bool, id: u8, log: &mut S)
         ensures { Plays self.old self.new (S.state log.old) (S.state log.new) (step_focus forwards id) }
     {
-        let next = self.next_to_focus(forwards, id);
-        self.move_focus_aimed(next, id, log);
+        if let Some(h) = self.next_to_focus(forwards, id) {
+            self.move_focus(id, true, h, log);
+        }
     }
 
     /// Whether an object has the focus of the group that it is in.
@@ -139,7 +107,6 @@ impl Board {
     }
 
     /// Gives an object the focus of the group that it is in; nothing where it has it.
-    #[tactic(auto, unfolding(run_defs::specs::Focusing::focus), using(crate::proofs::Plays::idle))]
     pub fn focus<S: Sink>(&mut self, h: Handle, log: &mut S)
         ensures { Plays self.old self.new (S.state log.old) (S.state log.new) (focus h) }
     {

@@ -169,7 +169,6 @@ impl Board {
     }
 
     /// Sends an event of input to an object, if there is one.
-    #[tactic(auto, unfolding(run_defs::specs::Play::aimed), using(crate::proofs::Plays::idle))]
     pub fn send_aimed<S: Sink>(&mut self, target: Option<Handle>, kind: EventKind, log: &mut S)
         ensures { Plays self.old self.new (S.state log.old) (S.state log.new)
             (aimed target (send_input kind)) }

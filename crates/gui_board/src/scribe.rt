@@ -79,9 +79,9 @@ pub fn event_text(kind: EventKind, target: Handle, current: Handle) -> ArrayVec<
     push_bytes(&mut text, b"event ");
     push_bytes(&mut text, event_word(kind));
     push_bytes(&mut text, b" ");
-    push_number(&mut text, u32::from(target.0));
+    push_number(&mut text, target.0 as u32);
     push_bytes(&mut text, b" ");
-    push_number(&mut text, u32::from(current.0));
+    push_number(&mut text, current.0 as u32);
     push_bytes(&mut text, b"\n");
     text
 }

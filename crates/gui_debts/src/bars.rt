@@ -31,7 +31,7 @@ pub struct Bars {
 
 impl Bars {
     /// None.
-    pub fn none() -> Bars
+    pub(crate) fn none() -> Bars
         ensures { kept_in result ≡ no_bars }
     {
         Bars {

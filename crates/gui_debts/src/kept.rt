@@ -110,7 +110,7 @@ fn second_of(shown: ShownBars, area: Area, place: Option<Area>) -> Option<Area>
 }
 
 /// What is kept of bars.
-pub fn keep(bars: Bars) -> KeptBars
+pub(crate) fn keep(bars: Bars) -> KeptBars
     ensures { packed_in result ≡ narrow (kept_in bars) }
 {
     let Bars {
@@ -148,7 +148,7 @@ pub fn keep(bars: Bars) -> KeptBars
 
 impl KeptBars {
     /// The bars, where they are kept beside this place.
-    pub fn beside(&self, place: Option<Area>) -> Bars
+    pub(crate) fn beside(&self, place: Option<Area>) -> Bars
         ensures { kept_in result ≡ wide (packed_in self.now) (option_map rect_of place) }
     {
         Bars {

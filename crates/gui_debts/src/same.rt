@@ -8,7 +8,7 @@ use gui_base::Area;
 use gui_widgets::Item;
 
 /// Whether two areas have the same corners.
-pub fn same_corners(a: Area, b: Area) -> bool
+pub(crate) fn same_corners(a: Area, b: Area) -> bool
     ensures { result ≡ same_corners (rect_of a) (rect_of b) }
 {
     (a.x1 == b.x1 && a.y1 == b.y1) && (a.x2 == b.x2 && a.y2 == b.y2)
@@ -41,7 +41,7 @@ fn same_item(a: &Item, b: &Item) -> bool
 }
 
 /// Whether two lists are as long, and their items the same one by one.
-pub fn same_items(a: &[Item], b: &[Item]) -> bool
+pub(crate) fn same_items(a: &[Item], b: &[Item]) -> bool
     ensures { result ≡ same_by same_item (items_of a.now) (items_of b.now) }
 {
     if a.len() != b.len() {

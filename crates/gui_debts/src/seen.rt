@@ -92,7 +92,7 @@ impl Seen {
 }
 
 /// All that is painted by what is known of an object, from back to front.
-pub fn items_known(paints: Option<&Paints>) -> ArrayVec<Item, 6>
+pub(crate) fn items_known(paints: Option<&Paints>) -> ArrayVec<Item, 6>
     ensures { items_shown result.items ≡ items_known (option_copied paints.entry) }
 {
     match paints {

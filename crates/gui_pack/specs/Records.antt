@@ -1,4 +1,5 @@
 -- What a contract sees of a record.
+use Rattle.std.specs.Prelude.{Bool, true, false}
 use Rattle.gui_base.specs.Corners.{rect_of}
 use Rattle.gui_pack.specs.declared.record.More.{More}
 use Rattle.gui_pack.specs.declared.record.More.TheVariants as more
@@ -18,3 +19,8 @@ more_in (more.PartText area part text_area text) = PartText (rect_of area) part 
 abbrev pub paints_in : Paints → Kept
 paints_in paints =
     record { place = rect_of paints.place; main = paints.main; more = more_in paints.more }
+
+-- whether an object paints its own part alone
+abbrev pub is_alone : More → Bool
+is_alone more.Nothing = true
+is_alone rest = false

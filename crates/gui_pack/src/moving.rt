@@ -1,8 +1,8 @@
 //! The record of an object in another place.
-ghost use Rattle.std.specs.Prelude.{◌≡◌, IfSome};
+ghost use Rattle.std.specs.Prelude.{◌≡◌, IfSome, is_some};
 ghost use Rattle.gui_base.specs.Area.{Rect};
 ghost use Rattle.gui_base.specs.Corners.{rect_of};
-ghost use Rattle.gui_pack.specs.Records.{paints_in};
+ghost use Rattle.gui_pack.specs.Records.{is_alone, paints_in};
 ghost use Rattle.pack_defs.specs.Paints.{items_in};
 ghost use Rattle.widget_defs.specs.Items.{items};
 ghost use Rattle.widget_defs.specs.Looks.{Look};
@@ -14,7 +14,8 @@ impl Paints {
     /// The record of the same object in another place, where it paints its own part alone: none where more stands
     /// in its content area, which goes by its pads.
     pub fn moved(&self, place: Area) -> Option<Paints>
-        ensures { IfSome result (λ moved. (look : Look) (area : Rect) →
+        ensures alone { is_some result ≡ is_alone self.now.more }
+        ensures items { IfSome result (λ moved. (look : Look) (area : Rect) →
             items_in (paints_in self.now) ≡ items look area → items_in (paints_in moved) ≡ items look (rect_of place)) }
     {
         match self.more {

@@ -7,41 +7,24 @@ use Rattle.clap.specs.Lexer.{strip_byte, long_of, long_of_rest, short_of, short_
 use Rattle.std.specs.declared.option.Option.{Option}
 use Rattle.std.specs.List.{list_any, list_all}
 use Rattle.clap.specs.Walk.{Held, Row, Rule, Text, Walk, Waiting, Step, idle, positional, option, value, trailing, subcommand_met, subcommand_or_other, long_or_other, short_or_plain, plain_word, walked, walk_from, word_met, after_step, to_positional, arg_by_index, finished, nothing_held, reading_by, rows_of, first_of, all_of}
-use Rattle.clap.specs.Simple.{App, Shape, new_rule, new_shape, built, matches_of, is_simple, entered}
+use Rattle.clap.specs.Simple.{Shape, built, matches_of, is_simple, entered}
 use Rattle.clap.specs.Takes.{takes, walk_passes, turn_passes, word_passes, step_passes, settle_passes, entered_passes, other_passes, flag_word_passes, bundle_passes, default_passes, is_valid}
 use Rattle.clap.specs.Matches.{first_value}
 use Rattle.clap.specs.declared.parser.matches.Found.{Found}
-use Rattle.clap.specs.declared.builder.action.ArgAction.TheVariants.{Append}
 use Rattle.clap.specs.declared.parser.matches.ValueSource.TheVariants.{CommandLine}
 use Rattle.clap.proofs.WalkLemmas.{first_value-rows, raw_values-rows}
-use Rattle.scene_script.specs.CommandLine.{begins_with_dash, Splits}
+use Rattle.scene_script.specs.CommandLine.{begins_with_dash, further_rule, needed, scene_app, Splits}
 
 -- ---- the command
 
-abbrev needed : Text → Rule
-needed id = record (new_rule id) { required = true }
-
-abbrev pub width_rule : Rule
+abbrev width_rule : Rule
 width_rule = needed (codes "width")
 
-abbrev pub height_rule : Rule
+abbrev height_rule : Rule
 height_rule = needed (codes "height")
 
-abbrev pub lines_rule : Rule
+abbrev lines_rule : Rule
 lines_rule = needed (codes "lines")
-
-abbrev pub further_rule : Rule
-further_rule = record (new_rule (codes "further")) { action = Some Append }
-
-abbrev pub scene_app : App
-scene_app = record {
-  top = record (new_shape (codes "scene")) {
-    rules = width_rule ∷ height_rule ∷ lines_rule ∷ further_rule ∷ [];
-    no_binary_name = true;
-    disable_help_flag = true;
-  };
-  subs = [];
-}
 
 abbrev shape : Shape
 shape = (built scene_app).top

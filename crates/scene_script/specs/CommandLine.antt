@@ -1,8 +1,11 @@
 -- The words of the command line as they are split: three values, and a list of what follows them.
-use Rattle.std.specs.Prelude.{◌≡◌, ℕ, Bool, false, ◌==◌, List, [], ◌∷◌, drop, codes, slice_get, unwrap_or}
+use Rattle.std.specs.Prelude.{◌≡◌, ℕ, Bool, true, false, ◌==◌, List, [], ◌∷◌, drop, codes, slice_get, unwrap_or}
 use Rattle.std.specs.Prelude.{Some, None, option_map}
 use Rattle.std.specs.declared.option.Option.{Option}
 use Rattle.clap.specs.Matches.{first_value, matched_of, raw_values}
+use Rattle.clap.specs.Simple.{App, new_rule, new_shape}
+use Rattle.clap.specs.Walk.{Rule}
+use Rattle.clap.specs.declared.builder.action.ArgAction.TheVariants.{Append}
 use Rattle.clap.specs.declared.parser.matches.Found.{Found}
 use Rattle.gui_base.specs.Limits.{Bounds}
 use Rattle.run_defs.specs.Words.{number_within, setting_of, make_of, block_of, with_width, with_further}
@@ -13,6 +16,23 @@ use Rattle.scene_script.specs.declared.limits.Key.TheVariants.{Slots, Make, Bloc
 abbrev pub begins_with_dash : List ℕ → Bool
 begins_with_dash [] = false
 begins_with_dash (b ∷ bs) = b == 45
+
+-- the command of the program: three values, and a list of what follows them
+abbrev pub needed : List ℕ → Rule
+needed name = record (new_rule name) { required = true }
+
+abbrev pub further_rule : Rule
+further_rule = record (new_rule (codes "further")) { action = Some Append }
+
+abbrev pub scene_app : App
+scene_app = record {
+  top = record (new_shape (codes "scene")) {
+    rules = needed (codes "width") ∷ needed (codes "height") ∷ needed (codes "lines") ∷ further_rule ∷ [];
+    no_binary_name = true;
+    disable_help_flag = true;
+  };
+  subs = [];
+}
 
 -- the first three words by their names, and the words after them
 pub record Splits (words : List (List ℕ)) (found : Found) : Type 0 where

@@ -3,20 +3,44 @@ ghost use Rattle.std.specs.Prelude.{◌≡◌, ◌≤◌, ◌∷◌, [], Some, I
 ghost use Rattle.std.specs.Prelude.{false, filter_map, fold, map, length, unwrap_or};
 ghost use Rattle.std.specs.Option.{option_map};
 ghost use Rattle.std.specs.List.{list_all, list_any};
-ghost use Rattle.clap.specs.Words.{found_of, kind_of};
+ghost use Rattle.clap.specs.Words.{app_of, found_of, kind_of, with_rule};
 ghost use Rattle.clap.specs.declared.error.kind.ErrorKind.TheVariants.{OutOfMemory};
 ghost use Rattle.gui_base.specs.Bounded.{bounds_of};
 ghost use Rattle.gui_base.specs.Gridded.{size_in};
 ghost use Rattle.run_defs.specs.Words.{number_within, setting_of, sets_a_limit, with_pool, with_make};
 ghost use Rattle.run_defs.specs.Words.{size_said, are_whole, with_blocks, with_further, with_width, limits_of};
-ghost use Rattle.scene_script.specs.CommandLine.{begins_with_dash, limits_by, setting_by, Splits};
+ghost use Rattle.scene_script.specs.CommandLine.{begins_with_dash, limits_by, needed, scene_app, setting_by, Splits};
 
 use crate::numbers::natural;
 use crate::words::cut;
 use clap::error::ErrorKind;
 use clap::{Arg, ArgAction, ArgMatches, Command, Error};
 use gui_base::{Block, Limits, NoMemory, POOLS, Pool};
-use std::alloc::Global;
+use std::alloc::{AllocError, Global};
+
+/// The command with one more word, which has to be there.
+fn with_needed<'a>(
+    alloc: Global,
+    command: Command<'a>,
+    name: &'a str,
+) -> Result<Command<'a>, AllocError>
+    ensures { IfOk result (λ c. app_of c ≡ with_rule (app_of command.entry) (needed name.entry.now)) }
+{
+    command.arg(Arg::new(alloc, name).required(true))
+}
+
+/// The command of the program: three values, and a list of what follows them.
+fn scene_command<'a>(alloc: Global) -> Result<Command<'a>, AllocError>
+    ensures { IfOk result (λ c. app_of c ≡ scene_app) }
+{
+    let bare = Command::new(alloc, "scene")
+        .no_binary_name(true)
+        .disable_help_flag(true);
+    let one = with_needed(alloc, bare, "width")?;
+    let two = with_needed(alloc, one, "height")?;
+    let three = with_needed(alloc, two, "lines")?;
+    three.arg(Arg::new(alloc, "further").action(ArgAction::Append))
+}
 
 /// The words of the command line, none of which begins with a dash, as `clap` splits them: three values, and
 /// a list of what follows them.
@@ -25,17 +49,7 @@ fn split<'a>(alloc: Global, words: &'a [&str]) -> Result<ArgMatches<'a>, Error>
     ensures split { IfOk result (λ m. Splits (map (λ w. w.now) words.entry.now) (found_of m)) }
     ensures memory { IfErr result (λ e. 3 ≤ length words.entry.now → kind_of e ≡ OutOfMemory) }
 {
-    let width = Arg::new(alloc, "width").required(true);
-    let height = Arg::new(alloc, "height").required(true);
-    let lines = Arg::new(alloc, "lines").required(true);
-    let further = Arg::new(alloc, "further").action(ArgAction::Append);
-    let command = Command::new(alloc, "scene")
-        .no_binary_name(true)
-        .disable_help_flag(true)
-        .arg(width)?
-        .arg(height)?
-        .arg(lines)?
-        .arg(further)?;
+    let command = scene_command(alloc)?;
     command.try_get_matches_from(words)
 }
 

@@ -12,7 +12,7 @@ use run_defs::LineFault;
 use scene_defs::RowBytes;
 
 /// Beyond the ends of every interval: a number that is farther from 0 is read as this one.
-const BEYOND: i64 = 4_294_967_296;
+const BEYOND: u64 = 4_294_967_296;
 
 /// A number from `low` to `high`: syntax where the word is no number, and range where it is outside.
 #[tactic(auto, unfolding(run_defs::specs::Numbers::number))]
@@ -124,14 +124,14 @@ fn capped_value(digits: &[u8]) -> Option<i64>
     ensures { result ≡ (if list_all is_digit digits.now
         then Some (pos (min (value_of digits.now) beyond)) else None) }
 {
-    let mut value = 0;
+    let mut value: u64 = 0;
     for digit in digits {
         if !digit.is_ascii_digit() {
             return None;
         }
-        value = (value * 10 + i64::from(*digit - b'0')).min(BEYOND);
+        value = (value * 10 + u64::from(*digit - b'0')).min(BEYOND);
     }
-    Some(value)
+    Some(value as i64)
 }
 
 /// A colour, 65536 * red + 256 * green + blue: `#` and two hexadecimal digits of either case for each of the

@@ -13,4 +13,4 @@ returns-then-same_corners c = λ scene h keeps.
     keeps ∙ ap (items_of scene (object_at scene h)) same
 
 pub returns-else-same_corners : goal.returns-else-same_corners
-returns-else-same_corners c = IfSome_then c.moved.result c.moved.ensures (λ moved moves scene h keeps. moved-known scene h c.args.paints.now moved (rect_of c.args.place) moves keeps)
+returns-else-same_corners c = IfSome_then c.moved.result c.moved.ensures.items (λ moved moves scene h keeps. moved-known scene h c.args.paints.now moved (rect_of c.args.place) moves keeps)

@@ -38,3 +38,24 @@ returns-in-Anim g c = rw c.in-Anim.is (c.start_anim.ensures (g.S.Sink.state c.ar
 
 pub returns-in-Stop : goal.returns-in-Stop
 returns-in-Stop g c = rw c.in-Stop.is (c.stop_anim.ensures (g.S.Sink.state c.args.log.now))
+
+pub join_new-requires : goal.join_new-requires
+join_new-requires g c = record { answer = rw c.in-Join.is at c.requires.answer; members = c.requires.members }
+
+pub returns-in-Send : goal.returns-in-Send
+returns-in-Send g c = rw c.in-Send.is c.send.ensures
+
+pub returns-in-Join : goal.returns-in-Join
+returns-in-Join g c = rw c.in-Join.is c.join_new.ensures
+
+pub returns-in-Focus : goal.returns-in-Focus
+returns-in-Focus g c = rw c.in-Focus.is c.focus.ensures
+
+pub returns-in-Key : goal.returns-in-Key
+returns-in-Key g c = rw c.in-Key.is c.feed_keypad.ensures
+
+pub returns-in-Push : goal.returns-in-Push
+returns-in-Push g c = rw c.in-Push.is c.feed_encoder-in-Push.ensures
+
+pub returns-in-Tick : goal.returns-in-Tick
+returns-in-Tick g c = rw c.in-Tick.is c.tick.ensures

@@ -1,9 +1,22 @@
-use Rattle.std.proofs.Common.{inl, inr, subst, ℕ, Option}
+use Rattle.std.proofs.Common.{◌∙◌, ap, inl, inr, subst, ℕ, Option}
 use Rattle.gui_base.specs.declared.Handle.{Handle}
-use Rattle.run_defs.specs.Devices.{encoder_tells, long_push}
+use Rattle.run_defs.specs.Devices.{encoder_tells, focused_at, long_push, press_encoder, release_push}
+use Rattle.run_defs.specs.Play.{aimed}
 use Rattle.gui_board.specs.Boards.{machine_of, stage, Plays}
 use Rattle.gui_board.proofs.Plays.{idle}
 use Rattle.gui_play.proofs.devices.encoder_tells.Goals as goal
+
+pub returns-in-Press : goal.returns-in-Press
+unfolding encoder_tells
+returns-in-Press g c =
+    let P : Option Handle → Type 0 = λ target. Plays c.args.board.now c.press_encoder.new.board (g.S.Sink.state c.args.log.now) (g.S.Sink.state c.press_encoder.new.log) (press_encoder target) in
+    rw c.in-Press.is (subst P (c.focused-focused.ensures ∙ ap (λ (id : ℕ). focused_at (machine_of c.args.board.now) id) c.encoder_group-id.ensures) c.press_encoder.ensures)
+
+pub returns-in-Release : goal.returns-in-Release
+unfolding encoder_tells
+returns-in-Release g c =
+    let P : Option Handle → Type 0 = λ target. Plays c.args.board.now c.release_push_aimed.new.board (g.S.Sink.state c.args.log.now) (g.S.Sink.state c.release_push_aimed.new.log) (aimed target (release_push c.in-Release.long)) in
+    rw c.in-Release.is (subst P c.encoder_target-target.ensures c.release_push_aimed.ensures)
 
 pub returns-in-Long : goal.returns-in-Long
 unfolding encoder_tells

@@ -1,4 +1,4 @@
-use Rattle.std.proofs.Common.{◌≡◌, true, pos, min, take}
+use Rattle.std.proofs.Common.{◌≡◌, true, min, take}
 use Rattle.std.specs.List.{list_all}
 use Rattle.run_defs.specs.Numbers.{is_digit, value_of}
 use Rattle.scene_script.specs.Numbers.{beyond}
@@ -6,5 +6,5 @@ use Rattle.scene_script.proofs.numbers.capped_value.Given as goal
 
 abbrev pub invariant-loop-digit : goal.invariant-loop-digit
 invariant-loop-digit l =
-    (l.value ≡ pos (min (value_of (take l.digit-index l.digits)) beyond))
+    (l.value ≡ min (value_of (take l.digit-index l.digits)) beyond)
     × (list_all is_digit (take l.digit-index l.digits) ≡ true)

@@ -3,7 +3,8 @@ use Rattle.gui_event.specs.Groups.{FocusGroups}
 use Rattle.gui_board.specs.Boards.{machine_of, stage}
 use Rattle.play_defs.specs.Focus.{with_group}
 use Rattle.run_defs.specs.Machine.{Machine}
-use Rattle.gui_board.proofs.Answering.{group_left, played_with}
+use Rattle.gui_board.proofs.Answering.{group_left}
+use Rattle.gui_board.proofs.Boards.{played_with}
 use Rattle.gui_board.proofs.Writes.{writes_nothing}
 use Rattle.gui_board.proofs.board.Board.add_group.Goals as goal
 

@@ -2,7 +2,8 @@ use Rattle.std.proofs.Common.{ap, refl}
 use Rattle.gui_event.specs.Handlers.{Handlers}
 use Rattle.gui_board.specs.Boards.{machine_of, stage}
 use Rattle.run_defs.specs.Step.{handler_added}
-use Rattle.gui_board.proofs.Answering.{handler_left, played_with}
+use Rattle.gui_board.proofs.Answering.{handler_left}
+use Rattle.gui_board.proofs.Boards.{played_with}
 use Rattle.gui_board.proofs.Writes.{writes_nothing}
 use Rattle.gui_board.proofs.board.Board.add_handler.Goals as goal
 

@@ -2,7 +2,7 @@ use Rattle.std.proofs.Common.{ap, refl}
 use Rattle.gui_event.specs.Handlers.{Handlers}
 use Rattle.gui_board.specs.Boards.{machine_of, stage}
 use Rattle.run_defs.specs.Step.{handlers_dropped}
-use Rattle.gui_board.proofs.Answering.{played_with}
+use Rattle.gui_board.proofs.Boards.{played_with}
 use Rattle.gui_board.proofs.Writes.{writes_nothing}
 use Rattle.gui_board.proofs.board.Board.drop_handlers.Goals as goal
 

@@ -3,7 +3,8 @@ use Rattle.gui_anim.specs.Anims.{Anims, stop_answer}
 use Rattle.run_defs.specs.Step.{anim_stopped}
 use Rattle.gui_board.specs.Boards.{machine_of, stage}
 use Rattle.gui_board.proofs.Refused.{may_be_stopped}
-use Rattle.gui_board.proofs.Answering.{ok_leaves, played_with}
+use Rattle.gui_board.proofs.Answering.{ok_leaves}
+use Rattle.gui_board.proofs.Boards.{played_with}
 use Rattle.gui_board.proofs.Writes.{writes_nothing}
 use Rattle.gui_board.proofs.board.Board.stop_anim.Goals as goal
 

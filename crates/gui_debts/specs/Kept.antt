@@ -1,5 +1,5 @@
 -- Bars, as they are kept beside the place of their object.
-use Rattle.std.specs.Prelude.{ℕ, ◌-ℤ◌, pos, Some, None, option_map}
+use Rattle.std.specs.Prelude.{ℕ, Bool, true, false, ◌-ℤ◌, pos, Some, None, option_map}
 use Rattle.std.specs.declared.option.Option.{Option}
 use Rattle.std.specs.Int.{int_max}
 use Rattle.gui_base.specs.Area.{Rect}
@@ -22,6 +22,12 @@ right_of place lines =
 abbrev pub bottom_of : Rect → Rect → Rect
 bottom_of place columns =
     record { x1 = columns.x1; y1 = int_max place.y1 (place.y2 -ℤ pos 3); x2 = columns.x2; y2 = place.y2 }
+
+-- whether there are none
+abbrev pub shows_none : ShownBars → Bool
+shows_none Nothing = true
+shows_none One = false
+shows_none Two = false
 
 -- what is kept: of one bar its area, and of two the lines of the first and the columns of the second
 pub record Packed : Type 0 where

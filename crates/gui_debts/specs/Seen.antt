@@ -1,9 +1,9 @@
 -- What the code knows of an object that is seen.
-use Rattle.std.specs.Prelude.{◌≡◌, ◌<◌, ℕ, true, Some, None, List, [], ◌∷◌, length, get_or, option_map}
+use Rattle.std.specs.Prelude.{◌≡◌, ◌<◌, ℕ, Bool, true, false, Some, None, List, [], ◌∷◌, length, get_or, option_map}
 use Rattle.std.specs.declared.option.Option.{Option}
 use Rattle.gui_base.specs.Area.{Rect}
 use Rattle.gui_base.specs.Corners.{rect_of}
-use Rattle.gui_pack.specs.Records.{paints_in}
+use Rattle.gui_pack.specs.Records.{is_alone, paints_in}
 use Rattle.gui_pack.specs.declared.record.Paints.{Paints}
 use Rattle.pack_defs.specs.Paints.{items_in}
 use Rattle.widget_defs.specs.Items.{Item}
@@ -20,6 +20,11 @@ use Rattle.gui_debts.specs.declared.seen.ShownEntry.{ShownEntry}
 abbrev pub items_known : Option Paints → List Item
 items_known None = []
 items_known (Some paints) = items_in (paints_in paints)
+
+-- whether it is known to paint its own part alone
+abbrev pub paints_alone : Option Paints → Bool
+paints_alone None = false
+paints_alone (Some paints) = is_alone paints.more
 
 -- where an object stands that paints these: the first covers its place
 abbrev pub place_in : List Item → Option Rect

@@ -1,5 +1,5 @@
 //! What is seen of one object.
-ghost use Rattle.std.specs.Prelude.{◌≡◌, ℕ, [], true, None, Some, IfSome, option_map, option_copied};
+ghost use Rattle.std.specs.Prelude.{◌≡◌, ℕ, [], true, ◌&&◌, None, Some, IfSome, is_some, option_map, option_copied};
 ghost use Rattle.gui_base.specs.Corners.{rect_of};
 ghost use Rattle.layout_defs.specs.Reach.{IsNear};
 ghost use Rattle.gui_widgets.specs.Looks.{items_of as items_shown};
@@ -10,12 +10,13 @@ ghost use Rattle.gui_layout.specs.Solved.{AreReached, AreSolved};
 ghost use Rattle.gui_store.specs.Views.{scene_of};
 ghost use Rattle.gui_debts.specs.Owed.{sight_of};
 ghost use Rattle.gui_debts.specs.Bars.{bars_in, kept_in};
-ghost use Rattle.gui_debts.specs.Kept.{packed_in, wide};
-ghost use Rattle.gui_debts.specs.Seen.{IsSeen, KeepsItems, bars_by, bars_seen, items_by, items_known, place_in, visible_of};
+ghost use Rattle.gui_debts.specs.Kept.{packed_in, shows_none, wide};
+ghost use Rattle.gui_debts.specs.Seen.{IsSeen, KeepsItems, bars_by, bars_seen, items_by, items_known, paints_alone, place_in};
+ghost use Rattle.gui_debts.specs.Seen.{visible_of};
 ghost use Rattle.gui_debts.specs.Sightings.{IsSighted};
 
 use crate::bars::{Bars, bars_at};
-use crate::kept::{KeptBars, keep};
+use crate::kept::{KeptBars, ShownBars, keep};
 use crate::same::same_corners;
 use crate::sighting::Sighting;
 use arrayvec::ArrayVec;
@@ -114,6 +115,24 @@ impl ShownEntry<'_> {
         ensures { items_shown result.items ≡ items_by self.now }
     {
         items_known(self.seen.paints.as_ref())
+    }
+
+    /// The same of an object that paints its own part alone, as most do.
+    pub fn alone(&self) -> Option<[Item; 2]>
+        ensures alone { is_some result ≡ paints_alone self.now.seen.now.paints }
+        ensures items { IfSome result (λ items. items_shown items ≡ items_by self.now) }
+    {
+        match &self.seen.paints {
+            Some(paints) => paints.alone(),
+            None => None,
+        }
+    }
+
+    /// Whether its bars are to be painted and there are none, as of most objects.
+    pub fn is_no_bars(&self) -> bool
+        ensures { result ≡ (self.now.is_bars && shows_none self.now.seen.now.bars.shown) }
+    {
+        self.is_bars && matches!(self.seen.bars.shown, ShownBars::Nothing)
     }
 
     /// The bars that it shows over its children, from back to front.

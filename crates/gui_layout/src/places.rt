@@ -191,6 +191,7 @@ impl Places {
     ghost use Rattle.gui_layout.specs.SettledBut.{SettlesChanged, SettlesMarks, in_marked, nobody};
     ghost use Rattle.gui_layout.specs.Settles.{Settles, SolvesTree};
     ghost use Rattle.gui_layout.specs.Around.{IsFlat, IsFlatWithout, ReadsReaches};
+    ghost use Rattle.gui_layout.specs.Raised.{rests_at};
     ghost use Rattle.gui_layout.specs.Scrolls.{scrolled_at};
     ghost use Rattle.gui_layout.specs.Tops.{MovesAt, ScrollsAt, ScrollsStay, SolvesAt, in_trees_at, is_over};
 
@@ -297,6 +298,7 @@ impl Places {
     /// nothing else is another: it is there, its sizes are not those of its content, its children stand by
     /// themselves, and it does not move them.
     pub fn rests(&self, store: &Store, h: Handle) -> bool
+        ensures when { result ≡ rests_at self.now (scene_of store.now) h.0 }
         ensures settled { (before : Scene) → result ≡ true → AreSettled self.now before →
             IsReordered before (scene_of store.now) h.0 → AreSettled self.now (scene_of store.now) }
     {

@@ -3,7 +3,7 @@ ghost use Rattle.std.specs.Prelude.{◌≡◌, ◌<◌, ℕ, true, false, eqb};
 ghost use Rattle.gui_pool.specs.Table.{value_at};
 ghost use Rattle.gui_layout.specs.Listing.{times};
 ghost use Rattle.gui_layout.specs.Pending.{is_any, is_partly, is_pending};
-ghost use Rattle.gui_layout.specs.Raised.{Rests};
+ghost use Rattle.gui_layout.specs.Raised.{Rests, rests};
 ghost use Rattle.gui_layout.specs.Tables.{listing_of};
 
 use crate::entry::Entry;
@@ -16,7 +16,7 @@ use gui_tree::Tree;
 
 /// Whether an object is there, and by the box that it has its place does not go by its children.
 pub(crate) fn rests(tree: &Tree, entries: &Table<Entry>, h: Handle) -> bool
-    ensures { result ≡ true → Rests tree.now.forest entries.now h.0 }
+    ensures { result ≡ rests tree.now.forest entries.now h.0 }
 {
     if !tree.has(h) {
         return false;

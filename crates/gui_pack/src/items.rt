@@ -1,10 +1,10 @@
 //! The items of a record.
-ghost use Rattle.std.specs.Prelude.{◌≡◌, ◌≤◌, ◌+◌, ◌++◌, [], ◌∷◌};
+ghost use Rattle.std.specs.Prelude.{◌≡◌, ◌≤◌, ◌+◌, ◌++◌, [], ◌∷◌, IfSome, is_some};
 ghost use Rattle.arrayvec.specs.ArrayVec.{array_vec_len};
 ghost use Rattle.gui_base.specs.Corners.{rect_of};
-ghost use Rattle.gui_pack.specs.Records.{more_in, paints_in};
+ghost use Rattle.gui_pack.specs.Records.{is_alone, more_in, paints_in};
 ghost use Rattle.gui_widgets.specs.Looks.{item_of, items_of};
-ghost use Rattle.pack_defs.specs.Paints.{image_item, items_in, more_items, part_items, text_item};
+ghost use Rattle.pack_defs.specs.Paints.{fill_item, image_item, items_in, more_items, part_items, ring_item, text_item};
 
 use crate::record::{More, Paints};
 use arrayvec::ArrayVec;
@@ -21,6 +21,17 @@ impl Paints {
         push_part(&mut items, self.place, &self.main);
         push_more(&mut items, &self.more);
         items
+    }
+
+    /// The same of an object that paints its own part alone, as most do: the fill and the ring of its border.
+    pub fn alone(&self) -> Option<[Item; 2]>
+        ensures alone { is_some result ≡ is_alone self.now.more }
+        ensures items { IfSome result (λ items. items_of items ≡ items_in (paints_in self.now)) }
+    {
+        match self.more {
+            More::Nothing => Some([fill(self.place, &self.main), ring(self.place, &self.main)]),
+            _ => None,
+        }
     }
 }
 
@@ -62,21 +73,33 @@ fn push_part(items: &mut ArrayVec<Item, 6>, area: Area, part: &PartPaint)
         ≡ items_of items.old.items ++ part_items (rect_of area) part.now }
     ensures len { array_vec_len items.new ≡ array_vec_len items.old + 2 }
 {
-    items.push(Item {
+    items.push(fill(area, part));
+    items.push(ring(area, part));
+}
+
+fn fill(area: Area, part: &PartPaint) -> Item
+    ensures { item_of result ≡ fill_item (rect_of area) part.now }
+{
+    Item {
         area,
         paint: ItemPaint::Fill {
             color: part.fill,
             opa: part.fill_opa,
         },
-    });
-    items.push(Item {
+    }
+}
+
+fn ring(area: Area, part: &PartPaint) -> Item
+    ensures { item_of result ≡ ring_item (rect_of area) part.now }
+{
+    Item {
         area,
         paint: ItemPaint::Ring {
             width: part.width,
             color: part.ring,
             opa: part.ring_opa,
         },
-    });
+    }
 }
 
 fn ink(area: Area, text: &TextPaint) -> Item

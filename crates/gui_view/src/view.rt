@@ -142,6 +142,9 @@ fn paint_entry<L: Ledger>(
     ensures steps { steps.new ≤ steps.old
         + entry_steps (scene_of shown.now.store.now) (size_of buf.old.area) (entry_of entry.now) }
 {
+    if entry.is_no_bars() {
+        return;
+    }
     let Some(visible) = entry.visible() else {
         return;
     };
@@ -151,6 +154,8 @@ fn paint_entry<L: Ledger>(
     if entry.is_bars {
         let bars = entry.bars().items();
         shown.paint_known_bars(buf, visible, entry.h, bars.as_slice(), steps);
+    } else if let Some(items) = entry.alone() {
+        shown.paint_known(buf, visible, entry.h, &items, text, steps);
     } else {
         let items = entry.items();
         shown.paint_known(buf, visible, entry.h, items.as_slice(), text, steps);

@@ -44,6 +44,15 @@ more n ds h k =
 decimal_reads : (n : ℕ) → n < 2 ^ 64 → IsNumberOf n (decimal n)
 decimal_reads n h = decimal_by_steps IsNumberOf one more n h
 
+-- a number is written in digits
+all_digits : (ds : List ℕ) → is_number ds ≡ true → list_all is_digit ds ≡ true
+all_digits [] h = cc
+all_digits (b ∷ []) h = grind (arith, nat_tests, h)
+all_digits (b ∷ c ∷ cs) h = grind (arith, nat_tests, h)
+
+pub decimal_digits : (n : ℕ) → n < 2 ^ 64 → list_all is_digit (decimal n) ≡ true
+decimal_digits n h = all_digits (decimal n) (decimal_reads n h).digits
+
 some_digit : (ds : List ℕ) → is_number ds ≡ true → number_of ds ≡ Some (pos (value_of ds))
 some_digit [] h = cc
 some_digit (b ∷ bs) h = rw h refl

@@ -2,6 +2,7 @@
 ghost use Rattle.line_texts.specs.Commands.{FontLinesSay, SceneLinesSay};
 ghost use Rattle.line_texts.specs.Laws.{CountSays, DigitsSay, NumberSays, PrintsShort, PrintsWords};
 ghost use Rattle.line_texts.specs.Laws.{TextSays, WordsSay};
+ghost use Rattle.line_texts.specs.MadeLines.{MadeCommandsSay};
 
 /// The text of a line says what its words say, where its name begins no comment, its words are words of a line,
 /// and it is not too long.
@@ -41,4 +42,10 @@ pub fn printed_words_are_words()
 pub fn lines_say_their_commands()
     ensures font { FontLinesSay }
     ensures scene { SceneLinesSay }
+{}
+
+/// The lines of the made script say the changes that are drawn with them.
+#[tactic(auto, using(crate::proofs::MadeLines::made_commands_say))]
+pub fn made_lines_say_their_changes()
+    ensures { MadeCommandsSay }
 {}

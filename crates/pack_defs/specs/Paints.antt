@@ -21,11 +21,15 @@ pub record Paints : Type 0 where
   pub main : PartPaint
   pub more : More
 
+-- a part: its fill, and the ring of its border
+abbrev pub fill_item : Rect → PartPaint → Item
+fill_item area part = record { area = area; paint = Fill part.fill part.fill_opa }
+
+abbrev pub ring_item : Rect → PartPaint → Item
+ring_item area part = record { area = area; paint = Ring part.width part.ring part.ring_opa }
+
 abbrev pub part_items : Rect → PartPaint → List Item
-part_items area part =
-    record { area = area; paint = Fill part.fill part.fill_opa }
-    ∷ record { area = area; paint = Ring part.width part.ring part.ring_opa }
-    ∷ []
+part_items area part = fill_item area part ∷ ring_item area part ∷ []
 
 abbrev pub text_item : Rect → TextPaint → Item
 text_item area text = record { area = area; paint = Ink text.look text.color text.opa }

@@ -1,7 +1,8 @@
 -- How a run of the made script begins, and how it ends.
-use Rattle.std.proofs.Common.{◌≡◌, ap, refl, ℕ, zero, suc, Bool, true, false, List, [], ◌∷◌, length, replicate, arith, rules, inl, inr, if◌then◌else◌}
+use Rattle.std.proofs.Common.{◌≡◌, ◌∙◌, ap, refl, map, ℕ, zero, suc, Bool, true, false, List, [], ◌∷◌, length, replicate, arith, rules, inl, inr, if◌then◌else◌}
 use Rattle.std.specs.Prelude.{Ok, Err}
-use Rattle.std.specs.List.{flat_map, list_all}
+use Rattle.std.proofs.lemmas.List.{length-map}
+use Rattle.std.specs.List.{All, flat_map, list_all}
 use Rattle.gui_core.specs.Machines.{machine_of, pending_in, refresher_in, stage_of}
 use Rattle.gui_core.specs.declared.gui.Gui.{Gui}
 use Rattle.gui_edge.specs.Causes.{Rose}
@@ -14,10 +15,12 @@ use Rattle.run_defs.specs.Made.{made_script, made_says, made_lines, texts_drawn,
 use Rattle.run_defs.specs.declared.Line.TheVariants.{Blank, Frame, Pump, Make}
 use Rattle.run_defs.specs.Run.{Moment, first_moment, after, after_all, entries, FrameKind, kinds_asked}
 use Rattle.run_defs.proofs.MadeFrames.{made_frames}
+use Rattle.run_defs.proofs.Ranges.{says_in_range}
 use Rattle.run_defs.proofs.Runs.{fits_rest}
-use Rattle.run_defs.specs.Script.{Said}
+use Rattle.run_defs.specs.Laws.{IsInRange}
+use Rattle.run_defs.specs.Script.{Said, parse}
 use Rattle.scene_defs.specs.Place.{panel_of}
-use Rattle.scene_run.specs.Counting.{all_say, is_no_pump, making, HasMade}
+use Rattle.scene_run.specs.Counting.{is_no_pump, making, HasMade}
 use Rattle.scene_run.specs.Effects.{Output, output, SinceOpening, WriteFailed, Halted}
 use Rattle.scene_run.specs.Headline.{MadeEnded}
 use Rattle.scene_run.specs.Making.{AnswersMade, MadeHalted, panel_alone}
@@ -50,9 +53,18 @@ drawn_length : (width height : ℕ) (lines : List MadeLine) (x : ℕ) → length
 drawn_length width height [] x = refl
 drawn_length width height (line ∷ lines) x = ap (λ (n : ℕ). suc n) (drawn_length width height lines (line_drawn width height line x).x)
 
-pub made_count : (k : ℕ) (limits : Bounds) → length (made_script k limits) ≡ 1261
+pub made_count : (k : ℕ) (limits : Bounds) → length (made_says k limits) ≡ 1261
 unfolding made_lines
-made_count k limits = drawn_length limits.width limits.height made_lines k
+made_count k limits = length-map (made_script k limits) (λ line. parse line) ∙ drawn_length limits.width limits.height made_lines k
+
+-- no number of it lies outside its interval
+all_in_range : (lines : List (List ℕ)) → All IsInRange (map (λ line. parse line) lines)
+all_in_range [] k d below = absurd (omega (arith, below))
+all_in_range (line ∷ lines) zero d below = says_in_range line
+all_in_range (line ∷ lines) (suc k) d below = all_in_range lines k d (omega (arith, below))
+
+pub made_in_range : (k : ℕ) (limits : Bounds) → All IsInRange (made_says k limits)
+made_in_range k limits = all_in_range (made_script k limits)
 
 -- a run that has made nothing yet
 abbrev pub fresh : Gui → Making
@@ -67,7 +79,7 @@ made_new gui before panel whole still can since = record {
 }
 
 pub made_ready : (gui : Gui) (panel : PanelState) (k : ℕ) (limits : Bounds) → CanSend (stage_of gui panel) (machine_of gui).scene → AgreesWith (stage_of gui panel) (machine_of gui).scene →
-    IsReady (making (fresh gui) panel) (length (made_script k limits))
+    IsReady (making (fresh gui) panel) (length (made_says k limits))
 made_ready gui panel k limits can agrees = record { can = can; agrees = agrees; number = omega (arith, made_count k limits); frame = omega (arith, made_count k limits) }
 
 -- lines that ask for frames alone have no pump
@@ -82,5 +94,5 @@ frames_alone now (Ok (Make command) ∷ lines) n h = frames_alone (after now (Ok
 frames_alone now (Err fault ∷ lines) n h = frames_alone (after now (Err fault)) lines n h
 
 -- as the made script does
-pub made_no_pump : (first : Machine) (k : ℕ) (limits : Bounds) → list_all is_no_pump (all_say (made_script k limits)) ≡ true
+pub made_no_pump : (first : Machine) (k : ℕ) (limits : Bounds) → list_all is_no_pump (made_says k limits) ≡ true
 made_no_pump first k limits = frames_alone (first_moment first) (made_says k limits) 11 (made_frames k limits (first_moment first))

@@ -1,7 +1,7 @@
 -- A run of the made script under way.
-use Rattle.std.specs.Prelude.{◌≡◌, ℕ, Bool, true, false, ◌+◌, ◌^◌, ◌<◌, List, [], ◌∷◌, ◌++◌, length, map}
+use Rattle.std.specs.Prelude.{◌≡◌, ℕ, Bool, true, false, ◌+◌, ◌^◌, ◌<◌, List, [], ◌∷◌, ◌++◌, length}
 use Rattle.std.specs.Prelude.{Some, None, Ok, Err}
-use Rattle.std.specs.List.{list_all}
+use Rattle.std.specs.List.{All, list_all}
 use Rattle.std.specs.declared.option.Option.{Option}
 use Rattle.gui_edge.specs.Panel.{PanelState}
 use Rattle.gui_core.specs.Machines.{machine_of, pending_in, refresher_in}
@@ -9,9 +9,10 @@ use Rattle.run_defs.specs.declared.FrameEnd.TheVariants.{Done, Fault}
 use Rattle.run_defs.specs.declared.Line.TheVariants.{Blank, Frame, Pump, Make}
 use Rattle.run_defs.specs.declared.Outcome.{Outcome}
 use Rattle.run_defs.specs.declared.Outcome.TheVariants.{Frame as OfFrame, Pump as OfPump}
+use Rattle.run_defs.specs.Laws.{IsInRange}
 use Rattle.run_defs.specs.Machine.{Machine}
 use Rattle.run_defs.specs.Run.{Told, moment, first_moment, entries, told, done_scenes, fault_count}
-use Rattle.run_defs.specs.Script.{Said, parse}
+use Rattle.run_defs.specs.Script.{Said}
 use Rattle.scene_run.specs.Making.{panel_alone, refused_count}
 use Rattle.scene_run.specs.Running.{Running, IsReady, Answered}
 use Rattle.scene_run.specs.declared.made.Making.{Making}
@@ -72,18 +73,15 @@ pub record MakesOn (old new : Making) (before after : PanelState) (said : Said) 
       HasMade first start old before lines → HasMade first start new after (lines ++ said ∷ [])
   pub ready : (room : ℕ) → IsReady (making old before) (room + 1) → IsReady (making new after) room
 
--- what lines say
-abbrev pub all_say : List (List ℕ) → List Said
-all_say lines = map (λ line. parse line) lines
-
--- Of these lines the first were answered and counted from an earlier state on, whatever was answered before,
--- and the others are left.
-pub record HasMadeSome (old : Making) (before : PanelState) (all : List (List ℕ)) (now : Making)
-    (after : PanelState) (left : List (List ℕ)) : Type 0 where
-  pub taken : List (List ℕ)
+-- Of what these lines say the first were answered and counted from an earlier state on, whatever was answered
+-- before, and the others are left.
+pub record HasMadeSome (old : Making) (before : PanelState) (all : List Said) (now : Making)
+    (after : PanelState) (left : List Said) : Type 0 where
+  pub taken : List Said
   pub split : taken ++ left ≡ all
   pub made : (first : Machine) (start : PanelState) (lines : List Said) →
-      HasMade first start old before lines → HasMade first start now after (lines ++ all_say taken)
+      HasMade first start old before lines → HasMade first start now after (lines ++ taken)
   pub ready : IsReady (making now after) (length left)
   pub few : now.refused + length left < 2 ^ 32
-  pub none : list_all is_no_pump (all_say left) ≡ true
+  pub in_range : All IsInRange left
+  pub none : list_all is_no_pump left ≡ true

@@ -2,7 +2,7 @@
 ghost use Rattle.std.specs.Prelude.{◌≡◌, ◌⊎◌, ◌+◌, ◌≤◌, ◌<◌, ◌^◌, ◌∷◌, ◌++◌, [], ◌||◌, length, if◌then◌else◌};
 ghost use Rattle.std.specs.Io.KnownBytes.{Appends};
 ghost use Rattle.std.specs.Prelude.{OnOk, OnErr, ℕ, List, decimal, nat_lt, true, None};
-ghost use Rattle.std.specs.List.{list_all};
+ghost use Rattle.std.specs.List.{All, list_all};
 ghost use Rattle.arrayvec.specs.ArrayVec.{array_vec_len};
 ghost use Rattle.gui_base.specs.Bounded.{bounds_of};
 ghost use Rattle.gui_core.specs.Machines.{machine_of, pending_in, refresher_in, stage_of};
@@ -13,11 +13,11 @@ ghost use Rattle.gui_edge.specs.Sink.{AppendsPrefix};
 ghost use Rattle.gui_play.specs.Panels.{AgreesWith};
 ghost use Rattle.run_defs.specs.Laws.{IsInRange};
 ghost use Rattle.run_defs.specs.Machine.{Machine};
-ghost use Rattle.run_defs.specs.Made.{made_says, made_script};
+ghost use Rattle.run_defs.specs.Made.{made_says};
 ghost use Rattle.run_defs.specs.Run.{Told};
 ghost use Rattle.run_defs.specs.Script.{Said};
 ghost use Rattle.scene_defs.specs.Place.{panel_of};
-ghost use Rattle.scene_run.specs.Counting.{all_say, is_no_pump, making, done_in, faults_in, Counts, HasMade};
+ghost use Rattle.scene_run.specs.Counting.{is_no_pump, making, done_in, faults_in, Counts, HasMade};
 ghost use Rattle.scene_run.specs.Counting.{MakesOn};
 ghost use Rattle.scene_run.specs.Effects.{output, Halted, SinceOpening};
 ghost use Rattle.scene_run.specs.Headline.{MadeEnded, IfUnstarted};
@@ -32,7 +32,7 @@ use gui_core::Gui;
 use gui_edge::text::{push_bytes, push_number};
 use gui_edge::{Failed, Panel, Sink};
 use run_defs::{FrameEnd, Outcome};
-use scene_script::{Line, LineFault, Maker, parse_line};
+use scene_script::{Line, LineFault, Maker};
 use std::marker::Brand;
 use std::sync::ledger::{Blank, Ledger};
 
@@ -179,18 +179,18 @@ impl Making {
 fn take_lines<P: Panel>(run: &mut Making, maker: &mut Maker, panel: &mut P) -> Result<(), Failed>
     requires ready { IsReady (making run.old (P.state panel.old)) (length maker.old) }
     requires refused { run.old.refused + length maker.old < 2 ^ 32 }
-    requires no_pump { list_all is_no_pump (all_say maker.old) ≡ true }
+    requires in_range { All IsInRange maker.old }
+    requires no_pump { list_all is_no_pump maker.old ≡ true }
     ensures ok { OnOk result ((first : Machine) (start : PanelState) (lines : List Said) →
         HasMade first start run.old (P.state panel.old) lines →
-        HasMade first start run.new (P.state panel.new) (lines ++ all_say maker.old)) }
+        HasMade first start run.new (P.state panel.new) (lines ++ maker.old)) }
     ensures err { OnErr result ((first : Machine) (start : PanelState) (lines : List Said) →
         HasMade first start run.old (P.state panel.old) lines →
         Halted first (panel_alone start) (panel_alone (P.state panel.new))
-        (lines ++ all_say maker.old)) }
+        (lines ++ maker.old)) }
 {
     while let Some(line) = maker.next_line() {
-        let said = parse_line(line.as_bytes());
-        run.take_line(&said, panel)?;
+        run.take_line(&Ok(line), panel)?;
     }
     Ok(())
 }
@@ -237,7 +237,7 @@ fn make_all<L: Sink, P: Panel>(
     log: &mut L,
     panel: &mut P,
 ) -> Status
-    requires script { maker.old ≡ made_script k (machine_of run.old.gui).scene.limits }
+    requires script { maker.old ≡ made_says k (machine_of run.old.gui).scene.limits }
     requires begun { HasMade (machine_of run.old.gui) (P.state panel.old) run.old (P.state panel.old) [] }
     requires ready { IsReady (making run.old (P.state panel.old)) (length maker.old) }
     requires refused { run.old.refused + length maker.old < 2 ^ 32 }

@@ -1,15 +1,34 @@
 -- The lines of the made script by their places.
-use Rattle.std.specs.Prelude.{◌≤◌, ℕ, ◌+◌, ◌-◌, ◌/◌, ◌%◌, ◌==◌, nat_lt, if◌then◌else◌}
+use Rattle.std.specs.Prelude.{◌≤◌, ℕ, ◌+◌, ◌-◌, ◌/◌, ◌%◌, ◌==◌, nat_lt, if◌then◌else◌, List, drop, map, ⊤}
+use Rattle.run_defs.specs.Made.{made_lines, texts_drawn}
+use Rattle.run_defs.specs.Script.{Said, parse}
 use Rattle.run_defs.specs.declared.made.MadeCommand.{MadeCommand}
 use Rattle.run_defs.specs.declared.made.MadeCommand.TheVariants.{New, Size, Pos, Color, Opacity}
 use Rattle.run_defs.specs.declared.made.MadeLine.{MadeLine}
 use Rattle.run_defs.specs.declared.made.MadeLine.TheVariants.{Object, Drawn, Frame}
 
--- what a maker keeps: sizes that a draw may be below, and the place of the next line
-pub record IsMaking (width height place : ℕ) : Type 0 where
+-- the sizes of a panel
+pub record IsSized (width height : ℕ) : Type 0 where
   pub some_width : 1 ≤ width
+  pub most_width : width ≤ 1024
   pub some_height : 1 ≤ height
+  pub most_height : height ≤ 1024
+
+-- what a maker keeps: the sizes of the panel, and the place of the next line
+pub record IsMaking (width height place : ℕ) : Type 0 where
+  pub sized : IsSized width height
   pub last_place : place ≤ 1261
+
+-- what the lines say from a place on
+abbrev pub says_left : ℕ → ℕ → ℕ → ℕ → List Said
+says_left width height place x =
+    map (λ line. parse line) (texts_drawn width height (drop place made_lines) x)
+
+-- a line that names an object names one that may be made
+abbrev pub IsOnMade : MadeLine → Type 0
+IsOnMade (Object command h) = (10 ≤ h) × (h ≤ 9999)
+IsOnMade Drawn = ⊤
+IsOnMade Frame = ⊤
 
 -- the nth of the commands that make an object
 abbrev pub making_at : ℕ → MadeCommand

@@ -4,11 +4,15 @@ use Rattle.gui_pool.specs.Table.{Table, value_at}
 use Rattle.gui_layout.specs.declared.mark.Mark.{Mark}
 use Rattle.gui_layout.specs.Pending.{is_partly, is_pending}
 use Rattle.gui_layout.proofs.Pendings.{Raises, any-some, part-any, raised}
+use Rattle.gui_layout.proofs.Resting.{it-rests}
 use Rattle.gui_layout.proofs.raising.raise.Goals as goal
 use Rattle.gui_layout.proofs.raising.raise.Goals.{After-replace}
 
 pub returns-then-not-is_partly-clause-own : goal.returns-then-not-is_partly-clause-own
 returns-then-not-is_partly-clause-own c part none = absurd (both_ways (is_partly c.args.pending.now c.args.h.0) (sym c.is_partly.ensures ∙ c.if-not-is_partly.true) part)
+
+pub returns-then-rests-clause-own : goal.returns-then-rests-clause-own
+returns-then-rests-clause-own c part none = it-rests c.args.tree.now.forest c.args.entries.now c.args.h.0 (sym c.rests.ensures ∙ c.if-rests.true)
 
 pub replace-requires : goal.replace-requires
 replace-requires c =

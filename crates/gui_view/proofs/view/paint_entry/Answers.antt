@@ -6,7 +6,7 @@ use Rattle.gui_store.specs.Views.{scene_of}
 use Rattle.gui_widgets.specs.Looks.{items_of}
 use Rattle.scene_defs.specs.Visible.{visible}
 use Rattle.gui_paint.proofs.Waiting.{apart}
-use Rattle.gui_view.proofs.Known.{paints_its_bars, paints_own, steps_are}
+use Rattle.gui_view.proofs.Known.{paints_its_bars, paints_no_bars, paints_own, steps_are}
 use Rattle.gui_view.proofs.Views.{unseen, elsewhere}
 use Rattle.gui_view.proofs.view.paint_entry.Given.{Over}
 use Rattle.gui_view.proofs.view.paint_entry.Goals as goal
@@ -14,6 +14,9 @@ use Rattle.gui_view.proofs.view.paint_entry.Goals.{In-Some}
 
 seen : (g : Over) (c : In-Some g) → visible (scene_of c.args.shown.now.store.now) c.args.entry.now.h.0 ≡ Some (rect_of c.in-Some.visible)
 seen g c = sym c.requires.visible ∙ (sym c.visible.ensures ∙ ap (option_map rect_of) c.in-Some.is)
+
+pub returns-then-is_no_bars-clause-painted : goal.returns-then-is_no_bars-clause-painted
+returns-then-is_no_bars-clause-painted g c = paints_no_bars (scene_of c.args.shown.now.store.now) c.args.entry.now c.args.buf.now c.requires (sym c.is_no_bars.ensures ∙ c.if-is_no_bars.true)
 
 pub returns-in_default-clause-painted : goal.returns-in_default-clause-painted
 returns-in_default-clause-painted g c =
@@ -40,16 +43,4 @@ returns-then-entry-clause-steps g c =
     let d = (goal.at.returns-then-entry-clause-steps g c).In-Some in
     let few = c.paint_known_bars.ensures.steps in
     let same = steps_are (scene_of c.args.shown.now.store.now) c.args.entry.now (rect_of c.in-Some.visible) (seen g d) (size_of c.args.buf.now.area) true c.if-entry.true in
-    omega (arith, few, same)
-
-pub returns-else-entry-clause-painted : goal.returns-else-entry-clause-painted
-returns-else-entry-clause-painted g c =
-    let d = (goal.at.returns-else-entry-clause-painted g c).In-Some in
-    paints_own (scene_of c.args.shown.now.store.now) c.args.entry.now (rect_of c.in-Some.visible) (seen g d) c.args.buf.now c.paint_known.new.buf c.if-entry.false c.paint_known.ensures.painted
-
-pub returns-else-entry-clause-steps : goal.returns-else-entry-clause-steps
-returns-else-entry-clause-steps g c =
-    let d = (goal.at.returns-else-entry-clause-steps g c).In-Some in
-    let few = c.paint_known.ensures.steps in
-    let same = steps_are (scene_of c.args.shown.now.store.now) c.args.entry.now (rect_of c.in-Some.visible) (seen g d) (size_of c.args.buf.now.area) false c.if-entry.false in
     omega (arith, few, same)

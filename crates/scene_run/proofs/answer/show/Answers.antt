@@ -1,5 +1,6 @@
-use Rattle.std.proofs.Common.{refl, arith}
+use Rattle.std.proofs.Common.{refl, rules, arith}
 use Rattle.std.proofs.KnownBytes.{Appends-nil}
+use Rattle.gui_edge.proofs.Prefixes.{on_err}
 use Rattle.scene_run.proofs.answer.show.Goals as goal
 
 -- a refresh that is done leaves nothing in flight
@@ -20,3 +21,14 @@ returns-in-Fault-clause-ok g c =
         turn = keeps.turn;
       };
     }
+
+-- a frame of which a prefix was presented: by its parts, so that no search comes near its limits
+pub returns-in_err-present-in-Done-clause-err : goal.returns-in_err-present-in-Done-clause-err
+returns-in_err-present-in-Done-clause-err g c =
+    on_err c.from_residual.result (record {
+      frames = search rules;
+      faults = search rules;
+      grew = search rules;
+      turn = search rules;
+      cause = search rules;
+    })

@@ -1,8 +1,11 @@
 use Rattle.std.proofs.Common.{[], inl, inr}
 use Rattle.gui_core.specs.Machines.{machine_of}
 use Rattle.scene_run.specs.Effects.{output}
-use Rattle.scene_run.proofs.MadeRuns.{made_halted, made_no_pump, halted_rose}
+use Rattle.scene_run.proofs.MadeRuns.{made_halted, made_in_range, made_no_pump, halted_rose}
 use Rattle.scene_run.proofs.made.make_all.Goals as goal
+
+pub take_lines-requires-clause-in_range : goal.take_lines-requires-clause-in_range
+take_lines-requires-clause-in_range g c = rw c.requires.script (made_in_range c.args.k (machine_of c.args.run.now.gui).scene.limits)
 
 pub take_lines-requires-clause-no_pump : goal.take_lines-requires-clause-no_pump
 take_lines-requires-clause-no_pump g c =

@@ -1,13 +1,13 @@
 use Rattle.std.proofs.Common.{◌∙◌, ap, arith}
 use Rattle.gui_base.specs.Bounded.{bounds_of}
 use Rattle.gui_base.specs.Limits.{Bounds}
-use Rattle.run_defs.specs.Made.{made_script}
+use Rattle.run_defs.specs.Made.{made_says}
 use Rattle.scene_run.proofs.Gone.{can_begin, since_none}
 use Rattle.scene_run.proofs.MadeRuns.{made_count, made_new, made_ready}
 use Rattle.scene_run.proofs.made.run_made.Goals as goal
 
 pub make_all-requires-clause-script : goal.make_all-requires-clause-script
-make_all-requires-clause-script g c = rw c.new-run.ensures (c.new-maker.ensures ∙ ap (λ (limits : Bounds). made_script c.args.k limits) c.requires.limits)
+make_all-requires-clause-script g c = rw c.new-run.ensures (c.new-maker.ensures ∙ ap (λ (limits : Bounds). made_says c.args.k limits) c.requires.limits)
 
 pub make_all-requires-clause-begun : goal.make_all-requires-clause-begun
 make_all-requires-clause-begun g c =

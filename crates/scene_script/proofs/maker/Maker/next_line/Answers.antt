@@ -1,5 +1,5 @@
-use Rattle.std.proofs.Common.{◌≡◌, ◌∙◌, ap, sym, ℕ, [], drop}
-use Rattle.run_defs.specs.Made.{made_lines, texts_drawn}
+use Rattle.std.proofs.Common.{◌≡◌, ◌∙◌, ap, sym, ℕ, []}
+use Rattle.scene_script.specs.MadeLines.{says_left}
 use Rattle.scene_script.proofs.MadeLemmas.{all_made}
 use Rattle.scene_script.proofs.maker.Maker.next_line.Goals as goal
 
@@ -7,6 +7,6 @@ pub returns-then-self-eq-LINES-clause-end : goal.returns-then-self-eq-LINES-clau
 returns-then-self-eq-LINES-clause-end c =
     let m = c.self.inside in
     let none : c.args.self.now ≡ [] = sym c.self.view_is
-    ∙ (ap (λ (place : ℕ). texts_drawn m.width m.height (drop place made_lines) m.draws.x) c.if-self-eq-LINES.true
+    ∙ (ap (λ (place : ℕ). says_left m.width m.height place m.draws.x) c.if-self-eq-LINES.true
     ∙ all_made m.width m.height m.draws.x) in
     (none, none)

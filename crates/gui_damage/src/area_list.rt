@@ -126,15 +126,7 @@ impl AreaList {
 fn is_listed(listed: &[Area], part: Area) -> bool
     ensures { result ≡ list_any (λ area. has_corners (rect_of area) (rect_of part)) listed.now }
 {
-    listed.iter().any(|area| holds_corners(*area, part))
-}
-
-/// Whether an area has both corners of another. All four sides are compared at once: which of them stands out is as
-/// good as drawn, so that a branch at each would be guessed wrong.
-fn holds_corners(area: Area, part: Area) -> bool
-    ensures { result ≡ has_corners (rect_of area) (rect_of part) }
-{
-    ((area.x1 <= part.x1) & (part.x2 <= area.x2)) & ((area.y1 <= part.y1) & (part.y2 <= area.y2))
+    listed.iter().any(|area| area.holds_corners(part))
 }
 
 /// The first lines of an area.

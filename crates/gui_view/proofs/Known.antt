@@ -14,7 +14,7 @@ use Rattle.gui_debts.specs.Seen.{IsKnown, IsShownAt, entry_of, items_by}
 use Rattle.gui_debts.specs.declared.kept.ShownBars.{ShownBars}
 use Rattle.gui_debts.specs.declared.kept.ShownBars.TheVariants.{Nothing, One, Two}
 use Rattle.gui_debts.specs.declared.seen.ShownEntry.{ShownEntry}
-use Rattle.gui_paint.specs.Painting.{Paints, painted_bars, painted_object}
+use Rattle.gui_paint.specs.Painting.{Paints, painted_bars}
 use Rattle.cover_defs.specs.Cover.{hides, is_cover, sees_all}
 use Rattle.cover_defs.specs.Steps.{bar_steps, object_steps, steps_of}
 use Rattle.scene_defs.specs.Items.{bars, items}
@@ -39,9 +39,6 @@ bars_cover_nothing scene part e is = sym (ap (λ (b : Bool). if b then false els
 
 -- An entry that is seen there is painted as its object, or as the bars of that.
 module _ (scene : Scene) (e : ShownEntry) (area : Rect) (seen : visible scene e.h.0 ≡ Some area) where
-  pub paints_own : (old new : Buffer) → e.is_bars ≡ false → Paints old new (painted_object scene area e.h.0) → Paints old new (painted_entry scene (entry_of e))
-  paints_own old new is paints = paints_seen old new scene (entry_of e) area seen (rw is paints)
-
   pub paints_its_bars : (old new : Buffer) → e.is_bars ≡ true → Paints old new (painted_bars scene area e.h.0) → Paints old new (painted_entry scene (entry_of e))
   paints_its_bars old new is paints = paints_seen old new scene (entry_of e) area seen (rw is paints)
 

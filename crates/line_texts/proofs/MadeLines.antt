@@ -1,11 +1,11 @@
 -- The lines of the made script say their changes.
 use Rattle.std.proofs.Common.{◌≡◌, ◌∙◌, refl, sym, ap, ℕ, zero, suc, ◌+◌, ◌-◌, ◌*◌, ◌/◌, ◌%◌, ◌≤◌, ◌<◌, true, false, List, [], ◌∷◌, ◌++◌, length, get_or, append_assoc, append-nil, length-append, arith}
-use Rattle.std.specs.Prelude.{codes, decimal, bytes_eq, ◌==◌, pos, Ok, Some, None, slice_index}
+use Rattle.std.specs.Prelude.{codes, decimal, bytes_eq, ◌==◌, pos, Some, None, slice_index}
 use Rattle.std.specs.List.{list_all}
 use Rattle.std.proofs.lemmas.Int.{ints}
 use Rattle.std.proofs.lemmas.Bool.Decides.{nat_tests}
 use native.Mathlib.Nat.{mod-lt}
-use Rattle.hex.specs.Hex.{IsBytes, decode_of, decode_sized, encode_upper, encode_with, hex_digit_value, upper_digits}
+use Rattle.hex.specs.Hex.{IsBytes, encode_upper, encode_with, hex_digit_value, upper_digits}
 use Rattle.hex.proofs.HexLemmas.{IsDigits-upper_digits, decode_of-encode_upper, decode_sized-twice, length-encode_with}
 use Rattle.gui_base.specs.Names.{named}
 use Rattle.gui_base.specs.declared.intervals.TheConstants.{COORDINATE, EXTENT, HANDLE, NEW_HANDLE, OPACITY}
@@ -18,14 +18,14 @@ use Rattle.run_defs.specs.Commands.{command_says, coordinate, extent, handle, ki
 use Rattle.run_defs.specs.Fields.{over}
 use Rattle.run_defs.specs.Language.{Word}
 use Rattle.run_defs.specs.Lengths.{before_percent, length_said}
-use Rattle.run_defs.specs.Made.{command_drawn, draw, drawn, pair_text}
+use Rattle.run_defs.specs.Made.{draw, drawn, pair_text}
 use Rattle.run_defs.specs.Numbers.{color, color_from, is_digit, natural, number}
 use Rattle.run_defs.specs.Script.{parse}
-use Rattle.run_defs.specs.Selectors.{selector_named, state_named}
+use Rattle.run_defs.specs.Selectors.{selector_named}
 use Rattle.run_defs.specs.declared.made.MadeCommand.TheVariants.{New, Size, Pos, Color, Opacity, Front}
 use Rattle.line_texts.specs.Commands.{Says, asks}
-use Rattle.line_texts.specs.LineTexts.{are_words, is_letter, is_plain, line_text, spaced}
-use Rattle.line_texts.specs.MadeLines.{MadeCommandsSay, change_drawn}
+use Rattle.line_texts.specs.LineTexts.{is_letter, is_plain, line_text, spaced}
+use Rattle.line_texts.specs.MadeLines.{MadeCommandsSay}
 use Rattle.line_texts.proofs.Commands.{scene_lines_say}
 use Rattle.line_texts.proofs.FieldsRead.{reads}
 use Rattle.line_texts.proofs.Numbers.{count_says, decimal_digits, number_says}

@@ -1,4 +1,4 @@
-use Rattle.std.proofs.Common.{◌≡◌, ◌∙◌, sym, ap, option_map, ℤ, true, false, Some, ◌&&◌, arith}
+use Rattle.std.proofs.Common.{◌≡◌, ◌∙◌, sym, ap, option_map, ℤ, true, Some, ◌&&◌, arith}
 use Rattle.gui_base.specs.Area.{Rect, has, size_of}
 use Rattle.gui_base.specs.Corners.{rect_of}
 use Rattle.gui_debts.specs.Seen.{entry_of}
@@ -6,7 +6,7 @@ use Rattle.gui_store.specs.Views.{scene_of}
 use Rattle.gui_widgets.specs.Looks.{items_of}
 use Rattle.scene_defs.specs.Visible.{visible}
 use Rattle.gui_paint.proofs.Waiting.{apart}
-use Rattle.gui_view.proofs.Known.{paints_its_bars, paints_no_bars, paints_own, steps_are}
+use Rattle.gui_view.proofs.Known.{paints_its_bars, paints_no_bars, steps_are}
 use Rattle.gui_view.proofs.Views.{unseen, elsewhere}
 use Rattle.gui_view.proofs.view.paint_entry.Given.{Over}
 use Rattle.gui_view.proofs.view.paint_entry.Goals as goal

@@ -32,7 +32,7 @@ use Rattle.debt_defs.proofs.Paths.{path-cut, path-with, spares-last}
 use Rattle.debt_defs.proofs.SameRows.{same-object}
 use Rattle.debt_defs.proofs.SameTrees.{deleted-path, end-path, index-path, made-path, not-in-tree}
 use Rattle.gui_layout.specs.Scenes.{scene_box}
-use Rattle.gui_layout.specs.SettledBut.{AreSettledButMarks, HasKids, IsReordered, IsUnmoved, nobody}
+use Rattle.gui_layout.specs.SettledBut.{AreSettledButMarks, HasKids, IsReordered, IsUnmoved, WereSettled, nobody}
 use Rattle.gui_layout.specs.Solved.{place_at}
 use Rattle.gui_layout.specs.Tables.{area_in}
 use Rattle.gui_layout.specs.Views.{no_box}
@@ -209,7 +209,11 @@ module _ (places : Places) (after : Scene) (made : Change) (concerned : Concerne
   pub nobody-boxes : moves_nobody made ≡ true → (k : ℕ) → scene_box after k ≡ scene_box was.before k
   nobody-boxes nobody k = ap (λ (s : Scene). scene_box s k) was.is ∙ boxes_stay was.before made was.valid was.plain was.done nobody k
 
-  -- where all that is not marked has not moved, the places are right but for the marks
+  -- where all that is not marked has not moved, the places were settled but for the marks
+  pub were-settled : (m c : ℕ → Bool) → ((k : ℕ) → m k ≡ false → IsUnmoved was.before after m c k) → WereSettled places after m c
+  were-settled m c same = record { before = was.before; settled = was.settled; once = was.valid.trees.once; limits = limits-stay; each = same }
+
+  -- and are right but for these
   pub told : (m c : ℕ → Bool) → ((k : ℕ) → m k ≡ false → IsUnmoved was.before after m c k) → AreSettledButMarks places after m c
   told m c same = settled_but_marks places was.before after m c was.settled was.valid.trees.once valid-after.trees.once limits-stay same
 
@@ -223,10 +227,10 @@ module _ (places : Places) (after : Scene) (made : Change) (concerned : Concerne
   }
 
   -- nothing moves where layout does not go by what is set
-  pub nobody-told : (m c : ℕ → Bool) → moves_nobody made ≡ true → AreSettledButMarks places after m c
+  pub nobody-told : (m c : ℕ → Bool) → moves_nobody made ≡ true → WereSettled places after m c
   nobody-told m c nobody =
       let trees : handles_of after.trees ≡ handles_of was.before.trees = ap (λ (s : Scene). handles_of s.trees) was.is ∙ nobody-trees was.before made nobody in
-      told m c (λ k un. record {
+      were-settled m c (λ k un. record {
         there = ap (λ (f : Forest ℕ). has f k) trees;
         box = nobody-boxes nobody k;
         kids = same-kids (c k) m (children_of (handles_of after.trees) k) (children_of (handles_of was.before.trees) k) (ap (λ (f : Forest ℕ). roots (children_of f k)) trees);
@@ -308,12 +312,12 @@ module _ (places : Places) (after : Scene) (made : Change) (concerned : Concerne
 -- Where a child of an object went elsewhere among its siblings, none has moved, and the children of that object
 -- may be others.
 module _ (places : Places) (after : Scene) (parent : Handle) (made : Change) (concerned : Concerned) (removed : List ℕ) (was : WasEdited places after (Beside parent) made concerned removed) (m c : ℕ → Bool) where
-  pub beside-told : ((k : ℕ) → m k ≡ false → c k ≡ false → eqb k parent.0 ≡ false) → AreSettledButMarks places after m c
+  pub beside-told : ((k : ℕ) → m k ≡ false → c k ≡ false → eqb k parent.0 ≡ false) → WereSettled places after m c
   beside-told off =
       let scene = was.was.before in
       let it = moved places after parent made concerned removed was in
       let path = λ (k : ℕ). ap (λ (s : Scene). path_at s k) it.is ∙ it.paths k in
-      told places after made concerned was.was m c (λ k un. on-path places after made concerned was.was m c k (path k)
+      were-settled places after made concerned was.was m c (λ k un. on-path places after made concerned was.was m c k (path k)
       (ap (λ (s : Scene). scene_box s k) it.is ∙ box-on-path scene it.trees k (it.paths k))
       (kids-told places after made concerned was.was m c k (λ j still. path j) (λ none. ap (λ (s : Scene). children s k) it.is ∙ it.kids k (off k un none)) (c k) refl))
 
@@ -352,9 +356,9 @@ module _ (places : Places) (after : Scene) (edit : Edit) (made : Change) (concer
   others-boxes k there off = box-alike was.was.before after k (looks-same was.was.before after k (same-after places after made concerned was.was k (off-concerned k there off)))
 
   -- else none but those that the change may concern
-  pub others-told : (m c : ℕ → Bool) → is_gone edit ≡ false → ((k : ℕ) → is_there after k ≡ true → m k ≡ false → may_be after concerned k ≡ false) → AreSettledButMarks places after m c
+  pub others-told : (m c : ℕ → Bool) → is_gone edit ≡ false → ((k : ℕ) → is_there after k ≡ true → m k ≡ false → may_be after concerned k ≡ false) → WereSettled places after m c
   others-told m c kept others =
-      told places after made concerned was.was m c (λ k un. elim (cases_Bool (is_there after k)) [
+      were-settled places after made concerned was.was m c (λ k un. elim (cases_Bool (is_there after k)) [
         | inl there ↦
             let off = off-concerned k there (others k there un) in
             let same = same-after places after made concerned was.was k off in

@@ -11,7 +11,7 @@ use Rattle.gui_layout.specs.Tops.{in_trees_at}
 use Rattle.gui_layout.specs.declared.marks.Marks.{Marks}
 use Rattle.gui_layout.specs.declared.places.Places.{Places}
 use Rattle.gui_layout.specs.Marks.{is_changed, is_marked, is_parent, most_marks}
-use Rattle.gui_layout.specs.SettledBut.{AreSettledButMarks}
+use Rattle.gui_layout.specs.SettledBut.{WereSettled}
 use Rattle.gui_change.specs.Edits.{WasEdited}
 use Rattle.gui_debts.specs.declared.concerned.Concerned.{Concerned}
 use Rattle.gui_debts.specs.declared.edit.Edit.{Edit}
@@ -31,11 +31,11 @@ pub record AlsoMarks (old new : Marks) (m : ℕ → Bool) : Type 0 where
   pub changed : (k : ℕ) → is_changed new k ≡ (is_changed old k || m k)
   pub parents : (k : ℕ) → is_parent new k ≡ true → is_parent old k ≡ true
 
--- places that were settled before a change are right after it, but for what the marks tell
+-- places that were settled before a change were settled for a scene that differs in what the marks tell alone
 abbrev pub MarksTell : Marks → Scene → Edit → Change → Concerned → List ℕ → Type 0
 MarksTell marks after edit made concerned removed =
     (places : Places) → WasEdited places after edit made concerned removed →
-    AreSettledButMarks places after (is_changed marks) (is_parent marks)
+    WereSettled places after (is_changed marks) (is_parent marks)
 
 -- what is there and not marked has the box that it had before
 abbrev pub BoxesStay : Marks → Scene → Edit → Change → Concerned → List ℕ → Type 0

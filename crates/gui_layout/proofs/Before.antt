@@ -123,11 +123,6 @@ module _ (p : Places) (scene : Scene) (s m c : ℕ → Bool) (once : StandsOnce 
         at.scrolled
         ∙ (ap (λ (ks : List Known). scrolled_known (old k) ks) (roots-map old g ∙ (ap (map old) (sym kids) ∙ (sym (roots-map old (children_of f k)) ∙ sym (kids-same old new (children_of f k) kid_same))))
         ∙ ap (λ (i : Known). scrolled_known i (roots (map_forest new (children_of f k)))) (sym (same k there looked un)));
-    flat = λ k there looked un off looks still.
-        let at = was.each k there looked un in
-        let g = handles_of was.before.trees in
-        let kids : roots (children_of f k) ≡ roots (children_of g k) = subst (λ on. HasKids on m (children_of f k) (children_of g k)) off at.kids in
-        flat-roots f g (layout_of p) k kids (at.flat still);
   }
 
 -- What stands below an object of the marked trees is one of theirs.
@@ -172,7 +167,6 @@ right_fewer p scene s t m c fewer was = record {
   fit = fit-fewer s t m c (known_in p scene) (handles_of scene.trees) fewer was.fit;
   fill = fill-fewer s t m m scene.limits.width scene.limits.height (known_in p scene) (handles_of scene.trees) fewer (λ k un. un) was.fill;
   scrolled = λ k there looked un off looks. was.scrolled k there (fewer k looked) un off (record { looked = λ j kid. fewer j (looks.looked j kid); unchanged = looks.unchanged });
-  flat = λ k there looked un off looks still. was.flat k there (fewer k looked) un off (λ j kid. fewer j (looks j kid)) still;
 }
 
 -- Where no object is looked at, there is nothing to say.
@@ -202,7 +196,6 @@ right_unmarked p scene w m c none =
       fit = fit-unseen (in_marked w scene) m c (known_in p scene) (handles_of scene.trees) unseen;
       fill = fill-unseen (in_marked w scene) m scene.limits.width scene.limits.height (known_in p scene) (handles_of scene.trees) unseen;
       scrolled = λ k there looked un off looks. absurd (both_ways (in_marked w scene k) (unseen k) looked);
-      flat = λ k there looked un off looks still. absurd (both_ways (in_marked w scene k) (unseen k) looked);
     }
 
 -- Trees that fit part by part.
@@ -242,6 +235,9 @@ fill-at width height k known (Tree h cs rest) is fill = elim (cases_Bool (eqb h 
 -- Where all was settled for a scene that differs in marked objects alone, all is right but for the marks.
 module _ (p : Places) (before scene : Scene) (m c : ℕ → Bool) (settled : AreSettled p before) (once_before : StandsOnce (handles_of before.trees)) (once : StandsOnce (handles_of scene.trees)) (limits : scene.limits ≡ before.limits)
     (same : (k : ℕ) → m k ≡ false → IsUnmoved before scene m c k) where
+  boxed : (j : ℕ) → has (handles_of before.trees) j ≡ true → but_height (box_at (layout_of p).boxes j) ≡ but_height (scene_box before j)
+  boxed j is_there = settled.boxes j (some-box p.entries j (settled.there j ∙ is_there))
+
   was_solved : (k : ℕ) → has (handles_of scene.trees) k ≡ true → m k ≡ false → WasSolved p before scene m c k
   was_solved k there un =
       let g = handles_of before.trees in
@@ -249,7 +245,6 @@ module _ (p : Places) (before scene : Scene) (m c : ℕ → Bool) (settled : Are
       let here_before : has g k ≡ true = sym is.there ∙ there in
       let at = there_in g k here_before in
       let known = known_in p before in
-      let boxed : (j : ℕ) → has g j ≡ true → but_height (box_at (layout_of p).boxes j) ≡ but_height (scene_box before j) = λ j is_there. settled.boxes j (some-box p.entries j (settled.there j ∙ is_there)) in
       let fit : AllFit (map_forest known (Tree k at.children at.rest)) = fit-part known at.part settled.settled.fit in
       let kids : children_of g k ≡ at.children = (found at.part (distinct_once g once_before)).children in
       let all_fit : Fits (known k) (roots (map_forest known (children_of g k))) = subst (λ (t : Forest ℕ). Fits (known k) (roots (map_forest known t))) (sym kids) fit.0 in
@@ -263,8 +258,17 @@ module _ (p : Places) (before scene : Scene) (m c : ℕ → Bool) (settled : Are
             subst (λ (b : Bounds). FillsPanel b.width b.height (known k)) (sym limits)
             (fill-at before.limits.width before.limits.height k known g (root-of k None g here_before (is.root none)) settled.settled.fill);
         scrolled = settled.scrolled k here_before;
-        flat = told-flat (scene_box before) (layout_of p) g k (settled.scrolled k here_before) (boxed k here_before) (λ j kid. boxed j (root-in g j k kid)) all_fit;
       }
+
+  -- the reach is read of each that has not changed and moves no children, where these are the same
+  pub flat-before : (k : ℕ) → has (handles_of scene.trees) k ≡ true → m k ≡ false → c k ≡ false → (box_at (layout_of p).boxes k).scrollable ≡ false → IsFlat (handles_of scene.trees) (layout_of p) k
+  flat-before k there un off still =
+      let f = handles_of scene.trees in
+      let g = handles_of before.trees in
+      let at = was_solved k there un in
+      let kids : roots (children_of f k) ≡ roots (children_of g k) = subst (λ on. HasKids on m (children_of f k) (children_of g k)) off at.kids in
+      let fits : Fits (known_in p before k) (roots (map_forest (known_in p before) (children_of g k))) = subst (Fits (known_in p before k)) (sym (roots-map (known_in p before) (children_of g k))) at.fits in
+      flat-roots f g (layout_of p) k kids (told-flat (scene_box before) (layout_of p) g k at.scrolled at.known (λ j kid. boxed j (root-in g j k kid)) fits still)
 
   pub settled_but_marks : AreSettledButMarks p scene m c
   settled_but_marks = record {

@@ -1,7 +1,6 @@
 -- Marks of the second grade, before the first tree is solved.
-use Rattle.std.proofs.Common.{◌≡◌, ◌∙◌, refl, sym, ap, ℕ, Bool, true, false}
+use Rattle.std.proofs.Common.{◌≡◌, ◌∙◌, sym, ap, ℕ, Bool, true, false}
 use Rattle.std.proofs.lemmas.Bool.{both_ways, false_from_ne_true}
-use Rattle.gui_base.specs.Forest.{children_of}
 use Rattle.layout_defs.specs.Boxes.{Box}
 use Rattle.layout_defs.specs.OwnHeights.{but_height}
 use Rattle.scene_defs.specs.Scene.{Scene, handles_of}
@@ -14,8 +13,6 @@ use Rattle.gui_layout.specs.Settles.{known_in}
 use Rattle.gui_layout.specs.Solved.{layout_of}
 use Rattle.gui_layout.specs.Views.{box_at}
 use Rattle.gui_layout.proofs.Marking.{all-both, all-fewer, all-graded, fill-fewer}
-use Rattle.gui_layout.proofs.Overs.{root-in}
-use Rattle.gui_layout.proofs.Rescrolled.{fits-at, nobody-root, told-flat}
 
 -- a box is steady whatever its own height
 pub steady-but : (b c : Box) → but_height b ≡ but_height c → is_steady b ≡ true → is_steady c ≡ true
@@ -30,7 +27,7 @@ narrowed p scene s t m fewer was = record {
   fill = fill-fewer s t m m scene.limits.width scene.limits.height (known_in p scene) (handles_of scene.trees) fewer (λ k un. un) was.fill;
 }
 
--- with no marks both say the same, and where it is told how far children are scrolled, that can be read
+-- with no marks both say the same
 pub right-both : (p : Places) (scene : Scene) (s : ℕ → Bool) → AreRightButChanged p scene s nobody → AreScrolledBut p scene s nobody nobody → AreRightBut p scene s nobody nobody
 right-both p scene s was scrolled = record {
   boxes = was.boxes;
@@ -38,10 +35,6 @@ right-both p scene s was scrolled = record {
   fit = all-both s nobody nobody (known_in p scene) (handles_of scene.trees) was.fit;
   fill = was.fill;
   scrolled = scrolled;
-  flat = λ k there looked un part looks still.
-      let f = handles_of scene.trees in
-      told-flat (scene_box scene) (layout_of p) f k (scrolled k there looked refl refl (record { looked = looks; unchanged = nobody-root (children_of f k) })) (was.boxes k there looked refl)
-      (λ j kid. was.boxes j (root-in f j k kid) (looks j kid) refl) (fits-at s (known_in p scene) f k was.fit there looked) still;
 }
 
 -- where marks of the second grade are left out of objects that rest alone, the others tell all

@@ -9,7 +9,7 @@ use Rattle.gui_tree.proofs.Paths.{children_gone}
 use Rattle.layout_defs.specs.Boxes.{Box}
 use Rattle.scene_defs.specs.Scene.{Scene, handles_of}
 use Rattle.gui_layout.specs.declared.places.Places.{Places}
-use Rattle.gui_layout.specs.Around.{IsFlatWithout, SparesOne, flat_of, without}
+use Rattle.gui_layout.specs.Around.{IsFlatWithout, flat_of, without}
 use Rattle.gui_layout.specs.Listing.{times}
 use Rattle.gui_layout.specs.Marked.{is_root}
 use Rattle.gui_layout.specs.Scenes.{scene_box}
@@ -99,12 +99,11 @@ around f u q once is up =
 -- Where it alone is solved, its siblings reach as far as they did.
 pub without-kept : (scene : Scene) (old mid : Places) (s m c n : ℕ → Bool) (h : Handle) (q : ℕ) → StandsOnce (handles_of scene.trees) → ScrollsAt old mid scene n (h ∷ []) → has (handles_of scene.trees) h.0 ≡ true → parent_of (handles_of scene.trees) h.0 ≡ Some q →
     AreRightBut old scene s m c → AreRightButChanged mid scene s nobody → s q ≡ true → ((j : ℕ) → is_root j (children_of (handles_of scene.trees) q) ≡ true → s j ≡ true) →
-    ((j : ℕ) → eqb j h.0 ≡ false → m j ≡ false) → ((j : ℕ) → eqb j h.0 ≡ false → c j ≡ false) → SparesOne (handles_of scene.trees) (layout_of old) h.0 q → IsFlatWithout (handles_of scene.trees) (layout_of mid) h.0 q
-without-kept scene old mid s m c n h q once scrolls is up was now looked kids_looked un off spares =
+    ((j : ℕ) → eqb j h.0 ≡ false → m j ≡ false) → IsFlatWithout (handles_of scene.trees) (layout_of old) h.0 q → IsFlatWithout (handles_of scene.trees) (layout_of mid) h.0 q
+without-kept scene old mid s m c n h q once scrolls is up was now looked kids_looked un left =
     let f = handles_of scene.trees in
     let at = around f h.0 q once is up in
     let beside : (j : ℕ) → has (tree_at f h.0) j ≡ false → in_trees_at f (h ∷ []) j ≡ false = λ j out. rw out refl in
-    let left : IsFlatWithout f (layout_of old) h.0 q = spares.spares (was.flat q at.there looked (un q at.other) (off q at.other) kids_looked spares.still) in
     let was_box = was.boxes q at.there looked (un q at.other) in
     let now_box = now.boxes q at.there looked refl in
     let kid : (j : ℕ) → is_root j (without h.0 (children_of f q)) ≡ true → (is_root j (children_of f q) ≡ true) × (eqb j h.0 ≡ false) = left-root h.0 (children_of f q) in

@@ -1,10 +1,9 @@
 -- How far children reach, read off where they stand.
-use Rattle.std.specs.Prelude.{◌≡◌, ◌⊎◌, ℕ, Bool, true, false, eqb, if◌then◌else◌, map, [], ◌∷◌}
-use Rattle.gui_base.specs.Forest.{Forest, Empty, Tree, children_of, has, roots}
+use Rattle.std.specs.Prelude.{◌≡◌, ◌⊎◌, ℕ, false, eqb, if◌then◌else◌, map, [], ◌∷◌}
+use Rattle.gui_base.specs.Forest.{Forest, Empty, Tree, children_of, roots}
 use Rattle.layout_defs.specs.Solving.{Span, no_span, reach_in, room_of}
 use Rattle.gui_layout.specs.Kids.{flat_scrolled, told_trees}
 use Rattle.gui_layout.specs.Layouts.{ButScrolls}
-use Rattle.gui_layout.specs.Marked.{is_root}
 use Rattle.gui_layout.specs.Scrolls.{Scrolled, scrolled_at}
 use Rattle.gui_layout.specs.Settled.{Known, Layout, tall_of}
 use Rattle.gui_layout.specs.Slots.{at_roots, slot_at, tall_at}
@@ -19,14 +18,6 @@ pub record IsFlat (f : Forest ℕ) (l : Layout) (k : ℕ) : Type 0 where
 pub record ReadsReaches (f : Forest ℕ) (old new : Layout) : Type 0 where
   pub each : (k : ℕ) → (scrolled_at new.scrolls k ≡ scrolled_at old.scrolls k) ⊎ IsFlat f new k
   pub rest : ButScrolls old new
-
--- The reaches of the objects that are looked at, told by s, are read where they move no children and all children
--- are looked at, but of those that have changed or whose list of children may be another, told by m and c.
-abbrev pub AreFlatBut : Layout → Forest ℕ → (ℕ → Bool) → (ℕ → Bool) → (ℕ → Bool) → Type 0
-AreFlatBut l f s m c =
-    (k : ℕ) → has f k ≡ true → s k ≡ true → m k ≡ false → c k ≡ false →
-    ((j : ℕ) → is_root j (children_of f k) ≡ true → s j ≡ true) →
-    (box_at l.boxes k).scrollable ≡ false → IsFlat f l k
 
 -- these trees without the one at u
 abbrev pub without : ℕ → Forest ℕ → Forest ℕ

@@ -5,7 +5,6 @@ use Rattle.gui_pool.specs.Table.{value_at}
 use Rattle.scene_defs.specs.Scene.{Scene, handles_of}
 use Rattle.std.specs.Prelude.{None}
 use Rattle.gui_layout.specs.declared.places.Places.{Places}
-use Rattle.gui_layout.specs.Around.{AreFlatBut, IsFlat}
 use Rattle.gui_layout.specs.Marked.{AllFitBut, AllFitButBoth, AllFillBut, is_any_root, is_root, marked_trees}
 use Rattle.gui_layout.specs.Naturals.{naturals, naturals_at}
 use Rattle.gui_layout.specs.Renewed.{IsRenewed}
@@ -15,7 +14,6 @@ use Rattle.gui_layout.specs.Settles.{known_in}
 use Rattle.gui_layout.specs.Scrolled.{IsScrolledIn}
 use Rattle.gui_layout.specs.Scrolls.{scrolled_at}
 use Rattle.gui_layout.specs.Solved.{AreSettled, AreStanding, layout_of, offset_at, place_at, reach_at}
-use Rattle.gui_layout.specs.Views.{box_at}
 use Rattle.scene_defs.specs.Place.{offset, place, reach}
 
 -- the objects that are looked at are right but for those that have changed, told by m: they have places, and
@@ -48,7 +46,6 @@ pub record AreRightBut (p : Places) (scene : Scene) (s m c : ℕ → Bool) : Typ
       is_some (value_at p.entries k) ≡ true
   pub fit : AllFitButBoth s m c (known_in p scene) (handles_of scene.trees)
   pub scrolled : AreScrolledBut p scene s m c
-  pub flat : AreFlatBut (layout_of p) (handles_of scene.trees) s m c
   pub fill : AllFillBut s m scene.limits.width scene.limits.height (known_in p scene) (handles_of scene.trees)
 
 -- the objects of the marked trees
@@ -88,7 +85,6 @@ pub record WasSolved (p : Places) (before scene : Scene) (m c : ℕ → Bool) (k
   pub fills : parent_of (handles_of scene.trees) k ≡ None →
       FillsPanel scene.limits.width scene.limits.height (known_in p before k)
   pub scrolled : IsScrolledIn (known_in p before) (layout_of p).scrolls (handles_of before.trees) k
-  pub flat : (box_at (layout_of p).boxes k).scrollable ≡ false → IsFlat (handles_of before.trees) (layout_of p) k
 
 -- there is a scene that differs from this one in what the marks tell alone, and for it the objects that are
 -- looked at were solved
@@ -146,6 +142,14 @@ pub record IsUnmoved (before scene : Scene) (m c : ℕ → Bool) (k : ℕ) : Typ
   pub box : scene_box scene k ≡ scene_box before k
   pub kids : HasKids (c k) m (children_of (handles_of scene.trees) k) (children_of (handles_of before.trees) k)
   pub root : parent_of (handles_of scene.trees) k ≡ None → parent_of (handles_of before.trees) k ≡ None
+
+-- places that were settled for a scene from which this one differs in what the marks tell alone
+pub record WereSettled (p : Places) (scene : Scene) (m c : ℕ → Bool) : Type 0 where
+  pub before : Scene
+  pub settled : AreSettled p before
+  pub once : StandsOnce (handles_of before.trees)
+  pub limits : scene.limits ≡ before.limits
+  pub each : (k : ℕ) → m k ≡ false → IsUnmoved before scene m c k
 
 -- the scenes differ in the order of the children of p alone, as far as layout goes by it
 pub record IsReordered (before scene : Scene) (p : ℕ) : Type 0 where

@@ -188,7 +188,7 @@ impl Places {
     ghost use Rattle.gui_layout.specs.Naturals.{naturals, naturals_at};
     ghost use Rattle.gui_layout.specs.Marks.{is_changed, is_marked, is_parent, mark_count, most_marks, solved_in};
     ghost use Rattle.gui_layout.specs.SettledBut.{AreRightBut, AreRightButChanged, AreSettledButMarks, IsReordered};
-    ghost use Rattle.gui_layout.specs.SettledBut.{SettlesChanged, SettlesMarks, in_marked, nobody};
+    ghost use Rattle.gui_layout.specs.SettledBut.{SettlesChanged, SettlesMarks, WereSettled, in_marked, nobody};
     ghost use Rattle.gui_layout.specs.Settles.{Settles, SolvesTree};
     ghost use Rattle.gui_layout.specs.Around.{IsFlat, IsFlatWithout, ReadsReaches};
     ghost use Rattle.gui_layout.specs.Raised.{rests_at};
@@ -284,14 +284,32 @@ impl Places {
         ensures most { most_marks marks.new ≡ most_marks marks.old }
         ensures limits { limits_of self.new ≡ limits_of self.old }
     {
-        marks.solved.clear();
-        self.settle_listed(
-            store,
-            marks.listed.as_slice(),
-            &mut marks.pending,
-            &mut marks.solved,
-        );
-        clear_marks(&mut marks.pending, &mut marks.listed);
+        self.settle_marks(store, marks, None);
+    }
+
+    /// Settles places that were settled for an earlier scene, from which this one differs in what is marked
+    /// alone, as [`Places::settle`] does. Where one object is marked alone, its parent moves no children and
+    /// these reach as far without it, no sibling is visited. The marks are let go, and they tell at which
+    /// objects trees were solved.
+    pub fn settle_again(&mut self, store: &Store, marks: &mut Marks)
+        requires limits { limits_of self.old ≡ (scene_of store.now).limits }
+        requires were { WereSettled self.old (scene_of store.now) (is_changed marks.old) (is_parent marks.old) }
+        ensures settled { AreSettled self.new (scene_of store.now) }
+        ensures tops { (u : ℕ) → 0 < times (solved_in marks.new) u → is_there (scene_of store.now) u ≡ true }
+        ensures whole { (k : ℕ) → is_there (scene_of store.now) k ≡ true → is_changed marks.old k ≡ true →
+            in_trees_at (handles_of (scene_of store.now).trees) (solved_in marks.new) k ≡ true }
+        ensures stays { (k : ℕ) → is_there (scene_of store.now) k ≡ true →
+            in_trees_at (handles_of (scene_of store.now).trees) (solved_in marks.new) k ≡ false →
+            place_at self.new k ≡ place_at self.old k }
+        ensures scrolls_stay { ScrollsStay self.old self.new (scene_of store.now)
+            (is_marked marks.old) (solved_in marks.new) }
+        ensures empty { (k : ℕ) → is_marked marks.new k ≡ false }
+        ensures count { mark_count marks.new ≡ 0 }
+        ensures most { most_marks marks.new ≡ most_marks marks.old }
+        ensures limits { limits_of self.new ≡ limits_of self.old }
+    {
+        let lone = lone_child(store.tree(), &self.entries, marks.listed.as_slice());
+        self.settle_marks(store, marks, lone);
     }
 
     /// Whether places that were settled stay so where the children of an object stand in another order, and
@@ -577,13 +595,45 @@ impl Places {
         renew_marked(store.tree(), &mut self.entries, store, marked, pending);
     }
 
-    /// Settles the places of a store in which marked objects alone may differ, each of which is listed.
+    /// Settles the places of a store in which marked objects alone may differ, and lets the marks go. The lone
+    /// one, if there is one, is all that is marked, and its siblings reach as far as is told.
+    fn settle_marks(&mut self, store: &Store, marks: &mut Marks, lone: Option<Handle>)
+        requires limits { limits_of self.old ≡ (scene_of store.now).limits }
+        requires but { AreRightBut self.old (scene_of store.now)
+            (in_marked (is_marked marks.old) (scene_of store.now)) (is_changed marks.old) (is_parent marks.old) }
+        requires alone { IfSome lone (λ h. marks.old.listed.items ≡ h ∷ []) }
+        requires without { IfSome lone (λ h. (q : ℕ) → parent_of (handles_of (scene_of store.now).trees) h.0 ≡ Some q →
+            IsFlatWithout (handles_of (scene_of store.now).trees) (layout_of self.old) h.0 q) }
+        ensures settles { SettlesMarks self.old self.new (scene_of store.now)
+            (is_marked marks.old) (is_changed marks.old) (is_parent marks.old) }
+        ensures moves { MovesAt self.old self.new (scene_of store.now) (is_changed marks.old) (solved_in marks.new) }
+        ensures scrolls { ScrollsStay self.old self.new (scene_of store.now)
+            (is_marked marks.old) (solved_in marks.new) }
+        ensures empty { (k : ℕ) → is_marked marks.new k ≡ false }
+        ensures count { mark_count marks.new ≡ 0 }
+        ensures most { most_marks marks.new ≡ most_marks marks.old }
+        ensures limits { limits_of self.new ≡ limits_of self.old }
+    {
+        marks.solved.clear();
+        self.settle_listed(
+            store,
+            marks.listed.as_slice(),
+            &mut marks.pending,
+            &mut marks.solved,
+            lone,
+        );
+        clear_marks(&mut marks.pending, &mut marks.listed);
+    }
+
+    /// Settles the places of a store in which marked objects alone may differ, each of which is listed. The lone
+    /// one, if there is one, is all that is listed, and its siblings reach as far as is told.
     fn settle_listed(
         &mut self,
         store: &Store,
         marked: &[Handle],
         pending: &mut Table<Mark>,
         solved: &mut Vec<Handle>,
+        lone: Option<Handle>,
     )
         requires limits { limits_of self.old ≡ (scene_of store.now).limits }
         requires marked { (k : ℕ) → 0 < times marked.now k → is_any (value_at pending.old k) ≡ true }
@@ -591,6 +641,9 @@ impl Places {
         requires but { AreRightBut self.old (scene_of store.now)
             (in_marked (is_marked_in pending.old) (scene_of store.now))
             (is_pending pending.old) (is_partly pending.old) }
+        requires alone { IfSome lone (λ h. marked.now ≡ h ∷ []) }
+        requires without { IfSome lone (λ h. (q : ℕ) → parent_of (handles_of (scene_of store.now).trees) h.0 ≡ Some q →
+            IsFlatWithout (handles_of (scene_of store.now).trees) (layout_of self.old) h.0 q) }
         requires empty { solved.old.items ≡ [] }
         requires room { length marked.now ≤ vec_capacity solved.old }
         ensures settles { SettlesMarks self.old self.new (scene_of store.now)
@@ -604,7 +657,6 @@ impl Places {
     {
         let tree = store.tree();
         raise_marks(tree, &self.entries, pending, marked);
-        let lone = lone_child(tree, &self.entries, marked);
         self.settle_changed(store, marked, pending, solved);
         self.renew_reaches(store, marked, solved.as_slice(), lone);
     }

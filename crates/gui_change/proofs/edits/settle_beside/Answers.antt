@@ -3,16 +3,13 @@ use Rattle.std.proofs.lemmas.Bool.{both_ways, eqb-true, false_from_ne_true}
 use Rattle.gui_store.specs.Views.{scene_of}
 use Rattle.gui_layout.specs.Listing.{times}
 use Rattle.gui_layout.specs.Marks.{is_changed, is_marked, is_parent, solved_in}
-use Rattle.gui_layout.specs.SettledBut.{AreSettledButMarks, anyone, in_marked}
-use Rattle.gui_layout.proofs.Before.{right_fewer}
 use Rattle.gui_change.proofs.BarsStay.{scrolls-same}
 use Rattle.gui_change.proofs.Edited.{other-kids}
 use Rattle.gui_change.proofs.Unmoved.{beside-reordered, beside-told}
 use Rattle.gui_change.proofs.edits.settle_beside.Goals as goal
-use Rattle.gui_change.proofs.edits.settle_beside.Goals.{After-mark_beside}
 
-right : (c : After-mark_beside) → AreSettledButMarks c.args.places.now (scene_of c.args.store.now) (is_changed c.mark_beside.new.marks) (is_parent c.mark_beside.new.marks)
-right c =
+pub settle_again-requires-clause-were : goal.settle_again-requires-clause-were
+settle_again-requires-clause-were c =
     let marks = c.mark_beside.new.marks in
     let p = c.args.parent in
     let it = c.requires.was in
@@ -41,27 +38,21 @@ returns-then-rests-clause-none c = record {
   most = c.solve_none.ensures.most ∙ c.requires.none.most;
 }
 
-pub settle-requires-clause-but : goal.settle-requires-clause-but
-settle-requires-clause-but c =
-    let scene = scene_of c.args.store.now in
-    let marks = c.mark_beside.new.marks in
-    right_fewer c.args.places.now scene anyone (in_marked (is_marked marks) scene) (is_changed marks) (is_parent marks) (λ k looked. refl) (right (goal.at.settle-requires-clause-but c).After-mark_beside).right
-
 pub returns-clause-settles : goal.returns-clause-settles
 returns-clause-settles c = record {
-  settled = c.settle.ensures.settled (right (goal.at.returns-clause-settles c).After-mark_beside);
-  limits = c.settle.ensures.limits;
-  there = c.settle.ensures.tops;
-  stays = c.settle.ensures.stays;
+  settled = c.settle_again.ensures.settled;
+  limits = c.settle_again.ensures.limits;
+  there = c.settle_again.ensures.tops;
+  stays = c.settle_again.ensures.stays;
 }
 
 pub returns-clause-none : goal.returns-clause-none
 returns-clause-none c = record {
-  none = c.settle.ensures.empty;
-  most = c.settle.ensures.most ∙ (c.mark_beside.ensures.most ∙ c.requires.none.most);
+  none = c.settle_again.ensures.empty;
+  most = c.settle_again.ensures.most ∙ (c.mark_beside.ensures.most ∙ c.requires.none.most);
 }
 
 pub returns-clause-scrolls : goal.returns-clause-scrolls
 returns-clause-scrolls c k there other out =
     let marks = c.mark_beside.new.marks in
-    scrolls-same c.args.places.now c.settle.new.self (scene_of c.args.store.now) (is_marked marks) (solved_in c.settle.new.marks) k c.settle.ensures.scrolls_stay there out (c.mark_beside.ensures.others k other)
+    scrolls-same c.args.places.now c.settle_again.new.self (scene_of c.args.store.now) (is_marked marks) (solved_in c.settle_again.new.marks) k c.settle_again.ensures.scrolls_stay there out (c.mark_beside.ensures.others k other)

@@ -29,7 +29,7 @@ use Rattle.gui_layout.proofs.Siblings.{around, one-only, one-times, without-kept
 use Rattle.std.proofs.lemmas.Bool.{cases_Bool, both_ways, false_from_ne_true}
 use Rattle.gui_base.specs.Forest.{Forest, StandsOnce, children_of, has, map_forest, parent_of}
 use Rattle.gui_base.specs.declared.Handle.{Handle}
-use Rattle.gui_layout.specs.Around.{SparesOne}
+use Rattle.gui_layout.specs.Around.{IsFlatWithout}
 use Rattle.gui_pool.specs.Table.{value_at}
 use Rattle.gui_store.specs.Views.{scene_of}
 use Rattle.scene_defs.specs.Scene.{handles_of}
@@ -126,10 +126,9 @@ renew_reaches-requires-clause-lone c h q lone only up =
     let d = (goal.at.renew_reaches-requires-clause-lone c).After-settle_changed in
     let g = f d in
     let old = c.args.self.now in
-    let forest = c.tree-tree.ensures.forest in
-    let alone : c.args.marked.now ≡ h ∷ [] = subst (λ (o : Option Handle). IfSome o (λ i. c.args.marked.now ≡ i ∷ [])) lone c.lone_child-lone.ensures.alone in
-    let spared : (p : ℕ) → parent_of c.tree-tree.result.now.forest h.0 ≡ Some p → SparesOne c.tree-tree.result.now.forest (layout_of old) h.0 p =
-    subst (λ (o : Option Handle). IfSome o (λ i. (p : ℕ) → parent_of c.tree-tree.result.now.forest i.0 ≡ Some p → SparesOne c.tree-tree.result.now.forest (layout_of old) i.0 p)) lone c.lone_child-lone.ensures.spared in
+    let alone : c.args.marked.now ≡ h ∷ [] = subst (λ (o : Option Handle). IfSome o (λ i. c.args.marked.now ≡ i ∷ [])) lone c.requires.alone in
+    let without : (p : ℕ) → parent_of g h.0 ≡ Some p → IsFlatWithout g (layout_of old) h.0 p =
+    subst (λ (o : Option Handle). IfSome o (λ i. (p : ℕ) → parent_of g i.0 ≡ Some p → IsFlatWithout g (layout_of old) i.0 p)) lone c.requires.without in
     let tops : c.settle_changed.new.solved.items ≡ h ∷ [] = sym c.as_slice.ensures.value ∙ only in
     let there : has g h.0 ≡ true = c.settle_changed.ensures.moves.tops h.0 (subst (λ us. 0 < times us h.0) (sym tops) (one-times h)) in
     let at = around g h.0 q (once d) there up in
@@ -140,8 +139,7 @@ renew_reaches-requires-clause-lone c h q lone only up =
     without-kept (scene d) old (mid d) (in_marked (w d) (scene d)) (is_pending c.args.pending.now) (is_partly c.args.pending.now) (n d) h q (once d)
     (subst (λ us. ScrollsAt old (mid d) (scene d) (n d) us) tops c.settle_changed.ensures.scrolls) there up c.requires.but (right-mid d (in_marked (w d) (scene d)) c.requires.but) looked
     (λ j kid. marked-closed (w d) q j g (distinct_once g (once d)) looked kid) (λ j other. false_from_ne_true (is_pending c.args.pending.now j) (λ is. both_ways (w d j) (un j other) (all-any (value_at c.args.pending.now j) is)))
-    (λ j other. false_from_ne_true (is_partly c.args.pending.now j) (λ is. both_ways (w d j) (un j other) (part-any (value_at c.args.pending.now j) is)))
-    (subst (λ (t : Forest ℕ). SparesOne t (layout_of old) h.0 q) forest (spared q (subst (λ (t : Forest ℕ). parent_of t h.0 ≡ Some q) (sym forest) up)))
+    (without q up)
 
 none-times : (m : ℕ) → (0 < m → ⊥) → m ≡ 0
 none-times zero not = refl

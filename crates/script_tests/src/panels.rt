@@ -1,5 +1,5 @@
 //! The areas in which a frame comes to a panel, and what a panel shows that was never sent anything.
-ghost use Rattle.std.specs.Prelude.{◌<◌};
+ghost use Rattle.std.specs.Prelude.{◌≡◌, ◌<◌};
 
 use gui_base::Rgb565;
 use gui_edge::{MemSink, SimPanel};
@@ -76,6 +76,18 @@ fn shown(panel: &ListingPanel<SimPanel<MemSink>>, x: u16, y: u16) -> Rgb565
     panel.panel.shown(x, y)
 }
 
+/// Whether each pixel of a panel of four by two shows what it did when it was opened.
+fn is_untouched(rt: &impl Abort, panel: &ListingPanel<SimPanel<MemSink>>)
+    requires width { panel.now.width ≡ 4 }
+    requires height { panel.now.height ≡ 2 }
+{
+    for y in 0..2 {
+        for x in 0..4 {
+            assert_eq!(rt; shown(panel, x, y), Rgb565(0xA5A5), "at {x}, {y}");
+        }
+    }
+}
+
 #[test]
 fn the_empty_script_leaves_the_panel_as_it_was_opened(rt: HostRuntime) -> Result<(), Fail> {
     let alloc = rt.alloc();
@@ -92,11 +104,7 @@ fn the_empty_script_leaves_the_panel_as_it_was_opened(rt: HostRuntime) -> Result
     assert_eq!(rt; outside.log.bytes(), &b""[..]);
     assert_eq!(rt; panel.width, 4);
     assert_eq!(rt; panel.height, 2);
-    for y in 0..2 {
-        for x in 0..4 {
-            assert_eq!(rt; shown(&panel, x, y), Rgb565(0xA5A5), "at {x}, {y}");
-        }
-    }
+    is_untouched(&rt, &panel);
     assert_eq!(rt; panel.panel.into_frames().bytes(), &b""[..]);
     Ok(())
 }

@@ -49,6 +49,17 @@ fn push_count(text: &mut Summary, words: &[u8], number: u32)
     push_number(text, number);
 }
 
+/// How many frames were done, and how many faulted, by the outcome of one line.
+fn ends_of(outcome: Option<Outcome>) -> (u32, u32)
+    ensures { result ≡ (done_in outcome, faults_in outcome) }
+{
+    match outcome {
+        Some(Outcome::Frame(FrameEnd::Done)) => (1, 0),
+        Some(Outcome::Frame(FrameEnd::Fault)) => (0, 1),
+        Some(Outcome::Pump(_)) | None => (0, 0),
+    }
+}
+
 /// A log of replies that nobody reads.
 #[derive(Drop)]
 struct Unheard;
@@ -98,15 +109,11 @@ impl Making {
         ensures frames { self.new.frames ≡ self.old.frames + done_in end.outcome }
         ensures faults { self.new.faults ≡ self.old.faults + faults_in end.outcome }
     {
+        let (done, faulted) = ends_of(end.outcome);
         self.lines += 1;
-        if end.refused {
-            self.refused += 1;
-        }
-        match end.outcome {
-            Some(Outcome::Frame(FrameEnd::Done)) => self.frames += 1,
-            Some(Outcome::Frame(FrameEnd::Fault)) => self.faults += 1,
-            Some(Outcome::Pump(_)) | None => {}
-        }
+        self.refused += if end.refused { 1 } else { 0 };
+        self.frames += done;
+        self.faults += faulted;
     }
 
     /// Answers a line that is no pump. Nobody reads its reply.

@@ -1,6 +1,6 @@
 //! A line that is refused for the last slot of a pool sends nothing: what was shown before stays.
 
-use crate::counting::run;
+use crate::running::run;
 use scene_run::Status;
 use std::alloc::Global;
 use std::process::Abort;

@@ -1,12 +1,13 @@
 //! Frames of objects after a start or a transfer that failed, and after changes of what is in flight. The logs
 //! that are expected come from a second implementation.
 
+use crate::running::Setup;
 use scene_run::Status;
 use std::alloc::{AllocError, Global};
 use std::process::Abort;
 use std::test::Fail;
 use test_runs::Fault::{self, Poll, Start};
-use test_runs::{Outside, WORDS};
+use test_runs::WORDS;
 
 /// A run of 4 by 2 pixels over objects in memory.
 struct Case {
@@ -45,17 +46,18 @@ fn frame_bytes(alloc: Global, frames: &[&str]) -> Result<Vec<u8>, AllocError> {
 /// Runs a case and compares.
 fn try_case(rt: &impl Abort, alloc: Global, case: &Case) -> Result<(), Fail> {
     let name = case.name;
-    let script = Vec::from_slice(alloc, case.script.as_bytes())?;
     let frames = frame_bytes(alloc, case.frames)?;
-    let moves = Vec::from_slice(alloc, case.moves)?;
-    let mut outside = Outside::with_moves(alloc, script, 64, case.faults, moves)?;
-    let status = outside.run(alloc, &WORDS);
-    assert_eq!(rt; outside.log.bytes(), case.log.as_bytes(), "{name}");
-    assert!(rt;
-        outside.panel.into_frames().bytes() == frames.as_slice(),
-        "{name}"
-    );
-    assert!(rt; status == case.status, "{name}");
+    let setup = Setup {
+        words: &WORDS,
+        script: case.script.as_bytes(),
+        piece: 64,
+        faults: case.faults,
+        moves: case.moves,
+    };
+    let ran = setup.run(alloc)?;
+    assert_eq!(rt; ran.log.bytes(), case.log.as_bytes(), "{name}");
+    assert!(rt; ran.frames.bytes() == frames.as_slice(), "{name}");
+    assert!(rt; ran.status == case.status, "{name}");
     Ok(())
 }
 

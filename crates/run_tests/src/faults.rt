@@ -1,11 +1,12 @@
 //! Runs in which calls on the outside fail. The bytes, statuses and counts that are expected come from a
 //! second implementation.
 
+use crate::running::Setup;
 use std::alloc::Global;
 use std::process::Abort;
 use std::test::Fail;
 use test_runs::Fault::{self, Frames, Log, Open, Poll, Read, Start};
-use test_runs::{Outside, WHITE_FRAME, WORDS};
+use test_runs::{WHITE_FRAME, WORDS};
 
 /// Whether the bytes are `whole` white frames and, where `part` is set, the first bytes of a further one.
 fn are_white_frames(bytes: &[u8], whole: usize, part: bool) -> bool {
@@ -230,13 +231,18 @@ const PUMPS: &[Case] = &[
 /// Runs a case and compares.
 fn try_case(rt: &impl Abort, alloc: Global, case: &Case) -> Result<(), Fail> {
     let (script, piece, faults, status, log, whole, part, sent) = *case;
-    let script = Vec::from_slice(alloc, script)?;
-    let mut outside = Outside::new(alloc, script, piece, faults)?;
-    assert_eq!(rt; outside.run(alloc, &WORDS) as u8, status, "{faults:?}");
-    assert_eq!(rt; outside.log.bytes(), log.as_bytes(), "{faults:?}");
-    assert_eq!(rt; outside.panel.sent(), sent, "{faults:?}");
-    let frames = outside.panel.into_frames();
-    assert!(rt; are_white_frames(frames.bytes(), whole, part), "{faults:?}");
+    let setup = Setup {
+        words: &WORDS,
+        script,
+        piece,
+        faults,
+        moves: &[],
+    };
+    let ran = setup.run(alloc)?;
+    assert_eq!(rt; ran.status as u8, status, "{faults:?}");
+    assert_eq!(rt; ran.log.bytes(), log.as_bytes(), "{faults:?}");
+    assert_eq!(rt; ran.sent, sent, "{faults:?}");
+    assert!(rt; are_white_frames(ran.frames.bytes(), whole, part), "{faults:?}");
     Ok(())
 }
 

@@ -1,6 +1,6 @@
 //! How many pixels come to the panel by each frame.
 
-use crate::counting::run;
+use crate::running::run;
 use scene_run::Status;
 use std::alloc::Global;
 use std::process::Abort;
@@ -103,10 +103,8 @@ fn a_text_or_a_value_sends_the_places_of_its_object(rt: HostRuntime) -> Result<(
     try_case(&rt, rt.alloc(), &VALUES)
 }
 
-/// 33 objects of a pixel, with a pixel between each two, become black: one area more than the list has room for.
-#[test]
-fn a_list_that_overflows_sends_the_panel(rt: HostRuntime) -> Result<(), Fail> {
-    let alloc = rt.alloc();
+/// A script that makes 33 objects of a pixel, with a pixel between each two, asks for a frame, turns them black and asks again.
+fn black_dots(alloc: Global) -> Result<String, Fail> {
     let mut script = String::new(alloc);
     for i in 0_i32..33 {
         let h = i.wrapping_add(10);
@@ -122,7 +120,14 @@ fn a_list_that_overflows_sends_the_panel(rt: HostRuntime) -> Result<(), Fail> {
         script.push_str(line.as_str())?;
     }
     script.push_str("frame\n")?;
-    let ran = run(alloc, &["66", "1", "1"], script.as_bytes(), &[])?;
+    Ok(script)
+}
+
+/// One area more is black than the list has room for.
+#[test]
+fn a_list_that_overflows_sends_the_panel(rt: HostRuntime) -> Result<(), Fail> {
+    let script = black_dots(rt.alloc())?;
+    let ran = run(rt.alloc(), &["66", "1", "1"], script.as_bytes(), &[])?;
     assert!(rt; ran.status == Status::Done);
     assert_eq!(rt; ran.counts.as_slice(), [66, 66].as_slice());
     Ok(())

@@ -1,11 +1,11 @@
 //! Made scripts over calls on the outside that fail. The statuses, logs and sums that are expected come from
 //! a second implementation.
 
+use crate::running::Setup;
 use std::alloc::Global;
 use std::process::Abort;
 use std::test::Fail;
 use test_runs::Fault::{self, Frames, Log, Read, Start};
-use test_runs::Outside;
 
 /// A made script on 4 by 2 pixels, in slices of one line.
 const WORDS: [&str; 4] = ["4", "2", "1", "make=1"];
@@ -32,15 +32,17 @@ const CASES: &[Case] = &[
 /// Runs a case and compares.
 fn try_case(rt: &impl Abort, alloc: Global, case: &Case) -> Result<(), Fail> {
     let (faults, status, log, frames) = *case;
-    let script = Vec::from_slice(alloc, b"a script that nobody reads")?;
-    let mut outside = Outside::new(alloc, script, 64, faults)?;
-    assert_eq!(rt; outside.run(alloc, &WORDS) as u8, status, "{faults:?}");
-    assert_eq!(rt; outside.log.bytes(), log.as_bytes(), "{faults:?}");
-    assert_eq!(rt;
-        outside.panel.into_frames().bytes().len(),
-        frames,
-        "{faults:?}"
-    );
+    let setup = Setup {
+        words: &WORDS,
+        script: b"a script that nobody reads",
+        piece: 64,
+        faults,
+        moves: &[],
+    };
+    let ran = setup.run(alloc)?;
+    assert_eq!(rt; ran.status as u8, status, "{faults:?}");
+    assert_eq!(rt; ran.log.bytes(), log.as_bytes(), "{faults:?}");
+    assert_eq!(rt; ran.frames.bytes().len(), frames, "{faults:?}");
     Ok(())
 }
 

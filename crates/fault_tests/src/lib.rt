@@ -1,7 +1,0 @@
-//! Tests of whole runs in which calls on the outside fail.
-#![tactic(auto)]
-
-#[cfg(test)]
-mod faults;
-#[cfg(test)]
-mod made;

@@ -1,0 +1,20 @@
+//! Tests of whole runs: over a panel that lists what it is asked to start, with calls on the outside that fail, of
+//! what is sent by each frame, and of the laws of the language.
+#![tactic(auto)]
+
+#[cfg(test)]
+mod faults;
+#[cfg(test)]
+mod frames;
+#[cfg(test)]
+mod last_slots;
+#[cfg(test)]
+mod laws;
+#[cfg(test)]
+mod made;
+#[cfg(test)]
+mod panels;
+#[cfg(test)]
+mod running;
+#[cfg(test)]
+mod scenes;

@@ -1,0 +1,76 @@
+//! The areas in which a frame comes to a panel, and what a panel shows that was never sent anything.
+
+use crate::running::run;
+use scene_run::Status;
+use std::alloc::Global;
+use std::process::Abort;
+use std::test::Fail;
+use test_runs::Fault::{self, Start};
+use test_runs::{WHITE_FRAME, WORDS};
+
+/// Whether a script of which a frame is done starts these areas, has this log, and presents one white frame.
+fn starts(
+    rt: &impl Abort,
+    alloc: Global,
+    script: &[u8],
+    faults: &[Fault],
+    log: &str,
+    corners: &[[i32; 4]],
+) -> Result<(), Fail> {
+    let ran = run(alloc, &WORDS, script, faults)?;
+    let status = if faults.is_empty() {
+        Status::Done
+    } else {
+        Status::Noted
+    };
+    assert!(rt; ran.status == status);
+    assert_eq!(rt; ran.log.bytes(), log.as_bytes());
+    assert_eq!(rt; ran.starts.as_slice(), corners);
+    assert_eq!(rt; ran.frames.bytes(), WHITE_FRAME);
+    Ok(())
+}
+
+#[test]
+fn two_slices_of_a_white_frame(rt: HostRuntime) -> Result<(), Fail> {
+    starts(
+        &rt,
+        rt.alloc(),
+        b"frame",
+        &[],
+        "1 frame 1 done\n",
+        &[[0, 0, 3, 0], [0, 1, 3, 1]],
+    )
+}
+
+#[test]
+fn a_slice_whose_start_failed_is_started_again(rt: HostRuntime) -> Result<(), Fail> {
+    starts(
+        &rt,
+        rt.alloc(),
+        b"frame\nframe\n",
+        &[Start(2)],
+        "1 frame 1 fault\n2 frame 2 done\n",
+        &[[0, 0, 3, 0], [0, 1, 3, 1], [0, 1, 3, 1]],
+    )
+}
+
+#[test]
+fn the_empty_script_leaves_the_panel_as_it_was_opened(rt: HostRuntime) -> Result<(), Fail> {
+    let ran = run(rt.alloc(), &WORDS, b"", &[])?;
+    assert!(rt; ran.status == Status::Done);
+    assert_eq!(rt; ran.log.bytes(), &b""[..]);
+    assert_eq!(rt; ran.shown.as_slice(), [0xA5A5; 8].as_slice());
+    assert_eq!(rt; ran.frames.bytes(), &b""[..]);
+    Ok(())
+}
+
+#[test]
+fn a_pixel_that_changes_is_sent_with_its_block(rt: HostRuntime) -> Result<(), Fail> {
+    let script = b"new 10 3 obj\nsize 10 1 1\npos 10 5 1\nlocal 10 main bg_opa 255\nframe\n\
+        local 10 main bg_color #FF0000\nframe\n";
+    let ran = run(rt.alloc(), &["8", "4", "4", "block=4x2"], script, &[])?;
+    assert!(rt; ran.status == Status::Done);
+    assert_eq!(rt; ran.starts.as_slice(), &[[0, 0, 7, 3], [4, 0, 7, 1]][..]);
+    assert_eq!(rt; ran.sent, 40);
+    Ok(())
+}

@@ -1,0 +1,93 @@
+//! Runs over a panel in memory that lists what it is sent, and what they came to.
+
+use arrayvec::ArrayVec;
+use gui_edge::{MemSink, SimPanel};
+use scene_run::Status;
+use std::alloc::Global;
+use std::test::Fail;
+use test_panels::ListingPanel;
+use test_runs::{Fault, Outside, run_over};
+
+/// What a run is made of, and what fails in it.
+#[derive(Clone, Copy)]
+pub(crate) struct Setup<'a> {
+    pub(crate) words: &'a [&'a str],
+    pub(crate) script: &'a [u8],
+    /// How many bytes a read gives at most.
+    pub(crate) piece: usize,
+    pub(crate) faults: &'a [Fault],
+    /// How many pixels each of the first polls moves; each later one moves all.
+    pub(crate) moves: &'a [u32],
+}
+
+/// What a run came to.
+#[derive(Drop)]
+pub(crate) struct Ran {
+    pub(crate) status: Status,
+    pub(crate) log: MemSink,
+    /// The files of the presented frames.
+    pub(crate) frames: MemSink,
+    /// The corners of the areas that the panel was asked to start.
+    pub(crate) starts: ArrayVec<[i32; 4], 16>,
+    /// How many pixels were sent for each presented frame, after the one before.
+    pub(crate) counts: ArrayVec<u64, 8>,
+    /// How many were sent in all.
+    pub(crate) sent: u64,
+    /// The bits of the colours that the first pixels of the panel show at the end, row by row: none where it was not opened.
+    pub(crate) shown: ArrayVec<u16, 8>,
+}
+
+/// The colours of the first pixels of a panel, as their bits.
+fn shown_by(panel: &ListingPanel<SimPanel<MemSink>>) -> ArrayVec<u16, 8> {
+    let mut shown = ArrayVec::new();
+    for y in 0..panel.height {
+        for x in 0..panel.width {
+            let _ = shown.try_push(panel.panel.shown(x, y).0);
+        }
+    }
+    shown
+}
+
+impl Setup<'_> {
+    /// What the run comes to.
+    pub(crate) fn run(&self, alloc: Global) -> Result<Ran, Fail> {
+        let script = Vec::from_slice(alloc, self.script)?;
+        let moves = Vec::from_slice(alloc, self.moves)?;
+        let mut outside = Outside::with_moves(alloc, script, self.piece, self.faults, moves)?;
+        let mut panel = ListingPanel::new(outside.panel);
+        let status = run_over(
+            alloc,
+            self.words,
+            &mut outside.source,
+            &mut outside.log,
+            &mut panel,
+        );
+        let shown = shown_by(&panel);
+        Ok(Ran {
+            status,
+            log: outside.log,
+            starts: panel.starts,
+            counts: panel.counts,
+            sent: panel.panel.sent(),
+            shown,
+            frames: panel.panel.into_frames(),
+        })
+    }
+}
+
+/// Runs a script, read whole, with these words, over a panel that is always ready, of which these calls fail.
+pub(crate) fn run(
+    alloc: Global,
+    words: &[&str],
+    script: &[u8],
+    faults: &[Fault],
+) -> Result<Ran, Fail> {
+    let setup = Setup {
+        words,
+        script,
+        piece: 4096,
+        faults,
+        moves: &[],
+    };
+    setup.run(alloc)
+}

@@ -2,7 +2,7 @@
 use Rattle.std.proofs.Common.{◌≡◌, ◌∙◌, sym, refl, ℕ, ◌+◌, ◌<◌, true, eqb, cond, List, [], ◌∷◌, length, arith}
 use Rattle.std.proofs.lemmas.Bool.Decides.{nat_tests}
 use Rattle.gui_base.specs.declared.Handle.{Handle}
-use Rattle.gui_layout.specs.Listing.{times, HasThese}
+use Rattle.gui_boxes.specs.Listing.{times, HasThese}
 use Rattle.gui_pool.specs.Table.{Table}
 use Rattle.gui_tree.specs.Handles.{numbers}
 use Rattle.debt_defs.specs.SceneLook.{is_among}

@@ -18,13 +18,13 @@ use Rattle.scene_defs.specs.Visible.{shown_trees}
 use Rattle.scene_defs.proofs.Handles.{has-handles}
 use Rattle.debt_defs.proofs.Inside.{among-handles}
 use Rattle.debt_defs.proofs.SameTrees.{made-path}
-use Rattle.gui_layout.specs.Listing.{times}
+use Rattle.gui_boxes.specs.Listing.{times}
 use Rattle.gui_layout.specs.Scenes.{scene_box}
 use Rattle.gui_layout.specs.Solved.{AreSettled, place_at}
 use Rattle.gui_layout.specs.Tops.{in_trees_at}
 use Rattle.gui_layout.specs.declared.places.Places.{Places}
 use Rattle.gui_layout.proofs.Climbing.{is_above}
-use Rattle.gui_layout.proofs.These.{has-times, has_value}
+use Rattle.gui_boxes.proofs.These.{has-times, has_value}
 use Rattle.gui_debts.specs.Seen.{IsSeen}
 use Rattle.gui_debts.specs.Sights.{KeepOthers}
 use Rattle.gui_debts.specs.declared.concerned.Concerned.{Concerned}

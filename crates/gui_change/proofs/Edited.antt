@@ -19,13 +19,13 @@ use Rattle.debt_defs.specs.SceneLook.{is_among}
 use Rattle.debt_defs.proofs.Inside.{there-tree}
 use Rattle.debt_defs.proofs.Moved.{IsTreeAt, lies-in-tree}
 use Rattle.gui_layout.specs.Marked.{is_root}
-use Rattle.gui_layout.specs.Marks.{is_changed, is_marked, is_parent}
+use Rattle.gui_boxes.specs.Marks.{is_changed, is_marked, is_parent}
 use Rattle.gui_layout.specs.SettledBut.{AreSettledButMarks}
-use Rattle.gui_layout.specs.declared.marks.Marks.{Marks}
+use Rattle.gui_boxes.specs.declared.marks.Marks.{Marks}
 use Rattle.gui_layout.specs.declared.places.Places.{Places}
 use Rattle.gui_layout.proofs.Entering.{few}
-use Rattle.gui_layout.proofs.Pendings.{any-part}
-use Rattle.gui_layout.proofs.These.{length-preorder}
+use Rattle.gui_boxes.proofs.Pendings.{any-part}
+use Rattle.gui_boxes.proofs.These.{length-preorder}
 use Rattle.gui_debts.specs.Concerned.{is_below}
 use Rattle.gui_change.specs.Edits.{WasEdited}
 use Rattle.gui_debts.specs.Edits.{beside, edit_of}

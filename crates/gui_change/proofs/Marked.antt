@@ -7,8 +7,8 @@ use Rattle.gui_base.specs.declared.Handle.{Handle}
 use Rattle.gui_style.specs.Styles.{is_handle, uses_style}
 use Rattle.scene_defs.specs.Scene.{Scene, handles_of, is_there}
 use Rattle.scene_defs.specs.Valid.{IsValid}
-use Rattle.gui_layout.specs.Marks.{most_marks}
-use Rattle.gui_layout.specs.declared.marks.Marks.{Marks}
+use Rattle.gui_boxes.specs.Marks.{most_marks}
+use Rattle.gui_boxes.specs.declared.marks.Marks.{Marks}
 use Rattle.gui_tree.proofs.Parts.{IsDistinct, distinct_once, other_than}
 use Rattle.gui_layout.proofs.Settling.{tree-in, tree-there}
 use Rattle.gui_debts.specs.Concerned.{is_below, is_below_user}

@@ -6,15 +6,15 @@ use Rattle.gui_base.specs.Forest.{Forest, has, size}
 use Rattle.gui_base.specs.declared.Handle.{Handle}
 use Rattle.scene_defs.specs.Scene.{Scene, handles_of}
 use Rattle.scene_defs.specs.Valid.{IsValid}
-use Rattle.gui_layout.specs.Listing.{times}
+use Rattle.gui_boxes.specs.Listing.{times}
 use Rattle.gui_pool.specs.Table.{value_at}
-use Rattle.gui_layout.specs.Marks.{is_changed, is_marked, is_parent, mark_count, most_marks}
-use Rattle.gui_layout.specs.Pending.{is_any}
-use Rattle.gui_layout.specs.declared.mark.Mark.{Mark}
-use Rattle.gui_layout.specs.declared.marks.Marks.{Marks}
-use Rattle.gui_layout.proofs.Adding.{listed-fewer}
+use Rattle.gui_boxes.specs.Marks.{is_changed, is_marked, is_parent, mark_count, most_marks}
+use Rattle.gui_boxes.specs.Pending.{is_any}
+use Rattle.gui_boxes.specs.declared.mark.Mark.{Mark}
+use Rattle.gui_boxes.specs.declared.marks.Marks.{Marks}
+use Rattle.gui_boxes.proofs.Adding.{listed-fewer}
 use Rattle.gui_layout.proofs.Entering.{few}
-use Rattle.gui_layout.proofs.Pendings.{all-any, any-part, part-any, times-marked}
+use Rattle.gui_boxes.proofs.Pendings.{all-any, any-part, part-any, times-marked}
 use Rattle.gui_change.specs.Marking.{AlsoMarks, AreMarked, AreUnmarked}
 
 -- What is marked lies in these trees, and one more object does: so one more may be marked.

@@ -3,8 +3,8 @@ use Rattle.std.proofs.Common.{◌≡◌, ◌∙◌, sym, ap, subst, refl, ℕ, �
 use Rattle.std.specs.List.{filter}
 use Rattle.std.proofs.lemmas.Bool.{both_ways, cases_Bool, eqb-true}
 use Rattle.gui_base.specs.declared.Handle.{Handle}
-use Rattle.gui_layout.specs.Listing.{times, value_count, AreProper, HasThese}
-use Rattle.gui_layout.proofs.These.{HasBut, none_of}
+use Rattle.gui_boxes.specs.Listing.{times, value_count, AreProper, HasThese}
+use Rattle.gui_boxes.proofs.These.{HasBut, none_of}
 use Rattle.gui_pool.specs.Table.{Table, value_at}
 use Rattle.gui_tree.specs.Handles.{numbers}
 use Rattle.scene_defs.specs.Scene.{Scene}

@@ -7,8 +7,8 @@ use Rattle.std.proofs.lemmas.Bool.Decides.{nat_tests}
 use Rattle.std.proofs.lemmas.List.Sorted.{IsPermutation-append_comm, IsPermutation-append_left, IsPermutation-append_right, IsPermutation-refl, IsPermutation-trans}
 use Rattle.gui_base.specs.Area.{Rect}
 use Rattle.gui_base.specs.declared.Handle.{Handle}
-use Rattle.gui_layout.specs.Listing.{times}
-use Rattle.gui_layout.proofs.These.{times_of}
+use Rattle.gui_boxes.specs.Listing.{times}
+use Rattle.gui_boxes.proofs.These.{times_of}
 use Rattle.gui_tree.specs.Handles.{numbers}
 
 pub same-order : {X : Type 0} (xs ys : List X) → xs ≡ ys → IsPermutation xs ys

@@ -8,8 +8,8 @@ use Rattle.std.proofs.lemmas.List.Sums.{fold-append}
 use Rattle.gui_base.specs.Area.{Rect}
 use Rattle.gui_base.specs.declared.Handle.{Handle}
 use Rattle.gui_damage.specs.Gridded.{GridList, added_all_in, added_in}
-use Rattle.gui_layout.specs.Listing.{times, value_count, HasThese}
-use Rattle.gui_layout.proofs.These.{value-set, within_of}
+use Rattle.gui_boxes.specs.Listing.{times, value_count, HasThese}
+use Rattle.gui_boxes.proofs.These.{value-set, within_of}
 use Rattle.gui_pool.specs.Table.{Table, value_at, value_inserted, value_removed}
 use Rattle.gui_tree.specs.Handles.{numbers}
 use Rattle.widget_defs.specs.Items.{Item}

@@ -12,9 +12,9 @@ use Rattle.gui_base.specs.Forest.{count, has}
 use Rattle.gui_base.specs.declared.Handle.{Handle}
 use Rattle.gui_base.proofs.Visits.{count-has, count-off}
 use Rattle.gui_damage.specs.Gridded.{GridList, added_all_in, added_in}
-use Rattle.gui_layout.specs.Listing.{times}
-use Rattle.gui_layout.specs.Tables.{Listing, listing_of}
-use Rattle.gui_layout.proofs.These.{times_of, times-preorder}
+use Rattle.gui_boxes.specs.Listing.{times}
+use Rattle.gui_boxes.specs.Tables.{Listing, listing_of}
+use Rattle.gui_boxes.proofs.These.{times_of, times-preorder}
 use Rattle.gui_pool.specs.Table.{Table, value_at}
 use Rattle.gui_tree.specs.Handles.{numbers}
 use Rattle.scene_defs.specs.Scene.{Scene, handles_of}

@@ -9,9 +9,9 @@ use Rattle.gui_base.specs.Area.{Rect}
 use Rattle.gui_base.specs.Forest.{Forest, StandsOnce, has, parent_of, tree_at}
 use Rattle.gui_base.specs.declared.Handle.{Handle}
 use Rattle.gui_damage.specs.Gridded.{GridList}
-use Rattle.gui_layout.specs.Listing.{HasThese}
+use Rattle.gui_boxes.specs.Listing.{HasThese}
 use Rattle.gui_layout.proofs.Settling.{tree-there}
-use Rattle.gui_layout.proofs.These.{has_value}
+use Rattle.gui_boxes.proofs.These.{has_value}
 use Rattle.gui_pool.specs.Table.{Table, value_at}
 use Rattle.gui_style.specs.Styles.{uses_style}
 use Rattle.gui_tree.specs.Handles.{as_handle, numbers}

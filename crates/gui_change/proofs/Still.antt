@@ -19,7 +19,7 @@ use Rattle.scene_defs.specs.Styling.{Styling}
 use Rattle.scene_defs.specs.Valid.{IsValid}
 use Rattle.debt_defs.specs.Orders.{leaves_trees}
 use Rattle.debt_defs.proofs.Kept.{setters_keep_order}
-use Rattle.gui_layout.specs.Listing.{times, value_count}
+use Rattle.gui_boxes.specs.Listing.{times, value_count}
 use Rattle.gui_layout.specs.Scenes.{scene_box}
 use Rattle.gui_layout.specs.Solved.{AreSettled, place_at}
 use Rattle.gui_layout.specs.Tops.{in_trees_at}

@@ -34,9 +34,9 @@ use Rattle.debt_defs.proofs.SameTrees.{deleted-path, end-path, index-path, made-
 use Rattle.gui_layout.specs.Scenes.{scene_box}
 use Rattle.gui_layout.specs.SettledBut.{AreSettledButMarks, HasKids, IsReordered, IsUnmoved, WereSettled, nobody}
 use Rattle.gui_layout.specs.Solved.{place_at}
-use Rattle.gui_layout.specs.Tables.{area_in}
-use Rattle.gui_layout.specs.Views.{no_box}
-use Rattle.gui_layout.specs.declared.entry.Entry.{Entry}
+use Rattle.gui_boxes.specs.Tables.{area_in}
+use Rattle.gui_boxes.specs.Views.{no_box}
+use Rattle.gui_boxes.specs.declared.entry.Entry.{Entry}
 use Rattle.gui_layout.specs.declared.places.Places.{Places}
 use Rattle.gui_layout.proofs.Before.{settled_but_marks}
 use Rattle.gui_tree.proofs.Parts.{distinct_once as handles-distinct}

@@ -3,7 +3,7 @@ use Rattle.std.specs.Prelude.{◌<◌, ℕ, Bool, if◌then◌else◌, List, [],
 use Rattle.std.specs.declared.option.Option.{Option}
 use Rattle.gui_base.specs.Area.{Rect}
 use Rattle.gui_base.specs.declared.Handle.{Handle}
-use Rattle.gui_layout.specs.Listing.{HasThese, times}
+use Rattle.gui_boxes.specs.Listing.{HasThese, times}
 use Rattle.gui_pool.specs.Table.{Table, value_at}
 use Rattle.scene_defs.specs.Scene.{Scene}
 use Rattle.scene_defs.specs.Shown.{order}

@@ -4,13 +4,13 @@ use Rattle.gui_base.specs.Forest.{Forest, has, size}
 use Rattle.gui_base.specs.declared.Handle.{Handle}
 use Rattle.scene_defs.specs.declared.Change.{Change}
 use Rattle.scene_defs.specs.Scene.{Scene, handles_of, is_there}
-use Rattle.gui_layout.specs.Listing.{times}
+use Rattle.gui_boxes.specs.Listing.{times}
 use Rattle.gui_layout.specs.Scenes.{scene_box}
 use Rattle.gui_layout.specs.Solved.{AreSettled, limits_of, offset_at, place_at, reach_at}
 use Rattle.gui_layout.specs.Tops.{in_trees_at}
-use Rattle.gui_layout.specs.declared.marks.Marks.{Marks}
+use Rattle.gui_boxes.specs.declared.marks.Marks.{Marks}
 use Rattle.gui_layout.specs.declared.places.Places.{Places}
-use Rattle.gui_layout.specs.Marks.{is_changed, is_marked, is_parent, most_marks}
+use Rattle.gui_boxes.specs.Marks.{is_changed, is_marked, is_parent, most_marks}
 use Rattle.gui_layout.specs.SettledBut.{WereSettled}
 use Rattle.gui_change.specs.Edits.{WasEdited}
 use Rattle.gui_debts.specs.declared.concerned.Concerned.{Concerned}

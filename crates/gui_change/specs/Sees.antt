@@ -8,7 +8,7 @@ use Rattle.gui_base.specs.Area.{Rect}
 use Rattle.gui_base.specs.Forest.{parent_of}
 use Rattle.gui_base.specs.declared.Handle.{Handle}
 use Rattle.gui_damage.specs.Gridded.{GridList, added_all_in}
-use Rattle.gui_layout.specs.Tables.{listing_of}
+use Rattle.gui_boxes.specs.Tables.{listing_of}
 use Rattle.gui_pool.specs.Table.{Table, value_at}
 use Rattle.scene_defs.specs.Scene.{Scene, handles_of}
 use Rattle.scene_defs.specs.Shown.{order}

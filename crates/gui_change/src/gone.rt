@@ -3,7 +3,7 @@ ghost use Rattle.std.specs.Prelude.{◌≡◌, ◌==◌, ◌||◌, ℕ, Some, No
 ghost use Rattle.std.specs.List.{flat_map};
 ghost use Rattle.gui_base.specs.Forest.{parent_of};
 ghost use Rattle.gui_damage.specs.Gridded.{added_all_in};
-ghost use Rattle.gui_layout.specs.Listing.{HasThese};
+ghost use Rattle.gui_boxes.specs.Listing.{HasThese};
 ghost use Rattle.gui_pool.specs.Table.{value_at};
 ghost use Rattle.gui_store.specs.Views.{scene_of};
 ghost use Rattle.gui_tree.specs.Handles.{numbers};
@@ -15,9 +15,9 @@ ghost use Rattle.gui_debts.specs.Owed.{sight_of};
 ghost use Rattle.gui_debts.specs.Sights.{KeepOthers};
 
 use gui_base::{Grid, Handle};
+use gui_boxes::listing::put;
 use gui_damage::Damage;
 use gui_debts::{Concerned, Seen, is_named, owe};
-use gui_layout::put;
 use gui_pool::Table;
 use gui_store::{SYSTEM_LAYER, Store, TOP_LAYER};
 

@@ -2,7 +2,7 @@
 ghost use Rattle.std.specs.Prelude.{◌≤◌, ◌<◌, ◌+◌, length, List, Some, ◌≡◌, ◌==◌, ◌&&◌, ℕ, true, false, eqb};
 ghost use Rattle.std.specs.Option.{ForSome};
 ghost use Rattle.gui_base.specs.Forest.{has, tree_at};
-ghost use Rattle.gui_layout.specs.Marks.{is_changed, is_marked, mark_count, most_marks};
+ghost use Rattle.gui_boxes.specs.Marks.{is_changed, is_marked, mark_count, most_marks};
 ghost use Rattle.gui_store.specs.Views.{removed_of, scene_of};
 ghost use Rattle.gui_style.specs.Styles.{uses_style};
 ghost use Rattle.gui_tree.specs.Handles.{numbers};
@@ -14,8 +14,8 @@ ghost use Rattle.gui_debts.specs.Edits.{is_gone};
 ghost use Rattle.gui_debts.specs.declared.edit.Edit.{Edit};
 
 use gui_base::Handle;
+use gui_boxes::marks::Marks;
 use gui_debts::{Concerned, moves_nobody};
-use gui_layout::Marks;
 use gui_store::Store;
 use gui_tree::{Children, Tree};
 use scene_defs::Change;

@@ -3,7 +3,7 @@ ghost use Rattle.std.specs.Prelude.{◌≡◌, ◌≤◌, ◌<◌, ◌+◌, ◌*
 ghost use Rattle.debt_defs.specs.Debt.{touched_areas};
 ghost use Rattle.debt_defs.specs.Same.{same_item};
 ghost use Rattle.debt_defs.specs.Scenes.{look_of};
-ghost use Rattle.gui_layout.specs.Listing.{HasThese, times};
+ghost use Rattle.gui_boxes.specs.Listing.{HasThese, times};
 ghost use Rattle.gui_layout.specs.Tops.{in_trees_at};
 ghost use Rattle.gui_pool.specs.Table.{value_at};
 ghost use Rattle.gui_store.specs.Views.{scene_of};

@@ -6,7 +6,7 @@ ghost use Rattle.std.specs.Prelude.{◌≡◌, ◌≤◌, ◌<◌, ◌*◌, ◌=
 ghost use Rattle.std.specs.List.{flat_map};
 ghost use Rattle.debt_defs.specs.Debt.{is_named};
 ghost use Rattle.gui_base.specs.Forest.{has, tree_at};
-ghost use Rattle.gui_layout.specs.Listing.{HasThese, times};
+ghost use Rattle.gui_boxes.specs.Listing.{HasThese, times};
 ghost use Rattle.gui_pool.specs.Table.{value_at};
 ghost use Rattle.gui_store.specs.Views.{scene_of};
 ghost use Rattle.gui_style.specs.Styles.{uses_style};

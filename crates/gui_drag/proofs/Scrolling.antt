@@ -6,7 +6,7 @@ use Rattle.std.proofs.lemmas.Bool.{cases_Bool, eqb-true}
 use Rattle.gui_base.specs.Forest.{Forest, Empty, Tree, has_by}
 use Rattle.gui_base.specs.declared.Handle.{Handle}
 use Rattle.gui_base.specs.declared.words.Flag.TheVariants.{Scrollable}
-use Rattle.gui_layout.specs.Scrolls.{span_from}
+use Rattle.gui_boxes.specs.Scrolls.{span_from}
 use Rattle.gui_tree.specs.Handles.{as_handle}
 use Rattle.gui_tree.specs.Walks.{line_of}
 use Rattle.run_defs.specs.Dragging.{along, pair_of, put_scroll, put_scroll_in, reach_of}

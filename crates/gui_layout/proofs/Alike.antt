@@ -9,11 +9,11 @@ use Rattle.layout_defs.specs.Solving.{Tall, Slot, Room, Span, far_end, end_acros
 use Rattle.layout_defs.proofs.Boxes.{map-map}
 use Rattle.layout_defs.proofs.OwnHeights.{far_end-but, kid_reach-but, roots-map}
 use Rattle.gui_layout.specs.Marked.{is_root}
-use Rattle.gui_layout.specs.Scrolls.{Scrolled, HoldsScrolls, scrolled_at, scrolled_by, scrolled_in}
+use Rattle.gui_boxes.specs.Scrolls.{Scrolled, HoldsScrolls, scrolled_at, scrolled_by, scrolled_in}
 use Rattle.gui_layout.specs.Scrolled.{IsScrolled, IsScrolledIn}
-use Rattle.gui_layout.specs.Settled.{Layout, known_at, tall_of}
-use Rattle.gui_layout.specs.Slots.{slot_at, talls, tall_at}
-use Rattle.gui_layout.proofs.Fitting.{tall_roots}
+use Rattle.gui_boxes.specs.Settled.{Layout, known_at, tall_of}
+use Rattle.gui_boxes.specs.Slots.{slot_at, talls, tall_at}
+use Rattle.gui_boxes.proofs.Fitting.{tall_roots}
 use Rattle.gui_tree.proofs.Parts.{IsDistinct, distinct-part, found, there}
 use Rattle.gui_layout.proofs.Settling.{tree-in}
 

@@ -3,10 +3,10 @@ use Rattle.std.proofs.Common.{◌≡◌, refl, ap, ℕ}
 use Rattle.layout_defs.specs.Boxes.{Box, size_in}
 use Rattle.layout_defs.specs.OwnHeights.{but_height}
 use Rattle.layout_defs.specs.Solving.{own_slot}
-use Rattle.gui_layout.specs.declared.frame.Frame.{Frame}
-use Rattle.gui_layout.specs.declared.frame.Frame.TheVariants.{Panel, Content}
-use Rattle.gui_layout.specs.Frames.{framed_width, framed_slot}
-use Rattle.gui_layout.specs.Slots.{room_in}
+use Rattle.gui_boxes.specs.declared.frame.Frame.{Frame}
+use Rattle.gui_boxes.specs.declared.frame.Frame.TheVariants.{Panel, Content}
+use Rattle.gui_boxes.specs.Frames.{framed_width, framed_slot}
+use Rattle.gui_boxes.specs.Slots.{room_in}
 
 -- Their own heights, and their handles, do not matter.
 pub same_width : (frame : Frame) (b c : Box) (h n : ℕ) → but_height b ≡ but_height c → framed_width frame (record { box = b; natural = n }) ≡ framed_width frame (record { box = record c { handle = h }; natural = n })

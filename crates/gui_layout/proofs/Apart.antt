@@ -13,21 +13,21 @@ use Rattle.layout_defs.proofs.Solved.{found_by_handle}
 use Rattle.scene_defs.specs.Place.{place}
 use Rattle.scene_defs.specs.Scene.{Scene, handles_of}
 use Rattle.scene_defs.specs.Valid.{IsValid}
-use Rattle.gui_layout.specs.Found.{boxed, widths_of}
+use Rattle.gui_boxes.specs.Found.{boxed, widths_of}
 use Rattle.gui_layout.specs.Naturals.{is_wide_at, naturals_at, naturals_in}
-use Rattle.gui_layout.specs.declared.entry.Entry.{Entry}
+use Rattle.gui_boxes.specs.declared.entry.Entry.{Entry}
 use Rattle.gui_layout.specs.declared.places.Places.{Places}
-use Rattle.gui_layout.specs.Settled.{Known}
+use Rattle.gui_boxes.specs.Settled.{Known}
 use Rattle.gui_layout.specs.Settles.{known_in}
 use Rattle.gui_layout.specs.Marked.{marked_trees}
 use Rattle.gui_layout.specs.Scenes.{scene_box}
-use Rattle.gui_layout.specs.Slots.{HoldsPlaced}
+use Rattle.gui_boxes.specs.Slots.{HoldsPlaced}
 use Rattle.gui_layout.specs.Solved.{place_at}
-use Rattle.gui_layout.specs.Tables.{area_in, natural_height_or, natural_width_or, slot_or, told, width_or}
+use Rattle.gui_boxes.specs.Tables.{area_in, natural_height_or, natural_width_or, slot_or, told, width_or}
 use Rattle.gui_layout.proofs.Entering.{boxed_are, joined, place_in}
-use Rattle.gui_layout.proofs.Keeps.{elsewhere}
+use Rattle.gui_boxes.proofs.Keeps.{elsewhere}
 use Rattle.gui_layout.proofs.Marking.{marked-has}
-use Rattle.gui_layout.proofs.Listed.{told_at}
+use Rattle.gui_boxes.proofs.Listed.{told_at}
 use Rattle.gui_tree.proofs.Parts.{IsDistinct, distinct_once}
 use Rattle.gui_layout.proofs.Solves.{handles_solved, placed_handle, widths-handles}
 

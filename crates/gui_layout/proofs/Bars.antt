@@ -19,7 +19,7 @@ use Rattle.scene_defs.specs.Row.{is_on}
 use Rattle.scene_defs.specs.Scene.{Object, Scene, is_there, object_at, row_at, row_of}
 use Rattle.gui_layout.specs.Painted.{ShowsBarsIn}
 use Rattle.gui_layout.specs.Scenes.{object_with}
-use Rattle.gui_layout.specs.Scrolls.{span_from}
+use Rattle.gui_boxes.specs.Scrolls.{span_from}
 use Rattle.gui_layout.proofs.SceneBoxes.{named, object_found}
 
 -- two numbers, or none

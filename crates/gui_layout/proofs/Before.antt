@@ -9,17 +9,17 @@ use Rattle.layout_defs.proofs.OwnHeights.{roots-map}
 use Rattle.scene_defs.specs.Scene.{Scene, handles_of}
 use Rattle.gui_layout.specs.declared.places.Places.{Places}
 use Rattle.gui_layout.specs.Marked.{AllFillBut, AllFitButBoth, FitsBut, HasNatural, LeftBy, LeftOf, StandUnmarked, marked_trees}
-use Rattle.gui_layout.specs.Settled.{AllFill, AllFit, FillsPanel, Fits, Known, Layout, StandsFree, is_steady}
+use Rattle.gui_boxes.specs.Settled.{AllFill, AllFit, FillsPanel, Fits, Known, Layout, StandsFree, is_steady}
 use Rattle.gui_layout.specs.SettledBut.{AreRightBut, AreSettledButMarks, DiffersInMarks, HasKids, IsUnmoved, WasSolved, anyone, in_marked, nobody}
 use Rattle.gui_layout.specs.Solved.{AreSettled, layout_of}
 use Rattle.gui_layout.specs.Settles.{known_in}
 use Rattle.gui_layout.proofs.Marking.{but-alike, fill-fewer, fits-left, left-graded, marked-has, natural-others, steady-is}
 use Rattle.gui_tree.proofs.Parts.{IsDistinct, IsPart, below, beside, distinct_once, found, has-part, here, part_below, part_beside, part_children, there as there_in, whole}
 use Rattle.gui_layout.proofs.Renewals.{some-box}
-use Rattle.gui_layout.specs.Around.{IsFlat}
+use Rattle.gui_boxes.specs.Around.{IsFlat}
 use Rattle.gui_layout.specs.Scenes.{scene_box}
 use Rattle.gui_layout.specs.Scrolled.{scrolled_known}
-use Rattle.gui_layout.specs.Views.{box_at}
+use Rattle.gui_boxes.specs.Views.{box_at}
 use Rattle.gui_layout.proofs.Without.{flat-kids}
 use Rattle.gui_layout.proofs.Overs.{kids-same, root-in}
 use Rattle.gui_layout.proofs.Rescrolled.{told-flat, unmarked-root}

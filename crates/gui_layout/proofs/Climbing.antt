@@ -6,7 +6,7 @@ use Rattle.gui_base.specs.declared.Handle.{Handle}
 use Rattle.gui_tree.specs.Handles.{as_handle}
 use Rattle.gui_tree.proofs.Below.{own_tree}
 use Rattle.gui_tree.proofs.Paths.{goes_up, path_from}
-use Rattle.gui_layout.specs.Frames.{Encloses}
+use Rattle.gui_boxes.specs.Frames.{Encloses}
 use Rattle.gui_tree.proofs.Parts.{distinct_once}
 use Rattle.gui_layout.proofs.Settling.{parent-in, parent-out, tree-there}
 

@@ -12,14 +12,14 @@ use Rattle.gui_layout.specs.Marked.{AllFillBut, AllFitBut, marked_trees}
 use Rattle.gui_layout.specs.Naturals.{naturals, naturals_at}
 use Rattle.gui_layout.specs.Renewed.{IsRenewed}
 use Rattle.gui_layout.specs.Scenes.{scene_box}
-use Rattle.gui_layout.specs.Settled.{IsSettled, Known, known}
+use Rattle.gui_boxes.specs.Settled.{IsSettled, Known, known}
 use Rattle.gui_layout.specs.SettledBut.{AreRightButChanged, anyone, in_marked, nobody}
 use Rattle.gui_layout.specs.Settles.{Settles, known_in}
 use Rattle.gui_layout.specs.Solved.{AreStanding, layout_of, place_at}
 use Rattle.gui_layout.proofs.Apart.{marked_placed}
 use Rattle.gui_layout.proofs.Renewals.{box-some}
 use Rattle.gui_layout.proofs.Entering.{all_placed}
-use Rattle.gui_layout.proofs.Fitting.{settled_placed}
+use Rattle.gui_boxes.proofs.Fitting.{settled_placed}
 use Rattle.gui_layout.proofs.NaturalSizes.{marked-naturals}
 use Rattle.gui_layout.proofs.Marking.{all-alike, all-fill, all-fits, fill-alike, fits-left, left-fits, marked-but, marked-fill, marked-has, none-marked}
 

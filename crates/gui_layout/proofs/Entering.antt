@@ -19,18 +19,18 @@ use Rattle.layout_defs.specs.Boxes.{Box}
 use Rattle.layout_defs.specs.Solving.{Placed, Slot, solved, place_of, nowhere}
 use Rattle.layout_defs.specs.Laws.{row_by, is_placed_at}
 use Rattle.layout_defs.proofs.Solved.{found_by_handle}
-use Rattle.gui_layout.specs.declared.entry.Entry.{Entry}
-use Rattle.gui_layout.specs.Found.{boxed}
-use Rattle.gui_layout.specs.Listing.{AreProper}
+use Rattle.gui_boxes.specs.declared.entry.Entry.{Entry}
+use Rattle.gui_boxes.specs.Found.{boxed}
+use Rattle.gui_boxes.specs.Listing.{AreProper}
 use Rattle.gui_layout.specs.Scenes.{scene_box}
-use Rattle.gui_layout.specs.Slots.{HoldsPlaced, slot_of}
-use Rattle.gui_layout.specs.Tables.{area_in, slot_or, told, width_or}
+use Rattle.gui_boxes.specs.Slots.{HoldsPlaced, slot_of}
+use Rattle.gui_boxes.specs.Tables.{area_in, slot_or, told, width_or}
 use Rattle.gui_tree.specs.Walks.{trees_from}
-use Rattle.gui_layout.proofs.Listed.{told_at}
+use Rattle.gui_boxes.proofs.Listed.{told_at}
 use Rattle.gui_tree.proofs.Parts.{distinct_once, first_of, trees_from-first_of, whole}
 use Rattle.gui_layout.proofs.SceneBoxes.{boxes_are, scene_named}
 use Rattle.gui_layout.proofs.Solves.{handles_solved, placed_handle}
-use Rattle.gui_layout.proofs.These.{proper_of}
+use Rattle.gui_boxes.proofs.These.{proper_of}
 
 -- the handles of objects lie in their interval
 counted : (images : List Image) (f : Forest Object) (h : ℕ) → all_by (in_order images) f ≡ true → has (handles_of f) h ≡ true → is_counted HANDLE h ≡ true

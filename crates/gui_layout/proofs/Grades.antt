@@ -7,11 +7,11 @@ use Rattle.scene_defs.specs.Scene.{Scene, handles_of}
 use Rattle.gui_layout.specs.declared.places.Places.{Places}
 use Rattle.gui_layout.specs.Raised.{Rests}
 use Rattle.gui_layout.specs.Scenes.{scene_box}
-use Rattle.gui_layout.specs.Settled.{is_steady}
+use Rattle.gui_boxes.specs.Settled.{is_steady}
 use Rattle.gui_layout.specs.SettledBut.{AreRightBut, AreRightButChanged, AreScrolledBut, AreSettledButChanged, AreSettledButMarks, anyone, nobody}
 use Rattle.gui_layout.specs.Settles.{known_in}
 use Rattle.gui_layout.specs.Solved.{layout_of}
-use Rattle.gui_layout.specs.Views.{box_at}
+use Rattle.gui_boxes.specs.Views.{box_at}
 use Rattle.gui_layout.proofs.Marking.{all-both, all-fewer, all-graded, fill-fewer}
 
 -- a box is steady whatever its own height

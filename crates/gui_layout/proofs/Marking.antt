@@ -7,9 +7,9 @@ use Rattle.layout_defs.specs.declared.Course.{Course}
 use Rattle.layout_defs.specs.declared.Course.TheVariants.{Free, Across, Down}
 use Rattle.layout_defs.specs.Boxes.{Box, course_of}
 use Rattle.gui_layout.specs.Marked.{marked_trees, is_any_root, HasNatural, StandUnmarked, LeftBy, LeftOf, FitsBut, AllFitBut, AllFitButBoth, AllFillBut}
-use Rattle.gui_layout.specs.Settled.{Known, wide_of, tall_of, Fits, AllFit, AllFill, FillsPanel, StandsFree, IsSteady, is_steady, is_free, is_content}
+use Rattle.gui_boxes.specs.Settled.{Known, wide_of, tall_of, Fits, AllFit, AllFill, FillsPanel, StandsFree, IsSteady, is_steady, is_free, is_content}
 use Rattle.gui_layout.specs.Settles.{LetsStand}
-use Rattle.gui_layout.proofs.Keeps.{elsewhere}
+use Rattle.gui_boxes.proofs.Keeps.{elsewhere}
 use Rattle.gui_tree.proofs.Parts.{IsDistinct}
 use Rattle.gui_layout.proofs.Settling.{is_root, root-has, root-out, tree-in, is_at, parent-root, AllFree, fits-free, free-wide, free-stand, free-widths, free-slots, width-steady, height-steady}
 

@@ -10,17 +10,17 @@ use Rattle.layout_defs.specs.Solving.{Placed, Wide, solved}
 use Rattle.layout_defs.proofs.Solved.{found_by_handle}
 use Rattle.scene_defs.specs.Scene.{Scene, handles_of}
 use Rattle.scene_defs.specs.Valid.{IsValid}
-use Rattle.gui_layout.specs.declared.entry.Entry.{Entry}
-use Rattle.gui_layout.specs.Found.{boxed, widths_of}
+use Rattle.gui_boxes.specs.declared.entry.Entry.{Entry}
+use Rattle.gui_boxes.specs.Found.{boxed, widths_of}
 use Rattle.gui_layout.specs.Marked.{marked_trees}
 use Rattle.gui_layout.specs.Naturals.{Sizes, is_wide_at, naturals, naturals_among, naturals_in, sizes_from}
 use Rattle.gui_layout.specs.Scenes.{scene_box}
-use Rattle.gui_layout.specs.Settled.{IsSettled, Layout, known}
-use Rattle.gui_layout.specs.Tables.{natural_height_or, natural_width_or, told}
+use Rattle.gui_boxes.specs.Settled.{IsSettled, Layout, known}
+use Rattle.gui_boxes.specs.Tables.{natural_height_or, natural_width_or, told}
 use Rattle.gui_layout.proofs.Apart.{none-of, placed-marked, there, wide-marked, wide-there}
 use Rattle.gui_layout.proofs.Entering.{boxed_are, row_none}
-use Rattle.gui_layout.proofs.Fitting.{settled_high, settled_wide}
-use Rattle.gui_layout.proofs.Listed.{told_at}
+use Rattle.gui_boxes.proofs.Fitting.{settled_high, settled_wide}
+use Rattle.gui_boxes.proofs.Listed.{told_at}
 use Rattle.gui_tree.proofs.Parts.{distinct_once}
 use Rattle.gui_layout.proofs.Solves.{placed_handle}
 

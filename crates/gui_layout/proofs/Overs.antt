@@ -8,18 +8,18 @@ use Rattle.gui_tree.specs.Handles.{as_handle}
 use Rattle.layout_defs.specs.Boxes.{Box}
 use Rattle.scene_defs.specs.Scene.{Scene, handles_of}
 use Rattle.gui_layout.specs.declared.places.Places.{Places}
-use Rattle.gui_layout.specs.Around.{IsFlat, ReadsReaches}
-use Rattle.gui_layout.specs.Kids.{flat_scrolled}
-use Rattle.gui_layout.specs.Listing.{times}
+use Rattle.gui_boxes.specs.Around.{IsFlat, ReadsReaches}
+use Rattle.gui_boxes.specs.Kids.{flat_scrolled}
+use Rattle.gui_boxes.specs.Listing.{times}
 use Rattle.gui_layout.specs.Marked.{is_root}
 use Rattle.gui_layout.specs.Scenes.{scene_box}
 use Rattle.gui_layout.specs.Scrolled.{IsScrolledIn, scrolled_known}
-use Rattle.gui_layout.specs.Scrolls.{Scrolled, scrolled_at}
-use Rattle.gui_layout.specs.Settled.{IsSteady, Known, Layout}
+use Rattle.gui_boxes.specs.Scrolls.{Scrolled, scrolled_at}
+use Rattle.gui_boxes.specs.Settled.{IsSteady, Known, Layout}
 use Rattle.gui_layout.specs.Settles.{LetsStand, SolvesTree, known_in}
 use Rattle.gui_layout.specs.Solved.{layout_of}
 use Rattle.gui_layout.specs.Tops.{ScrollsAt, in_trees_at, is_it, is_over}
-use Rattle.gui_layout.specs.Views.{box_at}
+use Rattle.gui_boxes.specs.Views.{box_at}
 use Rattle.gui_layout.proofs.Climbing.{is_above}
 use Rattle.gui_tree.proofs.Parts.{IsDistinct, distinct_once}
 use Rattle.gui_layout.proofs.Settling.{is_at, parent-root, root-has, root-out, tree-in}

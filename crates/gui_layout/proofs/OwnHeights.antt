@@ -10,16 +10,16 @@ use Rattle.layout_defs.specs.Solving.{nowhere, natural_width, kid_widths, natura
 use Rattle.layout_defs.specs.OwnHeights.{but_height, but_height_wide, but_height_tall, fixed_at, fixed_tall}
 use Rattle.layout_defs.proofs.OwnHeights.{natural_width-but, kid_widths-but, natural_height-fixed, kid_slots-but}
 use Rattle.scene_defs.specs.Scene.{Scene}
-use Rattle.gui_layout.specs.declared.layout_box.LayoutBox.{LayoutBox}
-use Rattle.gui_layout.specs.Kids.{told_trees}
+use Rattle.gui_boxes.specs.declared.layout_box.LayoutBox.{LayoutBox}
+use Rattle.gui_boxes.specs.Kids.{told_trees}
 use Rattle.gui_layout.specs.OwnHeights.{IsFixed, AreFixed, KeepsFixed}
 use Rattle.gui_layout.specs.Renewed.{KeepsRenewed}
 use Rattle.gui_layout.specs.Scenes.{scene_box}
-use Rattle.gui_layout.specs.Settled.{Known, Layout, known, known_at, wide_of, tall_of, width_of, slot_of, EachKids, NaturalWidthFits, WidthsFit, NaturalHeightFits, SlotsFit}
-use Rattle.gui_layout.specs.Views.{axis_of, box_of, box_or, box_at}
-use Rattle.gui_layout.proofs.Passes.{roots_known}
+use Rattle.gui_boxes.specs.Settled.{Known, Layout, known, known_at, wide_of, tall_of, width_of, slot_of, EachKids, NaturalWidthFits, WidthsFit, NaturalHeightFits, SlotsFit}
+use Rattle.gui_boxes.specs.Views.{axis_of, box_of, box_or, box_at}
+use Rattle.gui_boxes.proofs.Passes.{roots_known}
 use Rattle.gui_tree.proofs.Parts.{here}
-use Rattle.gui_layout.proofs.These.{value-set}
+use Rattle.gui_boxes.proofs.These.{value-set}
 
 -- What follows alike for objects that look alike, by what is seen of them and of their children.
 module _ {B : Type 0} (view : Known → Known) (left right : Known → List Known → B) (lefts : (k : Known) (ks : List Known) → left (view k) (map view ks) ≡ left k ks) (rights : (k : Known) (ks : List Known) → right (view k) (map view ks) ≡ right k ks) (a b : ℕ → Known) where
@@ -111,33 +111,3 @@ module _ (scene : Scene) (widths : List ℕ) where
       kept = λ k fixed. of_each (λ m o. box_or m o ≡ fixed_at (get_or widths m 0) (scene_box scene m)) k is fixed;
       boxes = λ k was. of_each (λ m o. but_height (box_or m o) ≡ but_height (scene_box scene m)) k (ap but_height is) was;
     }
-
--- What holds of each object of a tree.
-module _ (P : ℕ → Type 0) where
-  abbrev EachOf : Forest ℕ → Type 0
-  EachOf f = (k : ℕ) → has f k ≡ true → P k
-
-  pub each_none : EachOf Empty
-  each_none k there = absurd (false≢true there)
-
-  -- of its top and of those below it
-  pub each_top : (h : ℕ) (cs : Forest ℕ) → P h → EachOf cs → EachOf (Tree h cs Empty)
-  each_top h cs top below k there =
-      let cases : (eqb h k ≡ true) ⊎ ((has cs k || false) ≡ true) = or_cases _ _ there in
-      elim cases [
-        | inl is ↦ subst P (eqb-true h k is) top
-        | inr inside ↦ let inner : (has cs k ≡ true) ⊎ (false ≡ true) = or_cases _ _ inside in elim inner [ inl e ↦ below k e | inr e ↦ absurd (false≢true e) ]
-      ]
-
-  -- and of those beside it
-  pub each_first : (h : ℕ) (cs rest : Forest ℕ) → EachOf (Tree h cs Empty) → EachOf rest → EachOf (Tree h cs rest)
-  each_first h cs rest first later k there =
-      let cases : (eqb h k ≡ true) ⊎ ((has cs k || has rest k) ≡ true) = or_cases _ _ there in
-      elim cases [
-        | inl is ↦ first k (or_left _ _ is)
-        | inr inside ↦ let inner : (has cs k ≡ true) ⊎ (has rest k ≡ true) = or_cases _ _ inside in elim inner [ inl e ↦ first k (or_right _ _ (or_left _ _ e)) | inr e ↦ later k e ]
-      ]
-
--- what stands in the first of these trees stands among them
-pub tree_first : (h : ℕ) (cs rest : Forest ℕ) (k : ℕ) → has (Tree h cs Empty) k ≡ true → has (Tree h cs rest) k ≡ true
-tree_first h cs rest k there = each_top (λ m. has (Tree h cs rest) m ≡ true) h cs (here h cs rest) (λ m i. or_right _ _ (or_left _ _ i)) k there

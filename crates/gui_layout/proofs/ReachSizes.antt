@@ -11,20 +11,20 @@ use Rattle.layout_defs.proofs.Solved.{found_by_handle}
 use Rattle.scene_defs.specs.Place.{offset, reach}
 use Rattle.scene_defs.specs.Scene.{Scene, handles_of}
 use Rattle.scene_defs.specs.Valid.{IsValid}
-use Rattle.gui_layout.specs.declared.entry.Entry.{Entry}
-use Rattle.gui_layout.specs.Found.{boxed}
+use Rattle.gui_boxes.specs.declared.entry.Entry.{Entry}
+use Rattle.gui_boxes.specs.Found.{boxed}
 use Rattle.gui_layout.specs.Marked.{marked_trees}
 use Rattle.gui_layout.specs.Scenes.{scene_box}
 use Rattle.gui_layout.specs.Scrolled.{IsScrolledIn}
-use Rattle.gui_layout.specs.Scrolls.{HoldsScrolls, Scrolled, not_scrolled, scrolled_at, scrolled_in, scrolled_placed}
-use Rattle.gui_layout.specs.Settled.{IsSettled, Layout, known, known_at, tall_of}
-use Rattle.gui_layout.specs.Slots.{slot_at, tall_at, talls}
+use Rattle.gui_boxes.specs.Scrolls.{HoldsScrolls, Scrolled, not_scrolled, scrolled_at, scrolled_in, scrolled_placed}
+use Rattle.gui_boxes.specs.Settled.{IsSettled, Layout, known, known_at, tall_of}
+use Rattle.gui_boxes.specs.Slots.{slot_at, tall_at, talls}
 use Rattle.gui_layout.specs.Solved.{offset_in, reach_in}
-use Rattle.gui_layout.specs.Tables.{scrolled_or, told}
+use Rattle.gui_boxes.specs.Tables.{scrolled_or, told}
 use Rattle.gui_layout.proofs.Apart.{none-of, placed-marked, there}
 use Rattle.gui_layout.proofs.Entering.{boxed_are, row_none}
-use Rattle.gui_layout.proofs.Fitting.{settled_scrolled, tall_roots}
-use Rattle.gui_layout.proofs.Listed.{told_at}
+use Rattle.gui_boxes.proofs.Fitting.{settled_scrolled, tall_roots}
+use Rattle.gui_boxes.proofs.Listed.{told_at}
 use Rattle.gui_tree.proofs.Parts.{IsPart, distinct_once, found, here, part_below, part_beside, whole}
 use Rattle.gui_layout.proofs.Solves.{placed_handle}
 

@@ -4,11 +4,11 @@ use Rattle.std.specs.Prelude.{Option, Some, None}
 use Rattle.std.proofs.lemmas.Bool.{cases_Bool, eqb-true}
 use Rattle.layout_defs.specs.OwnHeights.{but_height}
 use Rattle.scene_defs.specs.Scene.{Scene}
-use Rattle.gui_layout.specs.declared.layout_box.LayoutBox.{LayoutBox}
+use Rattle.gui_boxes.specs.declared.layout_box.LayoutBox.{LayoutBox}
 use Rattle.gui_layout.specs.Renewed.{IsRenewed, KeepsRenewed}
 use Rattle.gui_layout.specs.Scenes.{scene_box}
-use Rattle.gui_layout.specs.Views.{box_of, box_or}
-use Rattle.gui_layout.proofs.These.{value-set}
+use Rattle.gui_boxes.specs.Views.{box_of, box_or}
+use Rattle.gui_boxes.proofs.These.{value-set}
 
 module _ (scene : Scene) (old new : List (Option LayoutBox)) (h : ℕ) (made : LayoutBox) (short : h < length old) (set_is : new ≡ set old h (Some made)) (is : but_height (box_of h made) ≡ but_height (scene_box scene h)) where
   value : (k : ℕ) → get_or (set old h (Some made)) k None ≡ cond (eqb h k) (Some made) (get_or old k None)

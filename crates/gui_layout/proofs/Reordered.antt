@@ -13,12 +13,12 @@ use Rattle.gui_layout.specs.Marked.{is_root}
 use Rattle.gui_layout.specs.Raised.{Rests}
 use Rattle.gui_layout.specs.Scenes.{scene_box}
 use Rattle.gui_layout.specs.Scrolled.{IsScrolledIn, scrolled_known}
-use Rattle.gui_layout.specs.Scrolls.{scrolled_by}
-use Rattle.gui_layout.specs.Settled.{IsSteady, Known, tall_of}
+use Rattle.gui_boxes.specs.Scrolls.{scrolled_by}
+use Rattle.gui_boxes.specs.Settled.{IsSteady, Known, tall_of}
 use Rattle.gui_layout.specs.SettledBut.{AreSettledButMarks, HasKids, IsReordered, nobody}
 use Rattle.gui_layout.specs.Settles.{known_in}
 use Rattle.gui_layout.specs.Solved.{AreSettled, AreStanding, layout_of}
-use Rattle.gui_layout.specs.Views.{box_at}
+use Rattle.gui_boxes.specs.Views.{box_at}
 use Rattle.gui_layout.proofs.Before.{settled_but_marks}
 use Rattle.gui_layout.proofs.Closing.{all-settled}
 use Rattle.gui_layout.proofs.Grades.{settled-raised, steady-but}

@@ -9,26 +9,26 @@ use Rattle.layout_defs.specs.Solving.{Slot, Span, Tall, flat_slots, no_span, kid
 use Rattle.layout_defs.proofs.Scrolling.{still_stands_flat}
 use Rattle.scene_defs.specs.Scene.{Scene, handles_of}
 use Rattle.gui_layout.specs.declared.places.Places.{Places}
-use Rattle.gui_layout.specs.Around.{IsFlat, ReadsReaches}
-use Rattle.gui_layout.specs.Kids.{tall_kids}
-use Rattle.gui_layout.specs.Listing.{times}
+use Rattle.gui_boxes.specs.Around.{IsFlat, ReadsReaches}
+use Rattle.gui_boxes.specs.Kids.{tall_kids}
+use Rattle.gui_boxes.specs.Listing.{times}
 use Rattle.gui_layout.specs.Marked.{AllFitBut, is_any_root, is_root}
 use Rattle.gui_layout.specs.Raised.{Rests}
 use Rattle.gui_layout.specs.Renewed.{IsRenewed}
 use Rattle.gui_layout.specs.Scenes.{scene_box}
 use Rattle.gui_layout.specs.Scrolled.{IsScrolledIn}
-use Rattle.gui_layout.specs.Scrolls.{Scrolled, scrolled_at}
-use Rattle.gui_layout.specs.Settled.{Fits, Known, Layout, known_at, slot_of, tall_of}
+use Rattle.gui_boxes.specs.Scrolls.{Scrolled, scrolled_at}
+use Rattle.gui_boxes.specs.Settled.{Fits, Known, Layout, known_at, slot_of, tall_of}
 use Rattle.gui_layout.specs.SettledBut.{AreLooked, AreRightBut, AreRightButChanged, AreScrolledBut, nobody}
 use Rattle.gui_layout.specs.Settles.{known_in}
-use Rattle.gui_layout.specs.Slots.{at_roots, slot_at, tall_at}
+use Rattle.gui_boxes.specs.Slots.{at_roots, slot_at, tall_at}
 use Rattle.gui_layout.specs.Solved.{layout_of}
 use Rattle.gui_layout.specs.Tops.{ScrollsAt, in_trees_at, is_over}
-use Rattle.gui_layout.specs.Views.{box_at}
+use Rattle.gui_boxes.specs.Views.{box_at}
 use Rattle.gui_layout.proofs.Alike.{inside-alike}
-use Rattle.gui_layout.proofs.Fitting.{tall_roots}
+use Rattle.gui_boxes.proofs.Fitting.{tall_roots}
 use Rattle.gui_layout.proofs.Marking.{left-fits, steady-is}
-use Rattle.gui_layout.proofs.Passes.{roots_read}
+use Rattle.gui_boxes.proofs.Passes.{roots_read}
 use Rattle.gui_layout.proofs.Overs.{kid-over, over-is, root-in, scrolled-same}
 use Rattle.gui_tree.proofs.Parts.{distinct_once}
 

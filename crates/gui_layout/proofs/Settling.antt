@@ -8,9 +8,9 @@ use Rattle.layout_defs.specs.declared.Course.TheVariants.{Free}
 use Rattle.layout_defs.specs.Boxes.{Box, course_of, inner, inset, is_reversed}
 use Rattle.layout_defs.specs.Solving.{Wide, Tall, Slot, tall_box, width_in, own_slot, dealt, natural_size, natural_width, natural_height, kid_widths, kid_widths_by, kid_slots, kids_width, kids_height, room_of, flow_slots, ordered_slots, in_order, taking_part, wide_box}
 use Rattle.layout_defs.proofs.Scrolling.{still_stands_flat}
-use Rattle.gui_layout.specs.Settled.{Known, wide_of, tall_of, width_of, slot_of, Fits, StandsFree, IsSteady, is_content}
+use Rattle.gui_boxes.specs.Settled.{Known, wide_of, tall_of, width_of, slot_of, Fits, StandsFree, IsSteady, is_content}
 pub use Rattle.gui_layout.specs.Marked.{is_root}
-use Rattle.gui_layout.proofs.Lists.{dealt-none}
+use Rattle.gui_boxes.proofs.Lists.{dealt-none}
 use Rattle.gui_tree.proofs.Parts.{IsDistinct}
 
 -- Roots and trees.

@@ -9,8 +9,8 @@ use Rattle.gui_tree.proofs.Paths.{children_gone}
 use Rattle.layout_defs.specs.Boxes.{Box}
 use Rattle.scene_defs.specs.Scene.{Scene, handles_of}
 use Rattle.gui_layout.specs.declared.places.Places.{Places}
-use Rattle.gui_layout.specs.Around.{IsFlatWithout, flat_of, without}
-use Rattle.gui_layout.specs.Listing.{times}
+use Rattle.gui_boxes.specs.Around.{IsFlatWithout, flat_of, without}
+use Rattle.gui_boxes.specs.Listing.{times}
 use Rattle.gui_layout.specs.Marked.{is_root}
 use Rattle.gui_layout.specs.Scenes.{scene_box}
 use Rattle.gui_layout.specs.SettledBut.{AreRightBut, AreRightButChanged, nobody}

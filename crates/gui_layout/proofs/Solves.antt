@@ -4,15 +4,15 @@ use Rattle.gui_base.specs.Forest.{Forest, Empty, Tree, has, roots, map_forest}
 use Rattle.layout_defs.specs.Boxes.{Box}
 use Rattle.layout_defs.specs.Solving.{Wide, Widened, Tall, Placed, Slot, kid_widths, with_widths, with_natural_heights, kid_slots, with_slots, nowhere, solved}
 use Rattle.std.proofs.lemmas.Bool.{false_from_ne_true, or_left, or_right}
-use Rattle.gui_layout.specs.Slots.{talls}
+use Rattle.gui_boxes.specs.Slots.{talls}
 use Rattle.gui_base.proofs.Forests.{map-agree}
-use Rattle.gui_layout.specs.Found.{boxed, widths_of}
-use Rattle.gui_layout.specs.Layouts.{KeepsRest}
-use Rattle.gui_layout.specs.Scrolls.{HoldsScrolls, not_scrolled, scrolled_at, scrolled_in}
-use Rattle.gui_layout.proofs.Fitting.{tall_roots}
-use Rattle.gui_layout.specs.Settled.{Layout, Known, tall_of, known_at, known, IsSettled}
+use Rattle.gui_boxes.specs.Found.{boxed, widths_of}
+use Rattle.gui_boxes.specs.Layouts.{KeepsRest}
+use Rattle.gui_boxes.specs.Scrolls.{HoldsScrolls, not_scrolled, scrolled_at, scrolled_in}
+use Rattle.gui_boxes.proofs.Fitting.{tall_roots}
+use Rattle.gui_boxes.specs.Settled.{Layout, Known, tall_of, known_at, known, IsSettled}
 use Rattle.gui_tree.proofs.Parts.{IsDistinct}
-use Rattle.gui_layout.proofs.Keeps.{keeps_none, keeps_first, elsewhere}
+use Rattle.gui_boxes.proofs.Keeps.{keeps_none, keeps_first, elsewhere}
 
 abbrev wide_handle : Wide → ℕ
 wide_handle w = w.box.handle

@@ -6,21 +6,21 @@ use Rattle.gui_base.specs.Forest.{Forest, Empty, Tree, StandsOnce, has, has_by, 
 use Rattle.gui_base.specs.Limits.{Bounds}
 use Rattle.layout_defs.specs.Solving.{Room, nowhere, own_slot, room_of, width_in}
 use Rattle.scene_defs.specs.Scene.{Scene, handles_of}
-use Rattle.gui_layout.specs.declared.frame.Frame.{Frame}
-use Rattle.gui_layout.specs.declared.frame.Frame.TheVariants.{Panel, Content}
-use Rattle.gui_layout.specs.declared.layout_box.LayoutBox.{LayoutBox}
+use Rattle.gui_boxes.specs.declared.frame.Frame.{Frame}
+use Rattle.gui_boxes.specs.declared.frame.Frame.TheVariants.{Panel, Content}
+use Rattle.gui_boxes.specs.declared.layout_box.LayoutBox.{LayoutBox}
 use Rattle.gui_layout.specs.declared.places.Places.{Places}
-use Rattle.gui_layout.specs.Frames.{IsFrameOf, StandsIn}
+use Rattle.gui_boxes.specs.Frames.{IsFrameOf, StandsIn}
 use Rattle.gui_layout.specs.Marked.{marked_trees}
 use Rattle.gui_layout.specs.Renewed.{IsRenewed}
 use Rattle.gui_layout.specs.Scenes.{scene_box}
-use Rattle.gui_layout.specs.Settled.{Known, Layout, FillsPanel, IsSteady, StandsFree, corner, known_at, tall_of, wide_of}
+use Rattle.gui_boxes.specs.Settled.{Known, Layout, FillsPanel, IsSteady, StandsFree, corner, known_at, tall_of, wide_of}
 use Rattle.gui_layout.specs.Settles.{FillsRoot, LetsStand, SolvesTree, Settles, known_in}
-use Rattle.gui_layout.specs.Slots.{room_in}
+use Rattle.gui_boxes.specs.Slots.{room_in}
 use Rattle.gui_layout.specs.Solved.{layout_of}
-use Rattle.gui_layout.specs.Views.{box_at}
+use Rattle.gui_boxes.specs.Views.{box_at}
 use Rattle.gui_layout.proofs.Marking.{Stays, fill-step, step}
-use Rattle.gui_layout.proofs.OwnHeights.{tree_first}
+use Rattle.gui_boxes.proofs.Each.{tree_first}
 use Rattle.gui_tree.proofs.Parts.{distinct_once}
 use Rattle.gui_layout.proofs.Renewals.{room-same, steady-same}
 use Rattle.gui_layout.proofs.Settling.{parent-root, root-out, tree-in}

@@ -7,12 +7,12 @@ use Rattle.gui_base.specs.Forest.{Forest, has, tree_at}
 use Rattle.gui_base.specs.declared.Handle.{Handle}
 use Rattle.scene_defs.specs.Scene.{Scene, handles_of}
 use Rattle.gui_layout.specs.declared.places.Places.{Places}
-use Rattle.gui_layout.specs.Listing.{times}
+use Rattle.gui_boxes.specs.Listing.{times}
 use Rattle.gui_layout.specs.Scenes.{scene_box}
 use Rattle.gui_layout.specs.Settles.{SolvesTree}
 use Rattle.gui_layout.specs.Solved.{layout_of}
 use Rattle.gui_layout.specs.Tops.{SolvesAt, in_trees_at}
-use Rattle.gui_layout.proofs.Leaving.{times-both}
+use Rattle.gui_boxes.proofs.Leaving.{times-both}
 use Rattle.gui_layout.proofs.Solves.{rest_same}
 
 -- what is listed in two lists is listed in one of them

@@ -6,21 +6,21 @@ use Rattle.layout_defs.specs.Boxes.{Box}
 use Rattle.layout_defs.specs.OwnHeights.{but_height}
 use Rattle.layout_defs.specs.Solving.{Slot, Span, Tall, end_across, end_down, far_end, no_span, nowhere, reach_in, room_of}
 use Rattle.layout_defs.proofs.OwnHeights.{roots-map}
-use Rattle.gui_layout.specs.declared.entry.Entry.{Entry}
-use Rattle.gui_layout.specs.Around.{IsFlatWithout, SparesOne, flat_of, out_of, without}
-use Rattle.gui_layout.specs.Kids.{told_trees}
+use Rattle.gui_boxes.specs.declared.entry.Entry.{Entry}
+use Rattle.gui_boxes.specs.Around.{IsFlatWithout, SparesOne, flat_of, out_of, without}
+use Rattle.gui_boxes.specs.Kids.{told_trees}
 use Rattle.gui_layout.specs.Marked.{is_root}
-use Rattle.gui_layout.specs.Scrolls.{Scrolled, scrolled_at, span_of}
-use Rattle.gui_layout.specs.Settled.{Known, Layout, known_at, slot_of, tall_of}
-use Rattle.gui_layout.specs.Sizings.{kid_by}
-use Rattle.gui_layout.specs.Slots.{at_roots, slot_at, tall_at}
-use Rattle.gui_layout.specs.Tables.{IsEntry}
-use Rattle.gui_layout.specs.Views.{box_at}
+use Rattle.gui_boxes.specs.Scrolls.{Scrolled, scrolled_at, span_of}
+use Rattle.gui_boxes.specs.Settled.{Known, Layout, known_at, slot_of, tall_of}
+use Rattle.gui_boxes.specs.Sizings.{kid_by}
+use Rattle.gui_boxes.specs.Slots.{at_roots, slot_at, tall_at}
+use Rattle.gui_boxes.specs.Tables.{IsEntry}
+use Rattle.gui_boxes.specs.Views.{box_at}
 use Rattle.gui_layout.proofs.Alike.{inside-alike}
-use Rattle.gui_layout.proofs.Fitting.{tall_roots}
-use Rattle.gui_layout.proofs.Kids.{kid_told}
+use Rattle.gui_boxes.proofs.Fitting.{tall_roots}
+use Rattle.gui_boxes.proofs.Kids.{kid_told}
 use Rattle.gui_layout.proofs.Overs.{kids-same}
-use Rattle.gui_layout.proofs.Passes.{roots_read}
+use Rattle.gui_boxes.proofs.Passes.{roots_read}
 
 abbrev reaches : Span → Scrolled
 reaches r = record { reach = r; offset = no_span }

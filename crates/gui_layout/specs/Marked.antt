@@ -3,7 +3,7 @@
 use Rattle.std.specs.Prelude.{◌≡◌, ℕ, Bool, true, false, ◌||◌, eqb, if◌then◌else◌, List, map}
 use Rattle.gui_base.specs.Forest.{Forest, Empty, Tree, has_by, roots, map_forest}
 use Rattle.layout_defs.specs.Solving.{natural_width, natural_height}
-use Rattle.gui_layout.specs.Settled.{Known, wide_of, tall_of, Fits, FillsPanel, StandsFree, is_steady}
+use Rattle.gui_boxes.specs.Settled.{Known, wide_of, tall_of, Fits, FillsPanel, StandsFree, is_steady}
 
 -- the trees in which an object is marked
 abbrev pub marked_trees : (ℕ → Bool) → Forest ℕ → Forest ℕ

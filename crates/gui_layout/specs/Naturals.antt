@@ -10,7 +10,7 @@ use Rattle.layout_defs.specs.Solving.{Wide, Placed, solved, with_natural_widths}
 use Rattle.scene_defs.specs.Place.{boxes_of}
 use Rattle.scene_defs.specs.Scene.{Scene}
 use Rattle.gui_layout.specs.declared.places.Places.{Places}
-use Rattle.gui_layout.specs.declared.entry.Entry.{Entry}
+use Rattle.gui_boxes.specs.declared.entry.Entry.{Entry}
 
 -- how wide and how high an object is by nature
 pub record Sizes : Type 0 where

@@ -3,8 +3,8 @@ use Rattle.std.specs.Prelude.{◌≡◌, ℕ, true, List, Option, slice_index}
 use Rattle.gui_base.specs.Forest.{Forest, has}
 use Rattle.layout_defs.specs.Boxes.{Box}
 use Rattle.layout_defs.specs.OwnHeights.{fixed_at}
-use Rattle.gui_layout.specs.declared.layout_box.LayoutBox.{LayoutBox}
-use Rattle.gui_layout.specs.Views.{box_at}
+use Rattle.gui_boxes.specs.declared.layout_box.LayoutBox.{LayoutBox}
+use Rattle.gui_boxes.specs.Views.{box_at}
 
 -- the box of h is that, with the own height where h is as wide as these widths say
 abbrev pub IsFixed : (ℕ → Box) → List ℕ → List (Option LayoutBox) → ℕ → Type 0

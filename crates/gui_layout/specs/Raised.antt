@@ -3,12 +3,12 @@ use Rattle.std.specs.Prelude.{◌≡◌, ℕ, Bool, true, ◌&&◌, is_some}
 use Rattle.gui_base.specs.Forest.{Forest, has}
 use Rattle.gui_pool.specs.Table.{Table, value_at}
 use Rattle.scene_defs.specs.Scene.{Scene, handles_of}
-use Rattle.gui_layout.specs.declared.entry.Entry.{Entry}
+use Rattle.gui_boxes.specs.declared.entry.Entry.{Entry}
 use Rattle.gui_layout.specs.declared.places.Places.{Places}
-use Rattle.gui_layout.specs.Settled.{is_steady}
+use Rattle.gui_boxes.specs.Settled.{is_steady}
 use Rattle.gui_layout.specs.Solved.{layout_of}
-use Rattle.gui_layout.specs.Tables.{told}
-use Rattle.gui_layout.specs.Views.{box_at}
+use Rattle.gui_boxes.specs.Tables.{told}
+use Rattle.gui_boxes.specs.Views.{box_at}
 
 -- an object is there, and by the box that it has it is steady
 pub record Rests (f : Forest ℕ) (entries : Table Entry) (k : ℕ) : Type 0 where

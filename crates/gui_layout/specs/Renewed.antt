@@ -3,9 +3,9 @@ use Rattle.std.specs.Prelude.{◌≡◌, ℕ, true, List, Option}
 use Rattle.gui_base.specs.Forest.{Forest, has}
 use Rattle.layout_defs.specs.OwnHeights.{but_height}
 use Rattle.scene_defs.specs.Scene.{Scene}
-use Rattle.gui_layout.specs.declared.layout_box.LayoutBox.{LayoutBox}
+use Rattle.gui_boxes.specs.declared.layout_box.LayoutBox.{LayoutBox}
 use Rattle.gui_layout.specs.Scenes.{scene_box}
-use Rattle.gui_layout.specs.Views.{box_at}
+use Rattle.gui_boxes.specs.Views.{box_at}
 
 abbrev pub IsRenewed : Scene → List (Option LayoutBox) → ℕ → Type 0
 IsRenewed scene boxes h = but_height (box_at boxes h) ≡ but_height (scene_box scene h)

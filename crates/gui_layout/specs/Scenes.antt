@@ -7,8 +7,8 @@ use Rattle.scene_defs.specs.Edits.{text_at}
 use Rattle.scene_defs.specs.Place.{panel_of, box_of}
 use Rattle.scene_defs.specs.declared.Row.{Row}
 use Rattle.scene_defs.specs.Scene.{Object, Scene, object_at}
-use Rattle.gui_layout.specs.declared.layout_box.LayoutBox.{LayoutBox}
-use Rattle.gui_layout.specs.Views.{no_box, box_at}
+use Rattle.gui_boxes.specs.declared.layout_box.LayoutBox.{LayoutBox}
+use Rattle.gui_boxes.specs.Views.{no_box, box_at}
 
 -- the object of a handle that has this row
 abbrev pub object_with : Scene → ℕ → Row → Object

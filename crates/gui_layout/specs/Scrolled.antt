@@ -1,8 +1,8 @@
 -- How far an object scrolls its children, by what is known of it and of them.
 use Rattle.std.specs.Prelude.{◌≡◌, ℕ, List, map}
 use Rattle.gui_base.specs.Forest.{Forest, children_of, map_forest, roots}
-use Rattle.gui_layout.specs.Scrolls.{Scrolled, scrolled_at, scrolled_in}
-use Rattle.gui_layout.specs.Settled.{Known, tall_of}
+use Rattle.gui_boxes.specs.Scrolls.{Scrolled, scrolled_at, scrolled_in}
+use Rattle.gui_boxes.specs.Settled.{Known, tall_of}
 
 abbrev pub scrolled_known : Known → List Known → Scrolled
 scrolled_known k kids = scrolled_in (tall_of k) k.slot (map tall_of kids)

@@ -9,10 +9,10 @@ use Rattle.gui_layout.specs.Marked.{AllFitBut, AllFitButBoth, AllFillBut, is_any
 use Rattle.gui_layout.specs.Naturals.{naturals, naturals_at}
 use Rattle.gui_layout.specs.Renewed.{IsRenewed}
 use Rattle.gui_layout.specs.Scenes.{scene_box}
-use Rattle.gui_layout.specs.Settled.{FillsPanel, Fits}
+use Rattle.gui_boxes.specs.Settled.{FillsPanel, Fits}
 use Rattle.gui_layout.specs.Settles.{known_in}
 use Rattle.gui_layout.specs.Scrolled.{IsScrolledIn}
-use Rattle.gui_layout.specs.Scrolls.{scrolled_at}
+use Rattle.gui_boxes.specs.Scrolls.{scrolled_at}
 use Rattle.gui_layout.specs.Solved.{AreSettled, AreStanding, layout_of, offset_at, place_at, reach_at}
 use Rattle.scene_defs.specs.Place.{offset, place, reach}
 

@@ -5,16 +5,16 @@ use Rattle.gui_base.specs.Forest.{has, map_forest, parent_of, tree_at}
 use Rattle.gui_base.specs.Limits.{Bounds}
 use Rattle.scene_defs.specs.Scene.{Scene, handles_of}
 use Rattle.gui_layout.specs.declared.places.Places.{Places}
-use Rattle.gui_layout.specs.Frames.{Encloses}
-use Rattle.gui_layout.specs.Layouts.{KeepsRest}
+use Rattle.gui_boxes.specs.Frames.{Encloses}
+use Rattle.gui_boxes.specs.Layouts.{KeepsRest}
 use Rattle.gui_layout.specs.Marked.{AllFitBut, AllFillBut, marked_trees}
 use Rattle.gui_layout.specs.Renewed.{KeepsRenewed}
 use Rattle.gui_layout.specs.Scenes.{scene_box}
 use Rattle.gui_layout.specs.Scrolled.{IsScrolledIn}
-use Rattle.gui_layout.specs.Scrolls.{scrolled_at}
-use Rattle.gui_layout.specs.Settled.{Known, AllFit, FillsPanel, IsSteady, StandsFree, known_at}
+use Rattle.gui_boxes.specs.Scrolls.{scrolled_at}
+use Rattle.gui_boxes.specs.Settled.{Known, AllFit, FillsPanel, IsSteady, StandsFree, known_at}
 use Rattle.gui_layout.specs.Solved.{layout_of, limits_of}
-use Rattle.gui_layout.specs.Tables.{listing_of}
+use Rattle.gui_boxes.specs.Tables.{listing_of}
 
 -- an object stands by itself in its parent as it was, if it has one
 abbrev pub LetsStand : (ℕ → Known) → (ℕ → Known) → ℕ → Option ℕ → Type 0

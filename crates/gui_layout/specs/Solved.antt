@@ -11,11 +11,11 @@ use Rattle.gui_layout.specs.declared.places.Places.{Places}
 use Rattle.layout_defs.specs.Solving.{Span}
 use Rattle.scene_defs.specs.Place.{offset, place, reach}
 use Rattle.gui_layout.specs.Scenes.{scene_box, HoldsBoxes}
-use Rattle.gui_layout.specs.declared.entry.Entry.{Entry}
+use Rattle.gui_boxes.specs.declared.entry.Entry.{Entry}
 use Rattle.gui_layout.specs.Scrolled.{IsScrolledIn}
-use Rattle.gui_layout.specs.Scrolls.{moves_of, span_of}
-use Rattle.gui_layout.specs.Settled.{Layout, known, known_at, IsSettled}
-use Rattle.gui_layout.specs.Tables.{area_in, told}
+use Rattle.gui_boxes.specs.Scrolls.{moves_of, span_of}
+use Rattle.gui_boxes.specs.Settled.{Layout, known, known_at, IsSettled}
+use Rattle.gui_boxes.specs.Tables.{area_in, told}
 
 abbrev pub limits_of : Places → Bounds
 limits_of p = bounds_of p.limits

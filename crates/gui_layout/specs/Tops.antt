@@ -4,12 +4,12 @@ use Rattle.gui_base.specs.Forest.{Forest, has, parent_of, tree_at}
 use Rattle.gui_base.specs.declared.Handle.{Handle}
 use Rattle.scene_defs.specs.Scene.{Scene, handles_of}
 use Rattle.gui_layout.specs.declared.places.Places.{Places}
-use Rattle.gui_layout.specs.Listing.{times}
+use Rattle.gui_boxes.specs.Listing.{times}
 use Rattle.gui_layout.specs.Marked.{marked_trees}
 use Rattle.gui_layout.specs.Scenes.{scene_box}
 use Rattle.gui_layout.specs.Scrolled.{IsScrolledIn}
-use Rattle.gui_layout.specs.Scrolls.{scrolled_at}
-use Rattle.gui_layout.specs.Settled.{IsSteady}
+use Rattle.gui_boxes.specs.Scrolls.{scrolled_at}
+use Rattle.gui_boxes.specs.Settled.{IsSteady}
 use Rattle.gui_layout.specs.Settles.{known_in}
 use Rattle.gui_layout.specs.Solved.{layout_of, offset_at, place_at, reach_at}
 

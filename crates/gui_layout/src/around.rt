@@ -1,17 +1,17 @@
 //! How far the children reach of objects at which or below which trees were solved.
 ghost use Rattle.std.specs.Prelude.{◌≡◌, ◌<◌, ℕ, Some, [], ◌∷◌, eqb, false, true};
 ghost use Rattle.gui_base.specs.Forest.{StandsOnce, has, parent_of, tree_at};
-ghost use Rattle.gui_layout.specs.Around.{IsFlat, IsFlatWithout, ReadsReaches};
-ghost use Rattle.gui_layout.specs.Listing.{times};
-ghost use Rattle.gui_layout.specs.Scrolls.{scrolled_at};
-ghost use Rattle.gui_layout.specs.Tables.{AreListed, listing_of, told};
+ghost use Rattle.gui_boxes.specs.Around.{IsFlat, IsFlatWithout, ReadsReaches};
+ghost use Rattle.gui_boxes.specs.Listing.{times};
+ghost use Rattle.gui_boxes.specs.Scrolls.{scrolled_at};
+ghost use Rattle.gui_boxes.specs.Tables.{AreListed, listing_of, told};
 ghost use Rattle.gui_layout.specs.Tops.{is_it, is_over};
-ghost use Rattle.gui_layout.specs.Views.{box_at};
+ghost use Rattle.gui_boxes.specs.Views.{box_at};
 
-use crate::entry::Entry;
 use crate::lone::renew_with;
-use crate::reaching::renew_reach;
 use gui_base::Handle;
+use gui_boxes::entry::Entry;
+use gui_boxes::reaching::renew_reach;
 use gui_pool::Table;
 use gui_tree::Tree;
 

@@ -14,43 +14,14 @@
 #![tactic(auto)]
 
 mod all;
-mod along;
 mod around;
-mod axis;
-mod boxes;
-mod entry;
-mod frame;
-mod framed;
-mod gone;
-mod heights;
-mod inside;
-mod items;
-mod layout_box;
-mod listing;
 mod lone;
 mod looks;
-mod mark;
-mod marks;
-mod measuring;
-mod natural;
 mod objects;
 mod own_heights;
-mod pending;
 mod places;
-mod position;
-mod positions;
 mod raising;
-mod reach;
-mod reaching;
 mod renewal;
-mod size;
-mod sizing;
-mod steady;
-mod tables;
-mod total;
 mod tree;
-mod widths;
 
-pub use listing::{list_trees, put};
-pub use marks::Marks;
 pub use places::{Places, met};

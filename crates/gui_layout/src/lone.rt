@@ -1,20 +1,20 @@
 //! An object that is changed alone. Where its siblings reach as far as all did, they are not walked past again.
 ghost use Rattle.std.specs.Prelude.{◌≡◌, ℕ, Some, IfSome, [], ◌∷◌, eqb, false, true, max};
 ghost use Rattle.gui_base.specs.Forest.{Forest, StandsOnce, children_of, has, parent_of, tree_at};
-ghost use Rattle.gui_layout.specs.Around.{IsFlat, IsFlatWithout, ReadsReaches, SparesOne, out_of};
-ghost use Rattle.gui_layout.specs.Layouts.{ButScrolls};
+ghost use Rattle.gui_boxes.specs.Around.{IsFlat, IsFlatWithout, ReadsReaches, SparesOne, out_of};
+ghost use Rattle.gui_boxes.specs.Layouts.{ButScrolls};
 ghost use Rattle.gui_layout.specs.Marked.{is_root};
-ghost use Rattle.gui_layout.specs.Scrolls.{scrolled_at, span_of};
-ghost use Rattle.gui_layout.specs.Sizings.{kid_by};
-ghost use Rattle.gui_layout.specs.Tables.{AreListed, IsListed, listing_of, told};
+ghost use Rattle.gui_boxes.specs.Scrolls.{scrolled_at, span_of};
+ghost use Rattle.gui_boxes.specs.Sizings.{kid_by};
+ghost use Rattle.gui_boxes.specs.Tables.{AreListed, IsListed, listing_of, told};
 ghost use Rattle.gui_layout.specs.Tops.{is_it};
 
-use crate::along::inner;
-use crate::entry::Entry;
-use crate::reach::{AT_REST, Reach, Scrolled};
-use crate::reaching::{farther, inner_corner};
-use crate::tables::{entry_of, set_scrolled};
 use gui_base::Handle;
+use gui_boxes::along::inner;
+use gui_boxes::entry::Entry;
+use gui_boxes::reach::{AT_REST, Reach, Scrolled};
+use gui_boxes::reaching::{farther, inner_corner};
+use gui_boxes::tables::{entry_of, set_scrolled};
 use gui_pool::Table;
 use gui_tree::Tree;
 

@@ -2,16 +2,16 @@
 ghost use Rattle.std.specs.Prelude.{◌≡◌, true};
 ghost use Rattle.gui_base.specs.Forest.{has, tree_at};
 ghost use Rattle.gui_store.specs.Views.{scene_of};
-ghost use Rattle.gui_layout.specs.Layouts.{ButBoxes};
+ghost use Rattle.gui_boxes.specs.Layouts.{ButBoxes};
 ghost use Rattle.gui_layout.specs.OwnHeights.{IsFixed, AreFixed, KeepsFixed};
 ghost use Rattle.gui_layout.specs.Renewed.{IsRenewed, AreRenewed, KeepsRenewed};
 ghost use Rattle.gui_layout.specs.Scenes.{scene_box};
-ghost use Rattle.gui_layout.specs.Tables.{told, listing_of, IsListed, AreListed};
+ghost use Rattle.gui_boxes.specs.Tables.{told, listing_of, IsListed, AreListed};
 
-use crate::entry::Entry;
 use crate::objects::own_height_of;
-use crate::tables::{entry_of, set_wanted};
 use gui_base::Handle;
+use gui_boxes::entry::Entry;
+use gui_boxes::tables::{entry_of, set_wanted};
 use gui_pool::Table;
 use gui_store::Store;
 use gui_tree::Tree;

@@ -1,16 +1,16 @@
 //! Objects whose list of children alone may be another.
 ghost use Rattle.std.specs.Prelude.{◌≡◌, ◌<◌, ℕ, true, false, eqb};
 ghost use Rattle.gui_pool.specs.Table.{value_at};
-ghost use Rattle.gui_layout.specs.Listing.{times};
-ghost use Rattle.gui_layout.specs.Pending.{is_any, is_partly, is_pending};
+ghost use Rattle.gui_boxes.specs.Listing.{times};
+ghost use Rattle.gui_boxes.specs.Pending.{is_any, is_partly, is_pending};
 ghost use Rattle.gui_layout.specs.Raised.{Rests, rests};
-ghost use Rattle.gui_layout.specs.Tables.{listing_of};
+ghost use Rattle.gui_boxes.specs.Tables.{listing_of};
 
-use crate::entry::Entry;
-use crate::mark::Mark;
-use crate::pending::is_partly;
-use crate::steady::is_steady;
 use gui_base::Handle;
+use gui_boxes::entry::Entry;
+use gui_boxes::mark::Mark;
+use gui_boxes::pending::is_partly;
+use gui_boxes::steady::is_steady;
 use gui_pool::Table;
 use gui_tree::Tree;
 

@@ -1,19 +1,19 @@
 //! Boxes that are made anew where objects have changed.
 ghost use Rattle.std.specs.Prelude.{◌≡◌, ◌<◌, ℕ, true};
-ghost use Rattle.gui_layout.specs.Listing.{times};
+ghost use Rattle.gui_boxes.specs.Listing.{times};
 ghost use Rattle.gui_base.specs.Forest.{has};
 ghost use Rattle.gui_store.specs.Views.{scene_of};
-ghost use Rattle.gui_layout.specs.Layouts.{ButBoxes};
-ghost use Rattle.gui_layout.specs.Pending.{is_pending};
+ghost use Rattle.gui_boxes.specs.Layouts.{ButBoxes};
+ghost use Rattle.gui_boxes.specs.Pending.{is_pending};
 ghost use Rattle.gui_layout.specs.Renewed.{IsRenewed, KeepsRenewed};
-ghost use Rattle.gui_layout.specs.Tables.{told, listing_of, IsListed};
+ghost use Rattle.gui_boxes.specs.Tables.{told, listing_of, IsListed};
 
-use crate::entry::Entry;
-use crate::mark::Mark;
 use crate::objects::box_in;
-use crate::pending::is_pending;
-use crate::tables::set_wanted;
 use gui_base::Handle;
+use gui_boxes::entry::Entry;
+use gui_boxes::mark::Mark;
+use gui_boxes::pending::is_pending;
+use gui_boxes::tables::set_wanted;
 use gui_pool::Table;
 use gui_store::Store;
 use gui_tree::Tree;

@@ -5,7 +5,8 @@ ghost use Rattle.gui_store.specs.Views.{scene_of};
 ghost use Rattle.gui_layout.specs.Solved.{AreSolved, limits_of};
 
 use gui_base::{Area, Flag, Flow, Handle, Kind, Length, Limits};
-use gui_layout::{Marks, Places};
+use gui_boxes::marks::Marks;
+use gui_layout::Places;
 use gui_store::Store;
 use scene_defs::Change;
 use std::alloc::Global;

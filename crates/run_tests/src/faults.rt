@@ -1,7 +1,7 @@
 //! Runs in which calls on the outside fail. The bytes, statuses and counts that are expected come from a
 //! second implementation.
 
-use crate::running::Setup;
+use crate::running::{Ran, Setup};
 use std::alloc::Global;
 use std::process::Abort;
 use std::test::Fail;
@@ -228,21 +228,29 @@ const PUMPS: &[Case] = &[
     ),
 ];
 
-/// Runs a case and compares.
-fn try_case(rt: &impl Abort, alloc: Global, case: &Case) -> Result<(), Fail> {
-    let (script, piece, faults, status, log, whole, part, sent) = *case;
-    let setup = Setup {
-        words: &WORDS,
-        script,
-        piece,
-        faults,
-        moves: &[],
-    };
-    let ran = setup.run(alloc)?;
+/// Compares what a run came to.
+fn compare(rt: &impl Abort, ran: &Ran, case: &Case) {
+    let (_, _, faults, status, log, whole, part, sent) = *case;
     assert_eq!(rt; ran.status as u8, status, "{faults:?}");
     assert_eq!(rt; ran.log.bytes(), log.as_bytes(), "{faults:?}");
     assert_eq!(rt; ran.sent, sent, "{faults:?}");
-    assert!(rt; are_white_frames(ran.frames.bytes(), whole, part), "{faults:?}");
+    assert!(rt;
+        are_white_frames(ran.frames.bytes(), whole, part),
+        "{faults:?}"
+    );
+}
+
+/// Runs a case and compares.
+fn try_case(rt: &impl Abort, alloc: Global, case: &Case) -> Result<(), Fail> {
+    let setup = Setup {
+        words: &WORDS,
+        script: case.0,
+        piece: case.1,
+        faults: case.2,
+        moves: &[],
+    };
+    let ran = setup.run(alloc)?;
+    compare(rt, &ran, case);
     Ok(())
 }
 

@@ -17,10 +17,8 @@ struct Case {
 
 /// Runs a case, of which no line is refused and no frame faults.
 fn try_case(rt: &impl Abort, alloc: Global, case: &Case) -> Result<(), Fail> {
-    let name = case.name;
     let ran = run(alloc, &case.words, case.script.as_bytes(), &[])?;
-    assert!(rt; ran.status == Status::Done, "{name}");
-    assert_eq!(rt; ran.counts.as_slice(), case.counts, "{name}");
+    ran.check_counts(rt, Status::Done, case.counts, case.name);
     Ok(())
 }
 
@@ -128,8 +126,7 @@ fn black_dots(alloc: Global) -> Result<String, Fail> {
 fn a_list_that_overflows_sends_the_panel(rt: HostRuntime) -> Result<(), Fail> {
     let script = black_dots(rt.alloc())?;
     let ran = run(rt.alloc(), &["66", "1", "1"], script.as_bytes(), &[])?;
-    assert!(rt; ran.status == Status::Done);
-    assert_eq!(rt; ran.counts.as_slice(), [66, 66].as_slice());
+    ran.check_counts(&rt, Status::Done, &[66, 66], "both frames send the panel");
     Ok(())
 }
 
@@ -137,9 +134,7 @@ fn a_list_that_overflows_sends_the_panel(rt: HostRuntime) -> Result<(), Fail> {
 #[test]
 fn a_slice_that_failed_is_sent_again(rt: HostRuntime) -> Result<(), Fail> {
     let ran = run(rt.alloc(), &["4", "2", "1"], b"frame\nframe\n", &[Start(2)])?;
-    assert!(rt; ran.status == Status::Noted);
-    assert_eq!(rt; ran.log.bytes(), &b"1 frame 1 fault\n2 frame 2 done\n"[..]);
-    assert_eq!(rt; ran.counts.as_slice(), [12].as_slice());
+    ran.check_counts(&rt, Status::Noted, &[12], "one frame is presented");
     assert_eq!(rt; ran.sent, 12);
     Ok(())
 }
@@ -150,7 +145,11 @@ fn after_a_fault_only_what_was_pending_is_sent(rt: HostRuntime) -> Result<(), Fa
     let script = b"new 10 3 obj\nsize 10 4 2\nlocal 10 main bg_opa 255\nframe\n\
         local 10 main bg_color #FF0000\nframe\nframe\nframe\n";
     let ran = run(rt.alloc(), &["4", "4", "1"], script, &[Start(6)])?;
-    assert!(rt; ran.status == Status::Noted);
-    assert_eq!(rt; ran.counts.as_slice(), [16, 12, 0].as_slice());
+    ran.check_counts(
+        &rt,
+        Status::Noted,
+        &[16, 12, 0],
+        "three frames are presented",
+    );
     Ok(())
 }

@@ -66,8 +66,7 @@ fn try_cases(rt: &impl Abort, alloc: Global, cases: &[Case]) -> Result<(), Fail>
     for case in cases {
         let (pool, script) = *case;
         let ran = run(alloc, &["4", "2", "1", pool], script.as_bytes(), &[])?;
-        assert!(rt; ran.status == Status::Noted, "{pool}");
-        assert_eq!(rt; ran.counts.as_slice(), [8, 0].as_slice(), "{pool}");
+        ran.check_counts(rt, Status::Noted, &[8, 0], pool);
     }
     Ok(())
 }

@@ -1,7 +1,7 @@
 //! Made scripts over calls on the outside that fail. The statuses, logs and sums that are expected come from
 //! a second implementation.
 
-use crate::running::Setup;
+use crate::running::{Ran, Setup};
 use std::alloc::Global;
 use std::process::Abort;
 use std::test::Fail;
@@ -29,20 +29,25 @@ const CASES: &[Case] = &[
     (&[Log(1)], 4, "made 1 lines 1261 refused 0 ", 385),
 ];
 
+/// Compares what a run came to.
+fn compare(rt: &impl Abort, ran: &Ran, case: &Case) {
+    let (faults, status, log, frames) = *case;
+    assert_eq!(rt; ran.status as u8, status, "{faults:?}");
+    assert_eq!(rt; ran.log.bytes(), log.as_bytes(), "{faults:?}");
+    assert_eq!(rt; ran.frames.bytes().len(), frames, "{faults:?}");
+}
+
 /// Runs a case and compares.
 fn try_case(rt: &impl Abort, alloc: Global, case: &Case) -> Result<(), Fail> {
-    let (faults, status, log, frames) = *case;
     let setup = Setup {
         words: &WORDS,
         script: b"a script that nobody reads",
         piece: 64,
-        faults,
+        faults: case.0,
         moves: &[],
     };
     let ran = setup.run(alloc)?;
-    assert_eq!(rt; ran.status as u8, status, "{faults:?}");
-    assert_eq!(rt; ran.log.bytes(), log.as_bytes(), "{faults:?}");
-    assert_eq!(rt; ran.frames.bytes().len(), frames, "{faults:?}");
+    compare(rt, &ran, case);
     Ok(())
 }
 

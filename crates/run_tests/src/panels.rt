@@ -1,12 +1,19 @@
 //! The areas in which a frame comes to a panel, and what a panel shows that was never sent anything.
 
-use crate::running::run;
+use crate::running::{Ran, run};
 use scene_run::Status;
 use std::alloc::Global;
 use std::process::Abort;
 use std::test::Fail;
 use test_runs::Fault::{self, Start};
 use test_runs::{WHITE_FRAME, WORDS};
+
+/// Whether a run started these areas, has this log, and presented one white frame.
+fn compare(rt: &impl Abort, ran: &Ran, log: &str, corners: &[[i32; 4]]) {
+    assert_eq!(rt; ran.log.bytes(), log.as_bytes());
+    assert_eq!(rt; ran.starts.as_slice(), corners);
+    assert_eq!(rt; ran.frames.bytes(), WHITE_FRAME);
+}
 
 /// Whether a script of which a frame is done starts these areas, has this log, and presents one white frame.
 fn starts(
@@ -18,15 +25,15 @@ fn starts(
     corners: &[[i32; 4]],
 ) -> Result<(), Fail> {
     let ran = run(alloc, &WORDS, script, faults)?;
-    let status = if faults.is_empty() {
-        Status::Done
-    } else {
-        Status::Noted
-    };
-    assert!(rt; ran.status == status);
-    assert_eq!(rt; ran.log.bytes(), log.as_bytes());
-    assert_eq!(rt; ran.starts.as_slice(), corners);
-    assert_eq!(rt; ran.frames.bytes(), WHITE_FRAME);
+    assert!(rt;
+        ran.status
+            == if faults.is_empty() {
+                Status::Done
+            } else {
+                Status::Noted
+            }
+    );
+    compare(rt, &ran, log, corners);
     Ok(())
 }
 
@@ -54,14 +61,29 @@ fn a_slice_whose_start_failed_is_started_again(rt: HostRuntime) -> Result<(), Fa
     )
 }
 
+/// Whether a run left a panel of eight pixels as it was opened, with an empty log.
+fn is_untouched(rt: &impl Abort, ran: &Ran) {
+    assert!(rt; ran.status == Status::Done);
+    assert_eq!(rt; ran.log.bytes(), b"".as_slice());
+    assert_eq!(rt; ran.shown.as_slice(), [0xA5A5; 8].as_slice());
+    assert_eq!(rt; ran.frames.bytes(), b"".as_slice());
+}
+
 #[test]
 fn the_empty_script_leaves_the_panel_as_it_was_opened(rt: HostRuntime) -> Result<(), Fail> {
     let ran = run(rt.alloc(), &WORDS, b"", &[])?;
-    assert!(rt; ran.status == Status::Done);
-    assert_eq!(rt; ran.log.bytes(), &b""[..]);
-    assert_eq!(rt; ran.shown.as_slice(), [0xA5A5; 8].as_slice());
-    assert_eq!(rt; ran.frames.bytes(), &b""[..]);
+    is_untouched(&rt, &ran);
     Ok(())
+}
+
+/// Whether a run sent a whole panel of eight by four pixels, and then one block.
+fn sent_a_block(rt: &impl Abort, ran: &Ran) {
+    assert!(rt; ran.status == Status::Done);
+    assert_eq!(rt;
+        ran.starts.as_slice(),
+        [[0, 0, 7, 3], [4, 0, 7, 1]].as_slice()
+    );
+    assert_eq!(rt; ran.sent, 40);
 }
 
 #[test]
@@ -69,8 +91,6 @@ fn a_pixel_that_changes_is_sent_with_its_block(rt: HostRuntime) -> Result<(), Fa
     let script = b"new 10 3 obj\nsize 10 1 1\npos 10 5 1\nlocal 10 main bg_opa 255\nframe\n\
         local 10 main bg_color #FF0000\nframe\n";
     let ran = run(rt.alloc(), &["8", "4", "4", "block=4x2"], script, &[])?;
-    assert!(rt; ran.status == Status::Done);
-    assert_eq!(rt; ran.starts.as_slice(), &[[0, 0, 7, 3], [4, 0, 7, 1]][..]);
-    assert_eq!(rt; ran.sent, 40);
+    sent_a_block(&rt, &ran);
     Ok(())
 }

@@ -4,6 +4,7 @@ use arrayvec::ArrayVec;
 use gui_edge::{MemSink, SimPanel};
 use scene_run::Status;
 use std::alloc::Global;
+use std::process::Abort;
 use std::test::Fail;
 use test_panels::ListingPanel;
 use test_runs::{Fault, Outside, run_over};
@@ -46,6 +47,14 @@ fn shown_by(panel: &ListingPanel<SimPanel<MemSink>>) -> ArrayVec<u16, 8> {
         }
     }
     shown
+}
+
+impl Ran {
+    /// Fails where the run ended otherwise, or its frames were sent other counts of pixels.
+    pub(crate) fn check_counts(&self, rt: &impl Abort, status: Status, counts: &[u64], name: &str) {
+        assert!(rt; self.status == status, "{name}");
+        assert_eq!(rt; self.counts.as_slice(), counts, "{name}");
+    }
 }
 
 impl Setup<'_> {

@@ -1,7 +1,7 @@
 //! Frames of objects after a start or a transfer that failed, and after changes of what is in flight. The logs
 //! that are expected come from a second implementation.
 
-use crate::running::Setup;
+use crate::running::{Ran, Setup};
 use scene_run::Status;
 use std::alloc::{AllocError, Global};
 use std::process::Abort;
@@ -43,10 +43,16 @@ fn frame_bytes(alloc: Global, frames: &[&str]) -> Result<Vec<u8>, AllocError> {
     Ok(bytes)
 }
 
+/// Compares what a run came to.
+fn compare(rt: &impl Abort, ran: &Ran, case: &Case, frames: &[u8]) {
+    let name = case.name;
+    assert_eq!(rt; ran.log.bytes(), case.log.as_bytes(), "{name}");
+    assert!(rt; ran.frames.bytes() == frames, "{name}");
+    assert!(rt; ran.status == case.status, "{name}");
+}
+
 /// Runs a case and compares.
 fn try_case(rt: &impl Abort, alloc: Global, case: &Case) -> Result<(), Fail> {
-    let name = case.name;
-    let frames = frame_bytes(alloc, case.frames)?;
     let setup = Setup {
         words: &WORDS,
         script: case.script.as_bytes(),
@@ -54,10 +60,9 @@ fn try_case(rt: &impl Abort, alloc: Global, case: &Case) -> Result<(), Fail> {
         faults: case.faults,
         moves: case.moves,
     };
+    let frames = frame_bytes(alloc, case.frames)?;
     let ran = setup.run(alloc)?;
-    assert_eq!(rt; ran.log.bytes(), case.log.as_bytes(), "{name}");
-    assert!(rt; ran.frames.bytes() == frames.as_slice(), "{name}");
-    assert!(rt; ran.status == case.status, "{name}");
+    compare(rt, &ran, case, frames.as_slice());
     Ok(())
 }
 

@@ -1,7 +1,7 @@
 use Rattle.std.proofs.Common.{◌≡◌, ◌∙◌, refl, sym, ap, ◌==◌, true, List, [], ◌∷◌, length, arith}
 use Rattle.std.proofs.lemmas.Bool.{eqb-true}
 use Rattle.gui_base.specs.declared.Handle.{Handle}
-use Rattle.gui_layout.specs.Marks.{solved_in}
+use Rattle.gui_boxes.specs.Marks.{solved_in}
 use Rattle.gui_change.proofs.Owing.{not-so}
 use Rattle.gui_change.proofs.edits.is_order_alone.Goals as goal
 

@@ -2,7 +2,7 @@ use Rattle.std.proofs.Common.{◌≡◌, refl, sym, subst, true, false, List}
 use Rattle.gui_base.specs.declared.Handle.{Handle}
 use Rattle.gui_store.specs.Views.{removed_of, scene_of}
 use Rattle.scene_defs.specs.Scene.{handles_of}
-use Rattle.gui_layout.specs.Marks.{solved_in}
+use Rattle.gui_boxes.specs.Marks.{solved_in}
 use Rattle.gui_layout.specs.Tops.{in_trees_at}
 use Rattle.gui_debts.specs.Sights.{KeepOthers}
 use Rattle.gui_debts.specs.declared.concerned.Concerned.TheVariants.{Nobody}

@@ -4,7 +4,7 @@ use Rattle.gui_store.specs.Views.{scene_of}
 use Rattle.scene_defs.specs.Scene.{handles_of}
 use Rattle.scene_defs.specs.Shown.{order}
 use Rattle.debt_defs.specs.SceneLook.{is_among}
-use Rattle.gui_layout.specs.Marks.{solved_in}
+use Rattle.gui_boxes.specs.Marks.{solved_in}
 use Rattle.gui_layout.specs.Tops.{in_trees_at}
 use Rattle.gui_change.specs.Dues.{OwesAll}
 use Rattle.gui_debts.specs.Handles.{number_of}

@@ -1,8 +1,8 @@
 use Rattle.std.proofs.Common.{◌≡◌, ◌∙◌, ◌<◌, refl, sym, subst, true, eqb, arith}
 use Rattle.std.proofs.lemmas.Bool.{both_ways, eqb-true, false_from_ne_true}
 use Rattle.gui_store.specs.Views.{scene_of}
-use Rattle.gui_layout.specs.Listing.{times}
-use Rattle.gui_layout.specs.Marks.{is_changed, is_marked, is_parent, solved_in}
+use Rattle.gui_boxes.specs.Listing.{times}
+use Rattle.gui_boxes.specs.Marks.{is_changed, is_marked, is_parent, solved_in}
 use Rattle.gui_change.proofs.BarsStay.{scrolls-same}
 use Rattle.gui_change.proofs.Edited.{other-kids}
 use Rattle.gui_change.proofs.Unmoved.{beside-reordered, beside-told}

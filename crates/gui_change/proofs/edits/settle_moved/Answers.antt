@@ -2,7 +2,7 @@ use Rattle.std.proofs.Common.{◌≡◌, ◌∙◌, ℕ, true, false}
 use Rattle.std.proofs.lemmas.Bool.{both_ways, false_from_ne_true}
 use Rattle.gui_store.specs.Views.{scene_of}
 use Rattle.scene_defs.specs.Scene.{handles_of, is_there}
-use Rattle.gui_layout.specs.Marks.{is_changed, is_marked, solved_in}
+use Rattle.gui_boxes.specs.Marks.{is_changed, is_marked, solved_in}
 use Rattle.gui_layout.specs.Tops.{in_trees_at}
 use Rattle.gui_change.proofs.BarsStay.{scrolls-same}
 use Rattle.gui_change.proofs.edits.settle_moved.Goals as goal

@@ -2,7 +2,7 @@ use Rattle.std.proofs.Common.{◌≡◌, ◌∙◌, refl, subst, ℕ, Bool, true
 use Rattle.std.proofs.lemmas.Bool.{both_ways, eqb-true, false_from_ne_true}
 use Rattle.gui_store.specs.Views.{scene_of}
 use Rattle.scene_defs.specs.Scene.{handles_of}
-use Rattle.gui_layout.specs.Marks.{is_changed, is_marked, is_parent, solved_in}
+use Rattle.gui_boxes.specs.Marks.{is_changed, is_marked, is_parent, solved_in}
 use Rattle.gui_layout.specs.SettledBut.{AreSettledButMarks, anyone, in_marked}
 use Rattle.gui_layout.specs.Tops.{in_trees_at}
 use Rattle.gui_layout.proofs.Before.{right_fewer}

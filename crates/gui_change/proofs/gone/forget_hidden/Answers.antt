@@ -4,8 +4,8 @@ use Rattle.std.specs.List.{flat_map}
 use Rattle.std.proofs.lemmas.List.{drop_all}
 use Rattle.gui_base.specs.declared.Handle.{Handle}
 use Rattle.gui_damage.specs.Gridded.{added_all_in}
-use Rattle.gui_layout.specs.Listing.{HasThese}
-use Rattle.gui_layout.proofs.These.{these_after}
+use Rattle.gui_boxes.specs.Listing.{HasThese}
+use Rattle.gui_boxes.proofs.These.{these_after}
 use Rattle.gui_store.specs.Views.{scene_of}
 use Rattle.gui_tree.specs.Handles.{numbers}
 use Rattle.gui_change.specs.Gone.{gone_of, owed_gone, shown_of}

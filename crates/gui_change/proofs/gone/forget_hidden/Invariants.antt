@@ -2,7 +2,7 @@ use Rattle.std.proofs.Common.{◌≡◌, ◌++◌, ℕ, Some, drop}
 use Rattle.std.specs.Prelude.{option_map}
 use Rattle.std.specs.List.{flat_map}
 use Rattle.gui_damage.specs.Gridded.{added_all_in}
-use Rattle.gui_layout.specs.Listing.{HasThese}
+use Rattle.gui_boxes.specs.Listing.{HasThese}
 use Rattle.gui_pool.specs.Table.{value_at}
 use Rattle.gui_store.specs.Views.{scene_of}
 use Rattle.gui_tree.specs.Handles.{numbers}

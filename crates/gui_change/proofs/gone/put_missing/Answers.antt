@@ -1,8 +1,8 @@
 use Rattle.std.proofs.Common.{◌≡◌, ◌∙◌, ◌∷◌, ◌+◌, refl, sym, ap, subst, drop, get_or, List, false, is_some}
 use Rattle.std.proofs.lemmas.List.{drop_all}
 use Rattle.gui_base.specs.declared.Handle.{Handle}
-use Rattle.gui_layout.specs.Listing.{AreProper}
-use Rattle.gui_layout.proofs.These.{HasBut, MayPut, but_first, but_none, but_put}
+use Rattle.gui_boxes.specs.Listing.{AreProper}
+use Rattle.gui_boxes.proofs.These.{HasBut, MayPut, but_first, but_none, but_put}
 use Rattle.gui_pool.specs.Table.{value_at}
 use Rattle.gui_store.specs.Views.{scene_of}
 use Rattle.gui_change.proofs.Missing.{missing, missing-begins, missing-known, missing-other, missing-told}

@@ -2,7 +2,7 @@ use Rattle.std.proofs.Common.{◌≡◌, ◌<◌, ◌≤◌, ◌∙◌, sym, ap,
 use Rattle.gui_base.specs.Forest.{Forest, Tree, has, size}
 use Rattle.gui_tree.specs.Walks.{Walk}
 use Rattle.gui_tree.proofs.Steps.{IsChild, child_in}
-use Rattle.gui_layout.specs.Marks.{is_changed}
+use Rattle.gui_boxes.specs.Marks.{is_changed}
 use Rattle.gui_change.specs.Marking.{AlsoMarks}
 use Rattle.gui_change.proofs.Marked.{still-one}
 use Rattle.gui_change.proofs.Marks.{also-mark, or-false, or-three, room}

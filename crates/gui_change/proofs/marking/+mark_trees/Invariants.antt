@@ -1,6 +1,6 @@
 use Rattle.std.proofs.Common.{◌≡◌, ◌≤◌, ℕ, true, ◌||◌}
 use Rattle.gui_base.specs.Forest.{has, size}
-use Rattle.gui_layout.specs.Marks.{is_changed, is_parent, most_marks}
+use Rattle.gui_boxes.specs.Marks.{is_changed, is_parent, most_marks}
 use Rattle.gui_change.specs.Marking.{AreMarked}
 use Rattle.gui_change.proofs.marking.+mark_trees.Given as goal
 

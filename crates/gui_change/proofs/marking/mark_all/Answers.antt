@@ -3,7 +3,7 @@ use Rattle.gui_store.specs.Views.{scene_of}
 use Rattle.gui_tree.specs.Walks.{Walk}
 use Rattle.scene_defs.specs.Scene.{handles_of}
 use Rattle.gui_base.specs.Forest.{Forest, has}
-use Rattle.gui_layout.specs.Marks.{is_changed}
+use Rattle.gui_boxes.specs.Marks.{is_changed}
 use Rattle.gui_change.specs.Marking.{AreMarked}
 use Rattle.gui_change.proofs.marking.mark_all.Goals as goal
 

@@ -1,7 +1,7 @@
 use Rattle.std.proofs.Common.{◌≡◌, ◌∙◌, sym, ap, ℕ, Bool, false, eqb, ◌||◌}
 use Rattle.std.proofs.lemmas.Bool.{both_ways, false_from_ne_true}
 use Rattle.gui_base.specs.Forest.{Forest, has, children_of, tree_at}
-use Rattle.gui_layout.specs.Marks.{is_changed}
+use Rattle.gui_boxes.specs.Marks.{is_changed}
 use Rattle.gui_tree.specs.Walks.{Walk}
 use Rattle.gui_tree.proofs.Below.{tree_is}
 use Rattle.gui_layout.proofs.Settling.{tree-there}

@@ -1,6 +1,6 @@
 use Rattle.std.proofs.Common.{ap, refl, Bool, ◌||◌}
 use Rattle.gui_store.specs.Views.{scene_of}
-use Rattle.gui_layout.specs.Marks.{is_changed}
+use Rattle.gui_boxes.specs.Marks.{is_changed}
 use Rattle.gui_change.proofs.Marked.{in-users}
 use Rattle.gui_change.proofs.marking.mark_below_users.Goals as goal
 

@@ -4,7 +4,7 @@ use Rattle.gui_store.specs.Views.{scene_of}
 use Rattle.gui_debts.specs.Concerned.{is_below_user}
 use Rattle.gui_change.proofs.Marked.{holds}
 use Rattle.scene_defs.specs.Scene.{handles_of, is_there}
-use Rattle.gui_layout.specs.Marks.{is_changed, is_parent, most_marks}
+use Rattle.gui_boxes.specs.Marks.{is_changed, is_parent, most_marks}
 use Rattle.gui_change.specs.Marking.{AreMarked}
 use Rattle.gui_change.proofs.marking.mark_below_users.Given as goal
 

@@ -4,7 +4,7 @@ use Rattle.debt_defs.specs.SceneLook.{is_among}
 use Rattle.gui_base.specs.declared.Handle.{Handle}
 use Rattle.gui_store.specs.Views.{removed_of}
 use Rattle.gui_tree.specs.Handles.{numbers}
-use Rattle.gui_layout.specs.Marks.{is_changed, is_marked}
+use Rattle.gui_boxes.specs.Marks.{is_changed, is_marked}
 use Rattle.gui_change.proofs.Marks.{count-none, none-changed}
 use Rattle.gui_change.proofs.marking.mark_gone.Goals as goal
 use Rattle.gui_change.proofs.marking.mark_gone.Goals.{After-mark_listed}

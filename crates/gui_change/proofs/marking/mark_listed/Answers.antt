@@ -3,7 +3,7 @@ use Rattle.std.proofs.lemmas.List.{drop_all}
 use Rattle.debt_defs.specs.SceneLook.{is_among}
 use Rattle.gui_base.specs.declared.Handle.{Handle}
 use Rattle.gui_tree.specs.Handles.{numbers}
-use Rattle.gui_layout.specs.Marks.{is_changed, is_marked, mark_count}
+use Rattle.gui_boxes.specs.Marks.{is_changed, is_marked, mark_count}
 use Rattle.gui_change.proofs.Marks.{also-mark, or-false, or-three}
 use Rattle.gui_change.proofs.Orders.{nobody}
 use Rattle.gui_change.proofs.Renewing.{next_of}

@@ -1,7 +1,7 @@
 use Rattle.std.proofs.Common.{◌≡◌, ◌≤◌, ◌+◌, ◌||◌, ℕ, true, drop}
 use Rattle.debt_defs.specs.SceneLook.{is_among}
 use Rattle.gui_tree.specs.Handles.{numbers}
-use Rattle.gui_layout.specs.Marks.{is_changed, is_parent, mark_count, most_marks}
+use Rattle.gui_boxes.specs.Marks.{is_changed, is_parent, mark_count, most_marks}
 use Rattle.gui_change.proofs.marking.mark_listed.Given as goal
 
 abbrev pub invariant-loop-h : goal.invariant-loop-h

@@ -2,7 +2,7 @@ use Rattle.std.proofs.Common.{◌≡◌, ◌∙◌, sym, ℕ, true, false, ◌&&
 use Rattle.std.proofs.lemmas.Bool.{and_from, both_ways, false_from_ne_true, or_right}
 use Rattle.gui_store.specs.Views.{scene_of}
 use Rattle.scene_defs.specs.Scene.{is_there}
-use Rattle.gui_layout.specs.Marks.{is_changed, is_marked, is_parent}
+use Rattle.gui_boxes.specs.Marks.{is_changed, is_marked, is_parent}
 use Rattle.gui_layout.proofs.Entering.{few}
 use Rattle.gui_debts.specs.Concerned.{may_be}
 use Rattle.gui_change.proofs.Marks.{marked-changed}

@@ -3,7 +3,7 @@ use Rattle.std.proofs.lemmas.Bool.{eqb-true}
 use Rattle.gui_base.specs.Forest.{has}
 use Rattle.gui_store.specs.Views.{scene_of}
 use Rattle.scene_defs.specs.Scene.{handles_of}
-use Rattle.gui_layout.specs.Marks.{is_parent}
+use Rattle.gui_boxes.specs.Marks.{is_parent}
 use Rattle.gui_change.proofs.Marks.{also-mark, none-there, room, there-still, unmarked-still}
 use Rattle.gui_change.proofs.marking.mark_new.Goals as goal
 

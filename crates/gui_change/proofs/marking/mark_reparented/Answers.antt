@@ -4,9 +4,9 @@ use Rattle.gui_base.specs.Forest.{Forest, has}
 use Rattle.gui_pool.specs.Table.{value_at}
 use Rattle.gui_store.specs.Views.{scene_of}
 use Rattle.scene_defs.specs.Scene.{handles_of}
-use Rattle.gui_layout.specs.Marks.{is_changed, is_parent, most_marks}
-use Rattle.gui_layout.specs.declared.marks.Marks.{Marks}
-use Rattle.gui_layout.proofs.Pendings.{all-any, any-part, part-any}
+use Rattle.gui_boxes.specs.Marks.{is_changed, is_parent, most_marks}
+use Rattle.gui_boxes.specs.declared.marks.Marks.{Marks}
+use Rattle.gui_boxes.proofs.Pendings.{all-any, any-part, part-any}
 use Rattle.gui_change.specs.Marking.{AreMarked}
 use Rattle.gui_change.proofs.Marks.{none-there, room}
 use Rattle.gui_change.proofs.marking.mark_reparented.Goals as goal

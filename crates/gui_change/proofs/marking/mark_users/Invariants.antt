@@ -3,7 +3,7 @@ use Rattle.std.specs.List.{list_any}
 use Rattle.gui_store.specs.Views.{scene_of}
 use Rattle.gui_style.specs.Styles.{is_handle, uses_style}
 use Rattle.scene_defs.specs.Scene.{handles_of, is_there}
-use Rattle.gui_layout.specs.Marks.{is_changed, is_parent, most_marks}
+use Rattle.gui_boxes.specs.Marks.{is_changed, is_parent, most_marks}
 use Rattle.gui_change.specs.Marking.{AreMarked}
 use Rattle.gui_change.proofs.marking.mark_users.Given as goal
 

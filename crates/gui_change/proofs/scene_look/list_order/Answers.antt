@@ -5,7 +5,7 @@ use Rattle.gui_tree.specs.Handles.{numbers}
 use Rattle.scene_defs.specs.Scene.{Scene, handles_of}
 use Rattle.scene_defs.specs.Shown.{entries, order}
 use Rattle.scene_defs.specs.Visible.{shown_trees}
-use Rattle.gui_layout.proofs.These.{length-preorder}
+use Rattle.gui_boxes.proofs.These.{length-preorder}
 use Rattle.gui_change.specs.Entries.{all_entries, own_handles}
 use Rattle.gui_change.specs.declared.entries.Entry.{Entry}
 use Rattle.gui_change.proofs.Entering.{own_is}

@@ -1,5 +1,5 @@
 use Rattle.std.proofs.Common.{drop}
-use Rattle.gui_layout.proofs.These.{HasBut}
+use Rattle.gui_boxes.proofs.These.{HasBut}
 use Rattle.gui_store.specs.Views.{scene_of}
 use Rattle.gui_debts.specs.Sightings.{AreSighted}
 use Rattle.gui_debts.specs.Sights.{AreSeen}

@@ -1,7 +1,7 @@
 use Rattle.std.proofs.Common.{inl, inr}
 use Rattle.std.specs.Prelude.{option_map}
 use Rattle.std.proofs.lemmas.Bool.{cases_Bool}
-use Rattle.gui_layout.proofs.These.{these_kept}
+use Rattle.gui_boxes.proofs.These.{these_kept}
 use Rattle.gui_store.specs.Views.{scene_of}
 use Rattle.scene_defs.specs.Scene.{handles_of}
 use Rattle.gui_debts.specs.Concerned.{may_be}

@@ -1,6 +1,6 @@
 use Rattle.std.proofs.Common.{◌∙◌, sym, ap, refl, None, is_some, arith}
 use Rattle.gui_base.proofs.Visits.{count-has}
-use Rattle.gui_layout.proofs.These.{has-times, times_is}
+use Rattle.gui_boxes.proofs.These.{has-times, times_is}
 use Rattle.gui_store.specs.Views.{scene_of}
 use Rattle.scene_defs.specs.Scene.{handles_of}
 use Rattle.scene_defs.specs.Visible.{shown_trees}

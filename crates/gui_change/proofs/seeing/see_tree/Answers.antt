@@ -9,11 +9,11 @@ use Rattle.gui_store.specs.Views.{scene_of}
 use Rattle.gui_tree.specs.Handles.{numbers}
 use Rattle.scene_defs.specs.Scene.{handles_of}
 use Rattle.scene_defs.specs.Visible.{shown_trees}
-use Rattle.gui_layout.specs.Listing.{times}
+use Rattle.gui_boxes.specs.Listing.{times}
 use Rattle.gui_layout.proofs.Entering.{few}
 use Rattle.gui_tree.proofs.Parts.{there, found, distinct_once, size-part}
 use Rattle.gui_layout.proofs.Settling.{tree-in}
-use Rattle.gui_layout.proofs.These.{has-times, times_is}
+use Rattle.gui_boxes.proofs.These.{has-times, times_is}
 use Rattle.debt_defs.specs.Debt.{is_named}
 use Rattle.gui_change.specs.Again.{AreKnown}
 use Rattle.gui_debts.specs.Handles.{number_of}

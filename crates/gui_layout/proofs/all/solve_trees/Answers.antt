@@ -2,13 +2,13 @@ use Rattle.std.proofs.Common.{◌∙◌, sym, ap, subst, refl}
 use Rattle.gui_base.specs.Forest.{Empty, Tree}
 use Rattle.gui_tree.specs.Walks.{Walk}
 use Rattle.gui_tree.proofs.Steps.{child_in}
-use Rattle.gui_layout.specs.Layouts.{KeepsRest}
-use Rattle.gui_layout.specs.Scrolls.{HoldsScrolls}
-use Rattle.gui_layout.specs.Settled.{Layout, known, AllFit}
+use Rattle.gui_boxes.specs.Layouts.{KeepsRest}
+use Rattle.gui_boxes.specs.Scrolls.{HoldsScrolls}
+use Rattle.gui_boxes.specs.Settled.{Layout, known, AllFit}
 use Rattle.gui_store.specs.Views.{scene_of}
 use Rattle.gui_layout.specs.Scenes.{scene_box}
 use Rattle.gui_layout.proofs.Renewals.{holds-still, renewed-in}
-use Rattle.gui_layout.specs.Tables.{Listing, IsListed, AreListed, told}
+use Rattle.gui_boxes.specs.Tables.{Listing, IsListed, AreListed, told}
 use Rattle.gui_layout.proofs.Settling.{tree-in}
 use Rattle.gui_layout.proofs.Solves.{Solves, solves_none, solves_first}
 use Rattle.gui_layout.proofs.all.solve_trees.Goals as goal

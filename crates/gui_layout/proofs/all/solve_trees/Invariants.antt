@@ -1,6 +1,6 @@
 use Rattle.std.proofs.Common.{◌≡◌}
-use Rattle.gui_layout.specs.Settled.{Layout}
-use Rattle.gui_layout.specs.Tables.{listing_of, told}
+use Rattle.gui_boxes.specs.Settled.{Layout}
+use Rattle.gui_boxes.specs.Tables.{listing_of, told}
 use Rattle.gui_store.specs.Views.{scene_of}
 use Rattle.gui_layout.specs.Scenes.{scene_box, HoldsBoxes}
 use Rattle.gui_layout.proofs.Solves.{Solves}

@@ -1,12 +1,12 @@
 use Rattle.std.proofs.Common.{◌≡◌, ◌∙◌, ◌<◌, refl, sym, subst, eqb, true, false, get_or, inl, inr, arith}
 use Rattle.std.proofs.lemmas.Bool.{cases_Bool, eqb-true, false_from_ne_true}
 use Rattle.gui_base.specs.Forest.{has, tree_at}
-use Rattle.gui_layout.specs.Around.{IsFlat}
-use Rattle.gui_layout.specs.Listing.{times}
-use Rattle.gui_layout.specs.Tables.{Listing, AreListed, told}
-use Rattle.gui_layout.specs.Views.{box_at}
+use Rattle.gui_boxes.specs.Around.{IsFlat}
+use Rattle.gui_boxes.specs.Listing.{times}
+use Rattle.gui_boxes.specs.Tables.{Listing, AreListed, told}
+use Rattle.gui_boxes.specs.Views.{box_at}
 use Rattle.gui_layout.proofs.Overs.{flat-stays, reads-none, reads-then, still-before}
-use Rattle.gui_layout.proofs.Entered.{nothing, first-times, next-times, none-left}
+use Rattle.gui_boxes.proofs.Entered.{nothing, first-times, next-times, none-left}
 use Rattle.gui_layout.proofs.around.renew_all_there.Goals as goal
 
 pub loop-h-init : goal.loop-h-init

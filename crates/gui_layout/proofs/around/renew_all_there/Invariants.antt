@@ -1,10 +1,10 @@
 use Rattle.std.proofs.Common.{◌≡◌, ◌<◌, ℕ, true, false, drop}
 use Rattle.gui_base.specs.Forest.{has}
-use Rattle.gui_layout.specs.Around.{IsFlat, ReadsReaches}
-use Rattle.gui_layout.specs.Listing.{times}
-use Rattle.gui_layout.specs.Scrolls.{scrolled_at}
-use Rattle.gui_layout.specs.Tables.{listing_of, told}
-use Rattle.gui_layout.specs.Views.{box_at}
+use Rattle.gui_boxes.specs.Around.{IsFlat, ReadsReaches}
+use Rattle.gui_boxes.specs.Listing.{times}
+use Rattle.gui_boxes.specs.Scrolls.{scrolled_at}
+use Rattle.gui_boxes.specs.Tables.{listing_of, told}
+use Rattle.gui_boxes.specs.Views.{box_at}
 use Rattle.gui_layout.proofs.around.renew_all_there.Given as goal
 
 abbrev pub invariant-loop-h : goal.invariant-loop-h

@@ -1,7 +1,7 @@
 use Rattle.std.proofs.Common.{◌≡◌, ◌∙◌, ◌<◌, ap, sym, subst, false}
 use Rattle.std.proofs.lemmas.Bool.{or_parts}
 use Rattle.gui_base.specs.Forest.{parent_of}
-use Rattle.gui_layout.specs.Listing.{times}
+use Rattle.gui_boxes.specs.Listing.{times}
 use Rattle.gui_layout.specs.Tops.{is_it, is_over}
 use Rattle.gui_layout.proofs.Siblings.{one-only, one-times}
 use Rattle.gui_layout.proofs.around.renew_around.Goals as goal

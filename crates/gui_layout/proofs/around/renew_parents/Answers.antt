@@ -1,10 +1,10 @@
 use Rattle.std.proofs.Common.{◌≡◌, ◌∙◌, refl, sym, ap, subst, eqb, false, get_or, inl, inr, arith}
 use Rattle.std.proofs.lemmas.Bool.{cases_Bool, eqb-true, both_ways, false_from_ne_true}
 use Rattle.gui_base.specs.Forest.{parent_of, tree_at}
-use Rattle.gui_layout.specs.Tables.{Listing, AreListed, told}
+use Rattle.gui_boxes.specs.Tables.{Listing, AreListed, told}
 use Rattle.gui_layout.specs.Tops.{is_it, is_over}
 use Rattle.gui_layout.proofs.Overs.{flat-stays, it-is, over-top, reads-none, reads-then, still-before}
-use Rattle.gui_layout.proofs.Entered.{nothing, first-times, next-times, none-left}
+use Rattle.gui_boxes.proofs.Entered.{nothing, first-times, next-times, none-left}
 use Rattle.gui_layout.proofs.around.renew_parents.Goals as goal
 
 pub loop-h-init : goal.loop-h-init

@@ -1,11 +1,11 @@
 use Rattle.std.proofs.Common.{◌≡◌, ◌<◌, ℕ, Some, false, drop}
 use Rattle.gui_base.specs.Forest.{parent_of}
-use Rattle.gui_layout.specs.Around.{IsFlat, ReadsReaches}
-use Rattle.gui_layout.specs.Listing.{times}
-use Rattle.gui_layout.specs.Scrolls.{scrolled_at}
-use Rattle.gui_layout.specs.Tables.{listing_of, told}
+use Rattle.gui_boxes.specs.Around.{IsFlat, ReadsReaches}
+use Rattle.gui_boxes.specs.Listing.{times}
+use Rattle.gui_boxes.specs.Scrolls.{scrolled_at}
+use Rattle.gui_boxes.specs.Tables.{listing_of, told}
 use Rattle.gui_layout.specs.Tops.{is_over}
-use Rattle.gui_layout.specs.Views.{box_at}
+use Rattle.gui_boxes.specs.Views.{box_at}
 use Rattle.gui_layout.proofs.around.renew_parents.Given as goal
 
 abbrev pub invariant-loop-h : goal.invariant-loop-h

@@ -2,13 +2,13 @@ use Rattle.std.proofs.Common.{◌∙◌, ap, sym, get_or, max, eq-eqb}
 use Rattle.std.proofs.lemmas.Bool.{both_ways}
 use Rattle.std.proofs.lemmas.List.{get_or-set_same, get_or-set_other}
 use Rattle.layout_defs.specs.Solving.{Span}
-use Rattle.gui_layout.specs.Kids.{flat_scrolled}
-use Rattle.gui_layout.specs.Layouts.{ButScrolls}
-use Rattle.gui_layout.specs.Scrolls.{not_scrolled}
-use Rattle.gui_layout.specs.Settled.{Layout}
-use Rattle.gui_layout.specs.Tables.{scrolled_or, told}
-use Rattle.gui_layout.specs.Views.{box_at}
-use Rattle.gui_layout.proofs.Listed.{told_short}
+use Rattle.gui_boxes.specs.Kids.{flat_scrolled}
+use Rattle.gui_boxes.specs.Layouts.{ButScrolls}
+use Rattle.gui_boxes.specs.Scrolls.{not_scrolled}
+use Rattle.gui_boxes.specs.Settled.{Layout}
+use Rattle.gui_boxes.specs.Tables.{scrolled_or, told}
+use Rattle.gui_boxes.specs.Views.{box_at}
+use Rattle.gui_boxes.proofs.Listed.{told_short}
 use Rattle.gui_layout.proofs.Without.{with-one}
 use Rattle.gui_layout.proofs.lone.add_reach.Goals as goal
 use Rattle.gui_layout.proofs.lone.add_reach.Goals.{After-set_scrolled}

@@ -2,10 +2,10 @@ use Rattle.std.proofs.Common.{◌≡◌, ◌∙◌, sym, subst, Some, get_or}
 use Rattle.std.specs.Prelude.{option_map}
 use Rattle.gui_base.specs.Forest.{parent_of}
 use Rattle.gui_tree.specs.Handles.{as_handle}
-use Rattle.gui_layout.specs.Around.{SparesOne}
-use Rattle.gui_layout.specs.Tables.{told}
+use Rattle.gui_boxes.specs.Around.{SparesOne}
+use Rattle.gui_boxes.specs.Tables.{told}
 use Rattle.gui_layout.proofs.Climbing.{number}
-use Rattle.gui_layout.proofs.Entered.{nothing}
+use Rattle.gui_boxes.proofs.Entered.{nothing}
 use Rattle.gui_layout.proofs.lone.lone_child.Goals as goal
 
 pub returns-then-spares_in-clause-spared : goal.returns-then-spares_in-clause-spared

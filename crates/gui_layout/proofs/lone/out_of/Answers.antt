@@ -1,9 +1,9 @@
 use Rattle.std.proofs.Common.{◌≡◌, ◌∙◌, ap, ℕ, ℤ, pos, ◌+ℤ◌, Bool, true, false, max, cond, w32, to_z, of_z, refl, arith}
 use Rattle.std.proofs.lemmas.Int.{ints, to_z-of_z}
 use Rattle.layout_defs.specs.Solving.{end_across, end_down}
-use Rattle.gui_layout.specs.Scrolls.{at_corner}
-use Rattle.gui_layout.specs.Settled.{tall_of}
-use Rattle.gui_layout.specs.Sizings.{kid_by}
+use Rattle.gui_boxes.specs.Scrolls.{at_corner}
+use Rattle.gui_boxes.specs.Settled.{tall_of}
+use Rattle.gui_boxes.specs.Sizings.{kid_by}
 use Rattle.gui_layout.proofs.lone.out_of.Goals as goal
 
 -- a coordinate as it is read

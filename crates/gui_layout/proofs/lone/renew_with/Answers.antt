@@ -1,8 +1,8 @@
 use Rattle.std.proofs.Common.{◌≡◌, ◌∙◌, sym, subst, Some, false, eqb, inl, inr}
 use Rattle.std.proofs.lemmas.Bool.{cases_Bool, eqb-true}
 use Rattle.gui_tree.proofs.Below.{own_tree}
-use Rattle.gui_layout.specs.Around.{IsFlat}
-use Rattle.gui_layout.specs.Tables.{told}
+use Rattle.gui_boxes.specs.Around.{IsFlat}
+use Rattle.gui_boxes.specs.Tables.{told}
 use Rattle.gui_layout.specs.Tops.{is_it}
 use Rattle.gui_layout.proofs.Climbing.{IsAbove, is_above}
 use Rattle.gui_layout.proofs.Siblings.{parent-child}

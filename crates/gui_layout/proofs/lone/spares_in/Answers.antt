@@ -1,7 +1,7 @@
 use Rattle.std.proofs.Common.{◌∙◌, sym, ap}
 use Rattle.std.specs.Option.{option_copied}
-use Rattle.gui_layout.specs.Tables.{told}
-use Rattle.gui_layout.proofs.Listed.{is_entry}
+use Rattle.gui_boxes.specs.Tables.{told}
+use Rattle.gui_boxes.proofs.Listed.{is_entry}
 use Rattle.gui_layout.proofs.Without.{spares-one}
 use Rattle.gui_layout.proofs.lone.spares_in.Goals as goal
 

@@ -3,7 +3,7 @@ use Rattle.layout_defs.specs.Boxes.{inner}
 use Rattle.scene_defs.specs.Row.{shown_row}
 use Rattle.gui_store.specs.Views.{scene_of}
 use Rattle.gui_layout.specs.Scenes.{scene_box}
-use Rattle.gui_layout.specs.Views.{axis_of}
+use Rattle.gui_boxes.specs.Views.{axis_of}
 use Rattle.gui_layout.proofs.SceneBoxes.{no_height}
 use Rattle.gui_layout.proofs.objects.own_height_of.Goals as goal
 

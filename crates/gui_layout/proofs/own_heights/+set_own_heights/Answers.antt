@@ -2,12 +2,12 @@ use Rattle.std.proofs.Common.{◌∙◌, sym, ap, subst, List, Option, rules}
 use Rattle.gui_base.specs.Forest.{Empty, Tree, children_of, tree_at}
 use Rattle.gui_store.specs.Views.{scene_of}
 use Rattle.gui_tree.proofs.Below.{begins_below, steps_below, tree_is, own_tree}
-use Rattle.gui_layout.specs.declared.layout_box.LayoutBox.{LayoutBox}
+use Rattle.gui_boxes.specs.declared.layout_box.LayoutBox.{LayoutBox}
 use Rattle.gui_layout.specs.OwnHeights.{IsFixed, AreFixed, KeepsFixed}
 use Rattle.gui_layout.specs.Scenes.{scene_box}
-use Rattle.gui_layout.specs.Settled.{Layout}
-use Rattle.gui_layout.specs.Tables.{Listing, IsListed, listing_of, told, AreListed}
-use Rattle.gui_layout.proofs.OwnHeights.{each_none, each_top, each_first}
+use Rattle.gui_boxes.specs.Settled.{Layout}
+use Rattle.gui_boxes.specs.Tables.{Listing, IsListed, listing_of, told, AreListed}
+use Rattle.gui_boxes.proofs.Each.{each_none, each_top, each_first}
 use Rattle.gui_layout.specs.Renewed.{AreRenewed}
 use Rattle.gui_layout.proofs.own_heights.+set_own_heights.Goals as goal
 

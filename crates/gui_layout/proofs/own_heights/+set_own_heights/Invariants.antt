@@ -2,12 +2,12 @@ use Rattle.std.proofs.Common.{◌≡◌, List, Option}
 use Rattle.gui_base.specs.Forest.{size, tree_at, children_of}
 use Rattle.gui_store.specs.Views.{scene_of}
 use Rattle.gui_tree.proofs.Below.{IsBelow}
-use Rattle.gui_layout.specs.declared.layout_box.LayoutBox.{LayoutBox}
-use Rattle.gui_layout.specs.Layouts.{ButBoxes}
+use Rattle.gui_boxes.specs.declared.layout_box.LayoutBox.{LayoutBox}
+use Rattle.gui_boxes.specs.Layouts.{ButBoxes}
 use Rattle.gui_layout.specs.OwnHeights.{IsFixed, AreFixed, KeepsFixed}
 use Rattle.gui_layout.specs.Renewed.{KeepsRenewed}
 use Rattle.gui_layout.specs.Scenes.{scene_box}
-use Rattle.gui_layout.specs.Tables.{told, listing_of}
+use Rattle.gui_boxes.specs.Tables.{told, listing_of}
 use Rattle.gui_layout.proofs.own_heights.+set_own_heights.Given as goal
 
 abbrev pub decreases-set_own_heights : goal.decreases-set_own_heights

@@ -1,9 +1,9 @@
 use Rattle.std.proofs.Common.{◌∙◌, sym, subst}
 use Rattle.std.proofs.lemmas.Bool.{both_ways}
 use Rattle.gui_pool.specs.Table.{Table, value_at}
-use Rattle.gui_layout.specs.declared.mark.Mark.{Mark}
-use Rattle.gui_layout.specs.Pending.{is_partly, is_pending}
-use Rattle.gui_layout.proofs.Pendings.{Raises, any-some, part-any, raised}
+use Rattle.gui_boxes.specs.declared.mark.Mark.{Mark}
+use Rattle.gui_boxes.specs.Pending.{is_partly, is_pending}
+use Rattle.gui_boxes.proofs.Pendings.{Raises, any-some, part-any, raised}
 use Rattle.gui_layout.proofs.Resting.{it-rests}
 use Rattle.gui_layout.proofs.raising.raise.Goals as goal
 use Rattle.gui_layout.proofs.raising.raise.Goals.{After-replace}

@@ -1,9 +1,9 @@
 use Rattle.std.proofs.Common.{◌≡◌, ◌∙◌, refl, sym, subst, ℕ, true, false, eqb, get_or, inl, inr, arith}
 use Rattle.std.proofs.lemmas.Bool.{cases_Bool, eqb-true, both_ways, false_from_ne_true}
 use Rattle.gui_base.specs.declared.Handle.{Handle}
-use Rattle.gui_layout.specs.Pending.{is_partly, is_pending}
+use Rattle.gui_boxes.specs.Pending.{is_partly, is_pending}
 use Rattle.gui_layout.specs.Raised.{Rests}
-use Rattle.gui_layout.proofs.Entered.{next-times, none-left}
+use Rattle.gui_boxes.proofs.Entered.{next-times, none-left}
 use Rattle.gui_layout.proofs.raising.raise_marks.Goals as goal
 
 abbrev none : Handle

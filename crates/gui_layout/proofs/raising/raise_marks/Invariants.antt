@@ -1,9 +1,9 @@
 use Rattle.std.proofs.Common.{◌≡◌, ◌<◌, ℕ, true, false, drop}
 use Rattle.gui_pool.specs.Table.{value_at}
-use Rattle.gui_layout.specs.Listing.{times}
-use Rattle.gui_layout.specs.Pending.{is_any, is_partly, is_pending}
+use Rattle.gui_boxes.specs.Listing.{times}
+use Rattle.gui_boxes.specs.Pending.{is_any, is_partly, is_pending}
 use Rattle.gui_layout.specs.Raised.{Rests}
-use Rattle.gui_layout.specs.Tables.{listing_of}
+use Rattle.gui_boxes.specs.Tables.{listing_of}
 use Rattle.gui_layout.proofs.raising.raise_marks.Given as goal
 
 abbrev pub invariant-loop-h : goal.invariant-loop-h

@@ -1,8 +1,8 @@
 use Rattle.std.proofs.Common.{◌∙◌, sym, ap, refl, option_copied}
 use Rattle.std.specs.Prelude.{is_some}
 use Rattle.layout_defs.specs.Boxes.{Box}
-use Rattle.gui_layout.specs.Settled.{is_steady}
-use Rattle.gui_layout.proofs.Listed.{is_entry}
+use Rattle.gui_boxes.specs.Settled.{is_steady}
+use Rattle.gui_boxes.proofs.Listed.{is_entry}
 use Rattle.gui_layout.proofs.raising.rests.Goals as goal
 
 pub returns-in-Some : goal.returns-in-Some

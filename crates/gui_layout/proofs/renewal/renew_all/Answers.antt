@@ -2,8 +2,8 @@ use Rattle.std.proofs.Common.{◌∙◌, refl, sym, subst, eqb, get_or, inl, inr
 use Rattle.std.proofs.lemmas.Bool.{cases_Bool, eqb-true}
 use Rattle.gui_store.specs.Views.{scene_of}
 use Rattle.gui_layout.specs.Renewed.{IsRenewed}
-use Rattle.gui_layout.specs.Tables.{Listing, IsListed, told}
-use Rattle.gui_layout.proofs.Entered.{nothing, first-times, next-times, none-left}
+use Rattle.gui_boxes.specs.Tables.{Listing, IsListed, told}
+use Rattle.gui_boxes.proofs.Entered.{nothing, first-times, next-times, none-left}
 use Rattle.gui_layout.proofs.renewal.renew_all.Goals as goal
 
 pub loop-h-init : goal.loop-h-init

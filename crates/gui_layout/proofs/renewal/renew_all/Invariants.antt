@@ -1,8 +1,8 @@
 use Rattle.std.proofs.Common.{◌≡◌, ◌<◌, ℕ, drop}
 use Rattle.gui_store.specs.Views.{scene_of}
-use Rattle.gui_layout.specs.Listing.{times}
+use Rattle.gui_boxes.specs.Listing.{times}
 use Rattle.gui_layout.specs.Renewed.{IsRenewed}
-use Rattle.gui_layout.specs.Tables.{listing_of, told}
+use Rattle.gui_boxes.specs.Tables.{listing_of, told}
 use Rattle.gui_layout.proofs.renewal.renew_all.Given as goal
 
 abbrev pub invariant-loop-h : goal.invariant-loop-h

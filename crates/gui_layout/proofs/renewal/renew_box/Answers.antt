@@ -1,8 +1,8 @@
 use Rattle.std.proofs.Common.{ap}
 use Rattle.gui_store.specs.Views.{scene_of}
-use Rattle.gui_layout.specs.Settled.{Layout}
-use Rattle.gui_layout.specs.Tables.{told, wanted_or}
-use Rattle.gui_layout.proofs.Listed.{told_short}
+use Rattle.gui_boxes.specs.Settled.{Layout}
+use Rattle.gui_boxes.specs.Tables.{told, wanted_or}
+use Rattle.gui_boxes.proofs.Listed.{told_short}
 use Rattle.gui_layout.proofs.Renewing.{renewed_own, renewed_kept}
 use Rattle.gui_layout.proofs.renewal.renew_box.Goals as goal
 

@@ -3,11 +3,11 @@ use Rattle.std.proofs.lemmas.Bool.{cases_Bool, eqb-true}
 use Rattle.gui_base.specs.Forest.{has}
 use Rattle.gui_base.specs.declared.Handle.{Handle}
 use Rattle.gui_store.specs.Views.{scene_of}
-use Rattle.gui_layout.specs.Pending.{is_pending}
+use Rattle.gui_boxes.specs.Pending.{is_pending}
 use Rattle.gui_layout.specs.Renewed.{IsRenewed}
-use Rattle.gui_layout.specs.Settled.{Layout}
-use Rattle.gui_layout.specs.Tables.{Listing, IsListed, told}
-use Rattle.gui_layout.proofs.Entered.{first-times, next-times, none-left}
+use Rattle.gui_boxes.specs.Settled.{Layout}
+use Rattle.gui_boxes.specs.Tables.{Listing, IsListed, told}
+use Rattle.gui_boxes.proofs.Entered.{first-times, next-times, none-left}
 use Rattle.gui_layout.proofs.renewal.renew_marked.Goals as goal
 
 abbrev none : Handle

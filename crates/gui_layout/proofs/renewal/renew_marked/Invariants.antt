@@ -1,11 +1,11 @@
 use Rattle.std.proofs.Common.{◌≡◌, ◌<◌, ℕ, true, drop}
 use Rattle.gui_base.specs.Forest.{has}
 use Rattle.gui_store.specs.Views.{scene_of}
-use Rattle.gui_layout.specs.Listing.{times}
-use Rattle.gui_layout.specs.Layouts.{ButBoxes}
-use Rattle.gui_layout.specs.Pending.{is_pending}
+use Rattle.gui_boxes.specs.Listing.{times}
+use Rattle.gui_boxes.specs.Layouts.{ButBoxes}
+use Rattle.gui_boxes.specs.Pending.{is_pending}
 use Rattle.gui_layout.specs.Renewed.{IsRenewed, KeepsRenewed}
-use Rattle.gui_layout.specs.Tables.{listing_of, told}
+use Rattle.gui_boxes.specs.Tables.{listing_of, told}
 use Rattle.gui_layout.proofs.renewal.renew_marked.Given as goal
 
 abbrev pub invariant-loop-h : goal.invariant-loop-h

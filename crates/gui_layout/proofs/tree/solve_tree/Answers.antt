@@ -6,25 +6,25 @@ use Rattle.layout_defs.specs.OwnHeights.{but_height}
 use Rattle.layout_defs.specs.Solving.{Slot, nowhere}
 use Rattle.layout_defs.specs.Tables.{KeepsOthers}
 use Rattle.gui_layout.specs.Renewed.{AreRenewed}
-use Rattle.gui_layout.specs.Frames.{framed_slot, framed_width, StandsIn}
-use Rattle.gui_layout.specs.Kids.{told_trees}
-use Rattle.gui_layout.specs.Layouts.{KeepsRest}
+use Rattle.gui_boxes.specs.Frames.{framed_slot, framed_width, StandsIn}
+use Rattle.gui_boxes.specs.Kids.{told_trees}
+use Rattle.gui_boxes.specs.Layouts.{KeepsRest}
 use Rattle.gui_layout.specs.OwnHeights.{AreFixed}
 use Rattle.gui_layout.specs.Scenes.{scene_box}
-use Rattle.gui_layout.specs.Settled.{Layout, known, known_at, EachKids, NaturalWidthFits, WidthsFit, NaturalHeightFits, SlotsFit, AllFit}
-use Rattle.gui_layout.specs.Slots.{HasRoom, slot_at, slot_of}
-use Rattle.gui_layout.specs.Tables.{Listing, IsListed, AreListed, listing_of, slot_or, told, width_or}
-use Rattle.gui_layout.specs.Views.{box_of, box_at}
+use Rattle.gui_boxes.specs.Settled.{Layout, known, known_at, EachKids, NaturalWidthFits, WidthsFit, NaturalHeightFits, SlotsFit, AllFit}
+use Rattle.gui_boxes.specs.Slots.{HasRoom, slot_at, slot_of}
+use Rattle.gui_boxes.specs.Tables.{Listing, IsListed, AreListed, listing_of, slot_or, told, width_or}
+use Rattle.gui_boxes.specs.Views.{box_of, box_at}
 use Rattle.gui_layout.proofs.Bridges.{entry_set, keeps_set}
 use Rattle.gui_tree.proofs.Below.{own_tree, tree_is, tree_low, whole_tree}
-use Rattle.gui_layout.proofs.Keeps.{keeps_wider}
-use Rattle.gui_layout.proofs.Fitting.{fit_of}
+use Rattle.gui_boxes.proofs.Keeps.{keeps_wider}
+use Rattle.gui_boxes.proofs.Fitting.{fit_of}
 use Rattle.gui_layout.proofs.Alike.{scrolls-alike}
 use Rattle.gui_layout.proofs.Alone.{same_width, same_slot}
-use Rattle.gui_layout.specs.Scrolls.{HoldsScrolls, not_scrolled}
-use Rattle.gui_layout.proofs.Listed.{told_short}
+use Rattle.gui_boxes.specs.Scrolls.{HoldsScrolls, not_scrolled}
+use Rattle.gui_boxes.proofs.Listed.{told_short}
 use Rattle.gui_layout.proofs.OwnHeights.{naturals_fit, widths_fit, heights_fit, slots_fit}
-use Rattle.gui_layout.proofs.Stands.{room_fewer}
+use Rattle.gui_boxes.proofs.Stands.{room_fewer}
 use Rattle.gui_layout.proofs.tree.solve_tree.Goals as goal
 use Rattle.gui_layout.proofs.tree.solve_tree.Goals.{After-find_natural_widths, After-set_width, After-find_widths, After-set_own_heights, After-find_natural_heights, After-set_position, After-find_places}
 

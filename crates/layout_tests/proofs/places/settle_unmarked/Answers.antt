@@ -1,5 +1,5 @@
 use Rattle.gui_store.specs.Views.{scene_of}
-use Rattle.gui_layout.specs.Marks.{is_changed, is_marked, is_parent}
+use Rattle.gui_boxes.specs.Marks.{is_changed, is_marked, is_parent}
 use Rattle.gui_layout.proofs.Before.{right_unmarked}
 use Rattle.layout_tests.proofs.places.settle_unmarked.Goals as goal
 

@@ -1,7 +1,7 @@
 use Rattle.std.proofs.Common.{◌≡◌, ◌∙◌, ◌≤◌, ap, subst, sym, ℕ, List, length, arith}
 use Rattle.gui_base.specs.declared.Handle.{Handle}
 use Rattle.gui_tree.specs.Handles.{numbers}
-use Rattle.gui_layout.specs.Listing.{HasThese}
+use Rattle.gui_boxes.specs.Listing.{HasThese}
 use Rattle.gui_store.specs.Views.{scene_of}
 use Rattle.gui_change.proofs.Orders.{few_shown}
 use Rattle.gui_change.proofs.scene_look.SceneLook.open.Goals as goal

@@ -1,7 +1,7 @@
 use Rattle.std.proofs.Common.{◌≡◌, ◌<◌, ℕ, true, length, rules}
 use Rattle.gui_base.specs.Forest.{has, path_of}
-use Rattle.gui_layout.specs.Frames.{Encloses}
-use Rattle.gui_layout.specs.Tables.{IsListed, listing_of}
+use Rattle.gui_boxes.specs.Frames.{Encloses}
+use Rattle.gui_boxes.specs.Tables.{IsListed, listing_of}
 use Rattle.gui_layout.proofs.Climbing.{is_above}
 use Rattle.gui_layout.proofs.places.Places.+frame_of.Goals as goal
 

@@ -1,9 +1,9 @@
 use Rattle.std.proofs.Common.{◌<◌, ◌++◌, ◌∷◌, [], sym, subst, List, length, arith}
 use Rattle.gui_base.specs.declared.Handle.{Handle}
 use Rattle.gui_pool.specs.Table.{Table}
-use Rattle.gui_layout.specs.declared.entry.Entry.{Entry}
-use Rattle.gui_layout.specs.Listing.{AddsValue, HasThese}
-use Rattle.gui_layout.proofs.Adding.{adds, these_joined, vacant_is}
+use Rattle.gui_boxes.specs.declared.entry.Entry.{Entry}
+use Rattle.gui_boxes.specs.Listing.{AddsValue, HasThese}
+use Rattle.gui_boxes.proofs.Adding.{adds, these_joined, vacant_is}
 use Rattle.gui_layout.proofs.places.Places.add_entries.Goals as goal
 use Rattle.gui_layout.proofs.places.Places.add_entries.Goals.{After-put}
 

@@ -7,7 +7,7 @@ use Rattle.scene_defs.specs.Scene.{handles_of}
 use Rattle.gui_store.specs.Views.{scene_of}
 use Rattle.gui_tree.specs.Walks.{Walk}
 use Rattle.gui_layout.proofs.Entering.{few, proper}
-use Rattle.gui_layout.proofs.These.{length_is}
+use Rattle.gui_boxes.proofs.These.{length_is}
 use Rattle.gui_layout.proofs.places.Places.enter.Goals as goal
 use Rattle.gui_layout.proofs.places.Places.enter.Goals.{After-roots, After-list_trees}
 

@@ -6,8 +6,8 @@ use Rattle.gui_base.specs.declared.Handle.{Handle}
 use Rattle.gui_pool.specs.Table.{value_at}
 use Rattle.gui_store.specs.Views.{scene_of}
 use Rattle.scene_defs.specs.Scene.{handles_of}
-use Rattle.gui_layout.specs.Listing.{times}
-use Rattle.gui_layout.proofs.Entered.{first-times, next-times, none-left}
+use Rattle.gui_boxes.specs.Listing.{times}
+use Rattle.gui_boxes.proofs.Entered.{first-times, next-times, none-left}
 use Rattle.gui_layout.proofs.places.Places.enter_marked.Goals as goal
 
 abbrev none : Handle

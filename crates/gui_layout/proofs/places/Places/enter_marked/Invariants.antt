@@ -4,7 +4,7 @@ use Rattle.gui_base.specs.Forest.{has}
 use Rattle.gui_pool.specs.Table.{value_at}
 use Rattle.gui_store.specs.Views.{scene_of}
 use Rattle.scene_defs.specs.Scene.{handles_of}
-use Rattle.gui_layout.specs.Listing.{SameValue, times}
+use Rattle.gui_boxes.specs.Listing.{SameValue, times}
 use Rattle.gui_layout.specs.Solved.{limits_of}
 use Rattle.gui_layout.proofs.places.Places.enter_marked.Given as goal
 

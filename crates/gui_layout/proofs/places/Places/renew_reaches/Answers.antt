@@ -2,12 +2,12 @@ use Rattle.std.proofs.Common.{◌≡◌, ◌∙◌, sym, subst, ℕ, Some, true,
 use Rattle.gui_base.specs.Forest.{Forest, has, parent_of, tree_at}
 use Rattle.gui_store.specs.Views.{scene_of}
 use Rattle.scene_defs.specs.Scene.{handles_of}
-use Rattle.gui_layout.specs.Around.{IsFlat, IsFlatWithout, ReadsReaches}
-use Rattle.gui_layout.specs.Settled.{Layout}
-use Rattle.gui_layout.specs.Tables.{Listing, AreListed, listing_of, told}
+use Rattle.gui_boxes.specs.Around.{IsFlat, IsFlatWithout, ReadsReaches}
+use Rattle.gui_boxes.specs.Settled.{Layout}
+use Rattle.gui_boxes.specs.Tables.{Listing, AreListed, listing_of, told}
 use Rattle.gui_layout.specs.Tops.{is_over}
 use Rattle.gui_layout.proofs.Overs.{flat-stays, reads-then, still-before}
-use Rattle.gui_layout.proofs.These.{these_kept}
+use Rattle.gui_boxes.proofs.These.{these_kept}
 use Rattle.gui_layout.proofs.places.Places.renew_reaches.Goals as goal
 use Rattle.gui_layout.proofs.places.Places.renew_reaches.Goals.{After-renew_all_there}
 

@@ -1,7 +1,7 @@
 use Rattle.std.proofs.Common.{◌≡◌, ◌∙◌, sym, ap, subst, ℕ, List, [], arith}
 use Rattle.gui_base.specs.declared.Handle.{Handle}
 use Rattle.gui_pool.specs.Table.{Table}
-use Rattle.gui_layout.specs.Listing.{HasThese}
+use Rattle.gui_boxes.specs.Listing.{HasThese}
 use Rattle.gui_layout.proofs.places.Places.replace_entries.Goals as goal
 
 -- a table that had no value has one for each of these

@@ -2,10 +2,10 @@ use Rattle.std.proofs.Common.{◌<◌, ◌∙◌, sym, subst, List}
 use Rattle.std.specs.Prelude.{IsSome}
 use Rattle.gui_base.specs.declared.Handle.{Handle}
 use Rattle.gui_pool.specs.Table.{value_at}
-use Rattle.gui_layout.specs.Listing.{times}
-use Rattle.gui_layout.proofs.Listed.{some_listed}
+use Rattle.gui_boxes.specs.Listing.{times}
+use Rattle.gui_boxes.proofs.Listed.{some_listed}
 use Rattle.gui_layout.proofs.Renewals.{box-some, some-kept}
-use Rattle.gui_layout.proofs.These.{count-some, some-count, these_kept}
+use Rattle.gui_boxes.proofs.These.{count-some, some-count, these_kept}
 use Rattle.gui_layout.proofs.places.Places.set_boxes.Goals as goal
 
 pub renew_all-requires : goal.renew_all-requires

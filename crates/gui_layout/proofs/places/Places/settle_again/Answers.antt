@@ -6,16 +6,16 @@ use Rattle.gui_base.specs.declared.Handle.{Handle}
 use Rattle.gui_pool.specs.Table.{value_at}
 use Rattle.gui_store.specs.Views.{scene_of}
 use Rattle.scene_defs.specs.Scene.{Scene, handles_of}
-use Rattle.gui_layout.specs.declared.marks.Marks.{Marks}
+use Rattle.gui_boxes.specs.declared.marks.Marks.{Marks}
 use Rattle.gui_layout.specs.declared.places.Places.{Places}
-use Rattle.gui_layout.specs.Around.{IsFlatWithout, SparesOne}
-use Rattle.gui_layout.specs.Listing.{times}
-use Rattle.gui_layout.specs.Marks.{is_changed, is_marked, is_parent}
+use Rattle.gui_boxes.specs.Around.{IsFlatWithout, SparesOne}
+use Rattle.gui_boxes.specs.Listing.{times}
+use Rattle.gui_boxes.specs.Marks.{is_changed, is_marked, is_parent}
 use Rattle.gui_layout.specs.SettledBut.{AreSettledButMarks, WereSettled, anyone, in_marked}
 use Rattle.gui_layout.specs.Solved.{layout_of}
 use Rattle.gui_layout.proofs.Before.{flat-before, right_fewer, settled_but_marks}
 use Rattle.gui_layout.proofs.Overs.{root-in}
-use Rattle.gui_layout.proofs.Pendings.{all-any, marked-times, part-any}
+use Rattle.gui_boxes.proofs.Pendings.{all-any, marked-times, part-any}
 use Rattle.gui_layout.proofs.Siblings.{around, one-only, parent-child}
 use Rattle.gui_layout.proofs.places.Places.settle_again.Goals as goal
 

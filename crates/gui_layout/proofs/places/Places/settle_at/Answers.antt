@@ -5,21 +5,21 @@ use Rattle.gui_base.specs.Limits.{Bounds}
 use Rattle.gui_store.specs.Views.{scene_of}
 use Rattle.gui_tree.specs.Handles.{as_handle}
 use Rattle.scene_defs.specs.Scene.{handles_of}
-use Rattle.gui_layout.specs.Frames.{Encloses, IsFrameOf}
-use Rattle.gui_layout.specs.Layouts.{KeepsRest}
+use Rattle.gui_boxes.specs.Frames.{Encloses, IsFrameOf}
+use Rattle.gui_boxes.specs.Layouts.{KeepsRest}
 use Rattle.gui_layout.specs.Renewed.{AreRenewed, IsRenewed}
 use Rattle.gui_layout.specs.Scenes.{scene_box}
-use Rattle.gui_layout.specs.Settled.{known_at, AllFit}
+use Rattle.gui_boxes.specs.Settled.{known_at, AllFit}
 use Rattle.gui_layout.specs.Solved.{limits_of, layout_of}
-use Rattle.gui_layout.specs.Tables.{told}
-use Rattle.gui_layout.specs.Views.{box_at}
-use Rattle.gui_layout.specs.Scrolls.{HoldsScrolls}
+use Rattle.gui_boxes.specs.Tables.{told}
+use Rattle.gui_boxes.specs.Views.{box_at}
+use Rattle.gui_boxes.specs.Scrolls.{HoldsScrolls}
 use Rattle.gui_layout.proofs.Alike.{distinct-tree, tree-scrolled}
 use Rattle.gui_tree.proofs.Parts.{distinct_once}
 use Rattle.gui_layout.proofs.Climbing.{is_above}
 use Rattle.gui_layout.proofs.Entering.{few, flat}
 use Rattle.gui_layout.proofs.Stepping.{lets-stand, root-fills}
-use Rattle.gui_layout.proofs.These.{these_kept}
+use Rattle.gui_boxes.proofs.These.{these_kept}
 use Rattle.gui_layout.proofs.places.Places.settle_at.Goals as goal
 
 pub frame_of-frame-requires-clause-listed : goal.frame_of-frame-requires-clause-listed

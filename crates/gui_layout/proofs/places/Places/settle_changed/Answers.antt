@@ -6,24 +6,24 @@ use Rattle.gui_pool.specs.Table.{value_at}
 use Rattle.gui_store.specs.Views.{scene_of}
 use Rattle.layout_defs.specs.OwnHeights.{but_height}
 use Rattle.scene_defs.specs.Scene.{handles_of}
-use Rattle.gui_layout.specs.Listing.{times}
-use Rattle.gui_layout.specs.Pending.{is_pending}
+use Rattle.gui_boxes.specs.Listing.{times}
+use Rattle.gui_boxes.specs.Pending.{is_pending}
 use Rattle.gui_layout.specs.Renewed.{IsRenewed}
-use Rattle.gui_layout.specs.Listing.{SameValue}
+use Rattle.gui_boxes.specs.Listing.{SameValue}
 use Rattle.gui_layout.specs.Scenes.{scene_box}
-use Rattle.gui_layout.specs.Settled.{Layout, known_at}
+use Rattle.gui_boxes.specs.Settled.{Layout, known_at}
 use Rattle.gui_layout.specs.Naturals.{naturals_in}
 use Rattle.gui_layout.specs.Settles.{known_in}
 use Rattle.gui_layout.specs.Solved.{layout_of}
-use Rattle.gui_layout.specs.Tables.{area_in}
+use Rattle.gui_boxes.specs.Tables.{area_in}
 use Rattle.gui_layout.specs.Tops.{in_trees_at}
 use Rattle.gui_layout.proofs.Apart.{naturals-alike, none-of, place-alike}
 use Rattle.gui_layout.proofs.Closing.{all-settled, marked-places, marked-sizes, right}
-use Rattle.gui_layout.proofs.Listed.{some_listed}
+use Rattle.gui_boxes.proofs.Listed.{some_listed}
 use Rattle.gui_layout.proofs.Marking.{marked-has}
 use Rattle.gui_layout.proofs.Renewals.{some-kept}
 use Rattle.gui_layout.specs.SettledBut.{in_marked}
-use Rattle.gui_layout.specs.Scrolls.{scrolled_at}
+use Rattle.gui_boxes.specs.Scrolls.{scrolled_at}
 use Rattle.gui_layout.proofs.Staying.{box-alike, known-alike, scrolled-alike}
 use Rattle.gui_layout.proofs.Stepping.{mark-own}
 use Rattle.gui_layout.proofs.places.Places.settle_changed.Goals as goal

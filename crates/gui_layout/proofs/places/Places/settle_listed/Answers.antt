@@ -1,24 +1,24 @@
 use Rattle.std.proofs.Common.{◌≡◌, ◌∙◌, ◌<◌, refl, sym, ap, subst, ℕ, zero, suc, Bool, true, false, eqb, eq-eqb, Option, Some, None, List, [], ◌∷◌, get_or, inl, inr, arith}
 use Rattle.std.specs.Prelude.{is_some, option_map, IfSome, IsSome}
 use Rattle.gui_tree.proofs.Below.{own_tree}
-use Rattle.gui_layout.specs.declared.layout_box.LayoutBox.{LayoutBox}
+use Rattle.gui_boxes.specs.declared.layout_box.LayoutBox.{LayoutBox}
 use Rattle.scene_defs.specs.Scene.{Scene}
 use Rattle.layout_defs.specs.OwnHeights.{but_height}
 use Rattle.gui_layout.specs.declared.places.Places.{Places}
-use Rattle.gui_layout.specs.declared.entry.Entry.{Entry}
-use Rattle.gui_layout.specs.Listing.{times}
+use Rattle.gui_boxes.specs.declared.entry.Entry.{Entry}
+use Rattle.gui_boxes.specs.Listing.{times}
 use Rattle.gui_layout.specs.Marked.{AllFillBut, AllFitBut, marked_trees}
 use Rattle.gui_layout.specs.Scenes.{scene_box}
-use Rattle.gui_layout.specs.Scrolls.{scrolled_at}
+use Rattle.gui_boxes.specs.Scrolls.{scrolled_at}
 use Rattle.gui_layout.specs.Scrolled.{IsScrolledIn}
-use Rattle.gui_layout.specs.Settled.{IsSettled, Known, Layout, known_at}
+use Rattle.gui_boxes.specs.Settled.{IsSettled, Known, Layout, known_at}
 use Rattle.gui_layout.specs.Settles.{known_in}
 use Rattle.gui_layout.specs.Solved.{AreStanding, layout_of, offset_in, place_at, reach_in}
-use Rattle.gui_layout.specs.Tables.{IsListed, area_in, listing_of}
+use Rattle.gui_boxes.specs.Tables.{IsListed, area_in, listing_of}
 use Rattle.gui_layout.specs.Tops.{ScrollsAt, in_trees_at, is_over}
-use Rattle.gui_layout.specs.Views.{box_at}
+use Rattle.gui_boxes.specs.Views.{box_at}
 use Rattle.gui_layout.proofs.Apart.{naturals-alike, none-of, place-alike}
-use Rattle.gui_layout.proofs.Listed.{some_listed}
+use Rattle.gui_boxes.proofs.Listed.{some_listed}
 use Rattle.gui_layout.proofs.Marking.{marked-has}
 use Rattle.gui_layout.proofs.Overs.{over-is}
 use Rattle.gui_layout.proofs.ReachSizes.{all-reached, marked-reached, offset-alike, reach-alike}
@@ -29,16 +29,16 @@ use Rattle.gui_layout.proofs.Siblings.{around, one-only, one-times, without-kept
 use Rattle.std.proofs.lemmas.Bool.{cases_Bool, both_ways, false_from_ne_true}
 use Rattle.gui_base.specs.Forest.{Forest, StandsOnce, children_of, has, map_forest, parent_of}
 use Rattle.gui_base.specs.declared.Handle.{Handle}
-use Rattle.gui_layout.specs.Around.{IsFlatWithout}
+use Rattle.gui_boxes.specs.Around.{IsFlatWithout}
 use Rattle.gui_pool.specs.Table.{value_at}
 use Rattle.gui_store.specs.Views.{scene_of}
 use Rattle.scene_defs.specs.Scene.{handles_of}
-use Rattle.gui_layout.specs.Pending.{is_marked_in, is_partly, is_pending}
+use Rattle.gui_boxes.specs.Pending.{is_marked_in, is_partly, is_pending}
 use Rattle.gui_layout.specs.Raised.{Rests}
 use Rattle.gui_layout.specs.SettledBut.{AreRightBut, AreRightButChanged, AreScrolledBut, anyone, in_marked, nobody}
 use Rattle.gui_layout.proofs.Closing.{marked-places, marked-settled, marked-sizes}
 use Rattle.gui_tree.proofs.Parts.{distinct_once}
-use Rattle.gui_layout.proofs.Pendings.{all-any, any-part, part-any}
+use Rattle.gui_boxes.proofs.Pendings.{all-any, any-part, part-any}
 use Rattle.gui_layout.proofs.Grades.{narrowed, right-both, right-raised, settled-raised}
 use Rattle.gui_layout.proofs.Stepping.{mark-inside, mark-own, marked-fewer}
 use Rattle.gui_layout.proofs.places.Places.settle_listed.Goals as goal

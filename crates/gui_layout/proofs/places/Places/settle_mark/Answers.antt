@@ -3,7 +3,7 @@ use Rattle.gui_tree.proofs.Below.{own_tree}
 use Rattle.gui_base.specs.Forest.{Forest, has, tree_at}
 use Rattle.gui_store.specs.Views.{scene_of}
 use Rattle.scene_defs.specs.Scene.{handles_of}
-use Rattle.gui_layout.specs.Pending.{is_pending}
+use Rattle.gui_boxes.specs.Pending.{is_pending}
 use Rattle.gui_layout.proofs.Stepping.{mark-inside, settles-none, settles-one}
 use Rattle.gui_layout.proofs.Overs.{scrolls-none, scrolls-one}
 use Rattle.gui_layout.proofs.Tops.{solves-none, solves-one}

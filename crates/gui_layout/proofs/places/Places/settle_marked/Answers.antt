@@ -5,9 +5,9 @@ use Rattle.gui_base.specs.Forest.{has}
 use Rattle.gui_base.specs.declared.Handle.{Handle}
 use Rattle.gui_store.specs.Views.{scene_of}
 use Rattle.scene_defs.specs.Scene.{handles_of}
-use Rattle.gui_layout.specs.Listing.{times}
-use Rattle.gui_layout.specs.Pending.{is_pending}
-use Rattle.gui_layout.specs.Tables.{Listing, IsListed}
+use Rattle.gui_boxes.specs.Listing.{times}
+use Rattle.gui_boxes.specs.Pending.{is_pending}
+use Rattle.gui_boxes.specs.Tables.{Listing, IsListed}
 use Rattle.gui_layout.proofs.Stepping.{marked-fewer, settles-none, settles-then}
 use Rattle.gui_layout.proofs.Tops.{one-listed, solves-none, solves-then}
 use Rattle.gui_layout.specs.Tops.{ScrollsAt, SolvesAt}

@@ -1,9 +1,9 @@
 use Rattle.std.proofs.Common.{◌≡◌, ◌<◌, sym, ap, subst, List, [], ◌∷◌, arith}
 use Rattle.std.specs.Prelude.{IfSome}
 use Rattle.gui_base.specs.declared.Handle.{Handle}
-use Rattle.gui_layout.specs.Listing.{times}
-use Rattle.gui_layout.proofs.Pendings.{marked-times, pending-none, times-marked}
-use Rattle.gui_layout.proofs.These.{length_kept, these_kept}
+use Rattle.gui_boxes.specs.Listing.{times}
+use Rattle.gui_boxes.proofs.Pendings.{marked-times, pending-none, times-marked}
+use Rattle.gui_boxes.proofs.These.{length_kept, these_kept}
 use Rattle.gui_layout.proofs.places.Places.settle_marks.Goals as goal
 
 pub settle_listed-requires-clause-marked : goal.settle_listed-requires-clause-marked

@@ -5,18 +5,18 @@ use Rattle.gui_base.specs.Limits.{Bounds}
 use Rattle.scene_defs.specs.Scene.{handles_of}
 use Rattle.gui_store.specs.Views.{scene_of}
 use Rattle.gui_pool.specs.Table.{value_at}
-use Rattle.gui_layout.specs.Settled.{known, known_at, IsSettled}
-use Rattle.gui_layout.specs.Tables.{listing_of, AreListed, told}
+use Rattle.gui_boxes.specs.Settled.{known, known_at, IsSettled}
+use Rattle.gui_boxes.specs.Tables.{listing_of, AreListed, told}
 use Rattle.gui_layout.specs.Scenes.{scene_box}
 use Rattle.gui_layout.specs.Scrolled.{IsScrolledIn}
-use Rattle.gui_layout.specs.Scrolls.{HoldsScrolls}
+use Rattle.gui_boxes.specs.Scrolls.{HoldsScrolls}
 use Rattle.gui_layout.proofs.Alike.{all-scrolled}
 use Rattle.gui_tree.proofs.Parts.{distinct_once}
 use Rattle.gui_layout.proofs.ReachSizes.{all-reached}
 use Rattle.gui_layout.proofs.Entering.{few, flat, all_placed}
 use Rattle.gui_layout.proofs.NaturalSizes.{all-naturals}
-use Rattle.gui_layout.proofs.Fitting.{settled_placed}
-use Rattle.gui_layout.proofs.These.{are_listed, these_kept, has_value}
+use Rattle.gui_boxes.proofs.Fitting.{settled_placed}
+use Rattle.gui_boxes.proofs.These.{are_listed, these_kept, has_value}
 use Rattle.gui_layout.proofs.places.Places.solve.Goals as goal
 use Rattle.gui_layout.proofs.places.Places.solve.Goals.{After-solve_trees}
 

@@ -1,10 +1,10 @@
 use Rattle.std.proofs.Common.{◌∙◌, ap, subst, ℕ, get_or}
 use Rattle.layout_defs.specs.Boxes.{Box}
 use Rattle.layout_defs.specs.Solving.{Slot, room_of}
-use Rattle.gui_layout.specs.Settled.{IsSteady}
-use Rattle.gui_layout.specs.Slots.{slot_of}
-use Rattle.gui_layout.specs.Tables.{told}
-use Rattle.gui_layout.specs.Views.{box_at}
+use Rattle.gui_boxes.specs.Settled.{IsSteady}
+use Rattle.gui_boxes.specs.Slots.{slot_of}
+use Rattle.gui_boxes.specs.Tables.{told}
+use Rattle.gui_boxes.specs.Views.{box_at}
 use Rattle.gui_layout.proofs.places.Places.steady_inside.Goals as goal
 
 pub returns-then-is_nearby-clause-steady : goal.returns-then-is_nearby-clause-steady

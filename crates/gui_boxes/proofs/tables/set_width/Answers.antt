@@ -1,0 +1,19 @@
+use Rattle.std.proofs.Common.{◌∙◌, ap, sym, refl, set}
+use Rattle.std.proofs.lemmas.List.{set-get_or}
+use Rattle.gui_boxes.specs.Tables.{told, listing_of}
+use Rattle.gui_boxes.proofs.Listed.{listed_some, listed_replaced, width_set}
+use Rattle.gui_boxes.proofs.tables.set_width.Goals as goal
+
+pub replace-requires : goal.replace-requires
+replace-requires c = listed_some c.args.entries.now c.args.h.0 c.requires.listed
+
+pub returns-clause-set : goal.returns-clause-set
+returns-clause-set c = ap told c.replace.ensures.replaces ∙ width_set c.args.entries.now c.args.h.0 c.entry_of-known.result.now _ c.entry_of-known.ensures.entry refl
+
+pub returns-clause-listed : goal.returns-clause-listed
+returns-clause-listed c = ap listing_of c.replace.ensures.replaces ∙ listed_replaced c.args.entries.now c.args.h.0 _ c.requires.listed
+
+pub returns-then-known-pixels-clause-set : goal.returns-then-known-pixels-clause-set
+returns-then-known-pixels-clause-set c =
+    let l = told c.args.entries.now in
+    ap (λ xs. record l { widths = xs }) (sym (set-get_or l.widths c.args.h.0 0) ∙ ap (set l.widths c.args.h.0) (sym c.entry_of-known.ensures.told.width ∙ c.if-known-pixels.true))

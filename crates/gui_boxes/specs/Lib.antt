@@ -1,0 +1,17 @@
+pub mod Views
+pub mod Found
+pub mod Reaches
+pub mod Slots
+pub mod Scrolls
+pub mod Tables
+pub mod Listing
+pub mod Kids
+pub mod Sizings
+pub mod Settled
+pub mod Frames
+pub mod Layouts
+pub mod Pending
+pub mod Around
+pub mod Marks
+pub mod Gone
+pub mod Totals

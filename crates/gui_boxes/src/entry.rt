@@ -1,0 +1,17 @@
+//! What layout knows of an object.
+use crate::layout_box::LayoutBox;
+use crate::position::Position;
+use crate::reach::Scrolled;
+use crate::size::Size;
+
+/// What layout knows of an object.
+#[derive(Clone, Copy, Drop)]
+pub struct Entry {
+    /// What its place goes by.
+    pub wanted: LayoutBox,
+    pub natural_width: Size,
+    pub width: Size,
+    pub natural_height: Size,
+    pub position: Position,
+    pub scrolled: Scrolled,
+}

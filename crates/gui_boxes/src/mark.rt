@@ -1,0 +1,12 @@
+//! How far a mark goes.
+
+/// How far the mark of an object goes.
+#[derive(Clone, Copy, Drop)]
+pub enum Mark {
+    /// Anything may have changed.
+    All,
+    /// Its list of children alone may be another.
+    Children,
+    /// What it concerns is settled.
+    Settled,
+}

@@ -1,0 +1,174 @@
+//! Entries by handle.
+ghost use Rattle.std.specs.Prelude.{◌≡◌, ◌≤◌, Some, true, is_some, slice_set};
+ghost use Rattle.gui_pool.specs.Table.{value_at};
+ghost use Rattle.gui_boxes.specs.Slots.{slot_of};
+ghost use Rattle.gui_boxes.specs.Scrolls.{scrolled_of};
+ghost use Rattle.gui_boxes.specs.Tables.{told, IsEntry, IsListed, listing_of};
+
+use crate::entry::Entry;
+use crate::layout_box::LayoutBox;
+use crate::position::{CORNER, Position};
+use crate::reach::{NOT_SCROLLED, Scrolled};
+use crate::size::Size;
+use gui_base::Handle;
+use gui_pool::Table;
+
+/// The entry of an object that has one.
+#[inline]
+pub fn entry_of(entries: &Table<Entry>, h: Handle) -> &Entry
+    requires { IsListed (listing_of entries.now) h.0 }
+    ensures entry { Some result.now ≡ value_at entries.now h.0 }
+    ensures told { IsEntry (told entries.now) h.0 result.now }
+{
+    let Some(found) = entries.get(h.0 as u32) else {
+        unreachable!()
+    };
+    found
+}
+
+/// Whether an object has an entry.
+pub fn has_entry(entries: &Table<Entry>, h: Handle) -> bool
+    ensures { result ≡ is_some (value_at entries.now h.0) }
+{
+    entries.get(h.0 as u32).is_some()
+}
+
+/// An entry with this box, of which nothing is found.
+pub fn new_entry(wanted: LayoutBox) -> Entry
+    ensures { result.wanted ≡ wanted }
+{
+    let none = Size { pixels: 0 };
+    Entry {
+        wanted,
+        natural_width: none,
+        width: none,
+        natural_height: none,
+        position: CORNER,
+        scrolled: NOT_SCROLLED,
+    }
+}
+
+/// Gives another box to an object that has an entry.
+pub fn set_wanted(entries: &mut Table<Entry>, h: Handle, wanted: LayoutBox)
+    requires { IsListed (listing_of entries.old) h.0 }
+    ensures set { told entries.new ≡ record (told entries.old) {
+      boxes = slice_set (told entries.old).boxes h.0 (Some wanted);
+    } }
+    ensures listed { listing_of entries.new ≡ listing_of entries.old }
+{
+    let mut changed = *entry_of(entries, h);
+    changed.wanted = wanted;
+    let _ = entries.replace(h.0 as u32, changed);
+}
+
+/// Gives another natural width to an object that has an entry. Nothing is written where it is the same: most
+/// sizes stay.
+#[inline]
+pub fn set_natural_width(entries: &mut Table<Entry>, h: Handle, pixels: u16)
+    requires listed { IsListed (listing_of entries.old) h.0 }
+    requires small { pixels ≤ 8191 }
+    ensures set { told entries.new ≡ record (told entries.old) {
+      natural_widths = slice_set (told entries.old).natural_widths h.0 pixels;
+    } }
+    ensures listed { listing_of entries.new ≡ listing_of entries.old }
+{
+    let known = entry_of(entries, h);
+    if known.natural_width.pixels == pixels {
+        return;
+    }
+    let mut changed = *known;
+    changed.natural_width = Size { pixels };
+    let _ = entries.replace(h.0 as u32, changed);
+}
+
+/// Gives another width to an object that has an entry. Nothing is written where it is the same.
+#[inline]
+pub fn set_width(entries: &mut Table<Entry>, h: Handle, pixels: u16)
+    requires listed { IsListed (listing_of entries.old) h.0 }
+    requires small { pixels ≤ 8191 }
+    ensures set { told entries.new ≡ record (told entries.old) {
+      widths = slice_set (told entries.old).widths h.0 pixels;
+    } }
+    ensures listed { listing_of entries.new ≡ listing_of entries.old }
+{
+    let known = entry_of(entries, h);
+    if known.width.pixels == pixels {
+        return;
+    }
+    let mut changed = *known;
+    changed.width = Size { pixels };
+    let _ = entries.replace(h.0 as u32, changed);
+}
+
+/// Gives another natural height to an object that has an entry. Nothing is written where it is the same.
+#[inline]
+pub fn set_natural_height(entries: &mut Table<Entry>, h: Handle, pixels: u16)
+    requires listed { IsListed (listing_of entries.old) h.0 }
+    requires small { pixels ≤ 8191 }
+    ensures set { told entries.new ≡ record (told entries.old) {
+      natural_heights = slice_set (told entries.old).natural_heights h.0 pixels;
+    } }
+    ensures listed { listing_of entries.new ≡ listing_of entries.old }
+{
+    let known = entry_of(entries, h);
+    if known.natural_height.pixels == pixels {
+        return;
+    }
+    let mut changed = *known;
+    changed.natural_height = Size { pixels };
+    let _ = entries.replace(h.0 as u32, changed);
+}
+
+/// Whether both are the same place.
+fn is_same(position: &Position, other: &Position) -> bool
+    ensures { result ≡ true → slot_of position.now ≡ slot_of other.now }
+{
+    position.x == other.x && position.y == other.y && position.height == other.height
+}
+
+/// Gives another place to an object that has an entry. Nothing is written where it is the same: most places
+/// stay.
+#[inline]
+pub fn set_position(entries: &mut Table<Entry>, h: Handle, position: Position)
+    requires { IsListed (listing_of entries.old) h.0 }
+    ensures set { told entries.new ≡ record (told entries.old) {
+      slots = slice_set (told entries.old).slots h.0 (slot_of position);
+    } }
+    ensures listed { listing_of entries.new ≡ listing_of entries.old }
+{
+    let known = entry_of(entries, h);
+    if is_same(&known.position, &position) {
+        return;
+    }
+    let mut changed = *known;
+    changed.position = position;
+    let _ = entries.replace(h.0 as u32, changed);
+}
+
+/// Whether both are the same.
+fn is_same_scrolled(scrolled: &Scrolled, other: &Scrolled) -> bool
+    ensures { result ≡ true → scrolled_of scrolled.now ≡ scrolled_of other.now }
+{
+    (scrolled.reach.across == other.reach.across && scrolled.reach.down == other.reach.down)
+        && (scrolled.offset.across == other.offset.across
+            && scrolled.offset.down == other.offset.down)
+}
+
+/// Tells of an object that has an entry how far its children reach and are moved. Nothing is written where it
+/// is the same: most have none.
+#[inline]
+pub fn set_scrolled(entries: &mut Table<Entry>, h: Handle, scrolled: Scrolled)
+    requires { IsListed (listing_of entries.old) h.0 }
+    ensures set { told entries.new ≡ record (told entries.old) {
+      scrolls = slice_set (told entries.old).scrolls h.0 (scrolled_of scrolled);
+    } }
+    ensures listed { listing_of entries.new ≡ listing_of entries.old }
+{
+    let known = entry_of(entries, h);
+    if is_same_scrolled(&known.scrolled, &scrolled) {
+        return;
+    }
+    let mut changed = *known;
+    changed.scrolled = scrolled;
+    let _ = entries.replace(h.0 as u32, changed);
+}

@@ -1,6 +1,0 @@
-use Rattle.std.proofs.Common.{drop}
-use Rattle.gui_layout.proofs.These.{HasBut}
-use Rattle.gui_layout.proofs.listing.fill.Given as goal
-
-abbrev pub invariant-loop-h : goal.invariant-loop-h
-invariant-loop-h g l = HasBut l.fn.table.spare l.table l.listed (drop l.h-index l.listed)

@@ -31,7 +31,7 @@ use run_defs::Command;
 pub fn is_slider(kind: Kind) -> bool
     ensures { result ≡ is_slider kind }
 {
-    gui_widgets::kinds::facts(kind).slides
+    gui_kinds::facts(kind).slides
 }
 
 impl Board {

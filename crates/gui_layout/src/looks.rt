@@ -17,8 +17,8 @@ ghost use Rattle.gui_layout.specs.Painted.{paints_content, paints_indicator, pai
 use arrayvec::ArrayVec;
 use gui_base::{Flag, Handle, Kind, Part, Prop};
 use gui_font::Images;
+use gui_kinds::{has_indicator, has_knob, is_something, shows};
 use gui_store::{Row, Store};
-use gui_widgets::kinds::{has_indicator, has_knob, is_something, shows};
 use gui_widgets::{ImageLook, Look, Values};
 
 /// The value of each property of a part of an object that has this row.

@@ -28,8 +28,8 @@ use gui_boxes::boxes::{empty_box, side_across, side_down};
 use gui_boxes::entry::Entry;
 use gui_boxes::layout_box::LayoutBox;
 use gui_flex::FlexPlaces;
+use gui_kinds::{has_size, shows};
 use gui_store::{Row, Store};
-use gui_widgets::kinds::{has_size, shows};
 use gui_widgets::{own_height, own_width};
 
 /// A value of an object that has this row. None lies below 0.

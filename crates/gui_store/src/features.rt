@@ -3,7 +3,7 @@ ghost use Rattle.std.specs.Prelude.{◌≡◌};
 ghost use Rattle.scene_defs.specs.Row.{has_feature};
 
 use gui_base::Kind;
-use gui_widgets::kinds::facts;
+use gui_kinds::facts;
 use scene_defs::Feature;
 
 /// Whether objects of a kind have a feature.

@@ -5,8 +5,8 @@ ghost use Rattle.scene_defs.specs.Row.{new_row, with_value, with_range, brought_
 ghost use Rattle.scene_defs.specs.Deeds.{row_after};
 
 use gui_base::{Align, Bits, Flag, Kind, Placing};
+use gui_kinds::{first_flags, first_flow, first_height, first_width};
 use gui_pool::TextId;
-use gui_widgets::kinds::{first_flags, first_flow, first_height, first_width};
 use scene_defs::{Change, Row};
 
 /// The row of a new object: at its parent's corner, in no state, without text and picture.

@@ -5,7 +5,6 @@
 #![tactic(auto)]
 
 mod areas;
-pub mod kinds;
 mod look;
 mod painting;
 mod scrollbars;

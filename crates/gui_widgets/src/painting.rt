@@ -14,13 +14,13 @@ ghost use Rattle.widget_defs.specs.Looks.{AreValues, value_in, text_look, left_l
 ghost use Rattle.widget_defs.specs.Sizes.{text_size};
 
 use crate::areas::{content_of, first_part, later_part};
-use crate::kinds::shows;
 use crate::look::{Item, Look};
 use crate::sizes::{box_side, text_offset, text_size};
 use crate::values::{byte, color, left_look, text_look};
 use arrayvec::ArrayVec;
 use gui_base::{Area, Prop};
 use gui_font::TextLook;
+use gui_kinds::shows;
 use widget_defs::kinds::Shown;
 use widget_defs::{ImageLook, ItemPaint, Values};
 

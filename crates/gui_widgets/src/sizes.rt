@@ -5,10 +5,10 @@ ghost use Rattle.gui_base.specs.Area.{nat_of};
 ghost use Rattle.gui_widgets.specs.Looks.{IsLook, widget_of};
 ghost use Rattle.widget_defs.specs.Sizes.{own_width, own_height, text_size, text_offset};
 
-use crate::kinds::shows;
 use crate::look::Look;
 use crate::values::{number, text_look};
 use gui_base::Prop;
+use gui_kinds::shows;
 use widget_defs::kinds::Shown;
 
 /// The own width of an object: of a label its text's, where lines end at newlines alone, of an image its

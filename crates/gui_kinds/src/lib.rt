@@ -1,4 +1,6 @@
 //! What a kind of object is, read off its row in the definitions.
+#![tactic(auto)]
+
 ghost use Rattle.std.specs.Prelude.{◌≡◌};
 ghost use Rattle.widget_defs.specs.Kinds.{facts, shows, first_flags, first_width, first_height};
 ghost use Rattle.widget_defs.specs.Kinds.{first_flow, is_something, has_indicator, has_knob, has_size};

@@ -2,11 +2,8 @@
 //! command, or its first refusal.
 #![tactic(auto)]
 
-mod animating;
 mod commands;
 mod devices;
-mod pointing;
-mod reactions;
 mod ticks;
 
 pub use commands::apply;

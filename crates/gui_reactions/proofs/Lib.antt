@@ -1,0 +1,4 @@
+pub mod Animated
+pub mod Columns
+pub mod Sliding
+pub mod Values

@@ -1,0 +1,2 @@
+pub mod Animated
+pub mod Sliding

@@ -1,17 +1,19 @@
--- What a number does to the machine of a meter.
-use Rattle.std.specs.Prelude.{ℤ, Bool, pos, int_le}
+-- The changes that a meter makes of its scene.
+use Rattle.std.specs.Prelude.{ℤ, Bool, List, [], ◌∷◌, pos, negsuc, int_le}
 use Rattle.std.specs.Fmt.{signed_decimal}
 use Rattle.gui_base.specs.declared.Handle.{Handle}
+use Rattle.gui_base.specs.declared.words.Length.TheVariants.{Pixels}
+use Rattle.gui_base.specs.declared.props.Prop.TheVariants.{BgColor}
+use Rattle.gui_base.specs.declared.words.Selector.{Selector}
+use Rattle.gui_base.specs.declared.words.Align.TheVariants.{BottomMid, TopMid}
+use Rattle.gui_base.specs.declared.words.Kind.TheVariants as kind
+use Rattle.gui_base.specs.declared.words.Part.TheVariants.{Indicator}
 use Rattle.gui_base.specs.declared.words.State.TheVariants.{User1}
-use Rattle.run_defs.specs.Machine.{Machine}
-use Rattle.run_defs.specs.Step.{step}
-use Rattle.run_defs.specs.declared.Command.TheVariants.{Change as OfChange}
 use Rattle.scene_defs.specs.declared.Change.{Change}
 use Rattle.scene_defs.specs.declared.Change.TheVariants as change
 
--- the machine after a change
-abbrev pub after : Machine → Change → Machine
-after machine change = (step machine (OfChange change)).machine
+abbrev pub screen : Handle
+screen = record { 0 = 3 }
 
 abbrev pub bar : Handle
 bar = record { 0 = 10 }
@@ -19,12 +21,26 @@ bar = record { 0 = 10 }
 abbrev pub digits : Handle
 digits = record { 0 = 11 }
 
+-- the filled part of the bar, and the same during an alarm
+abbrev pub filled : Selector
+filled = record { part = Indicator; states = 0 }
+
+abbrev pub alarmed : Selector
+alarmed = record { part = Indicator; states = 4096 }
+
+-- a bar with two colours, and digits over it
+abbrev pub screen_changes : List Change
+screen_changes =
+    change.New bar screen kind.Bar ∷ change.Align bar BottomMid (pos 0) (negsuc 2) ∷
+    change.Size bar (Pixels 58) (Pixels 8) ∷
+    change.Local bar filled BgColor (pos 4431943) ∷ change.Local bar alarmed BgColor (pos 15022389) ∷
+    change.New digits screen kind.Label ∷ change.Align digits TopMid (pos 0) (pos 3) ∷ []
+
 -- whether a number is one of an alarm
 abbrev pub alarms : ℤ → Bool
 alarms n = int_le (pos 80) n
 
--- the machine whose screen shows a number: its digits, its share of the bar, and whether it alarms
-abbrev pub showing : ℤ → Machine → Machine
-showing n machine =
-    after (after (after machine (change.Text digits (signed_decimal n))) (change.Value bar n))
-    (change.State bar User1 (alarms n))
+-- a number is shown: its digits, its share of the bar, and whether it alarms
+abbrev pub number_changes : ℤ → List Change
+number_changes n =
+    change.Text digits (signed_decimal n) ∷ change.Value bar n ∷ change.State bar User1 (alarms n) ∷ []

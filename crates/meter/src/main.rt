@@ -13,8 +13,8 @@ mod meter;
 use fault::Fault;
 use gui_base::{Block, Limits};
 use gui_core::Gui;
-use gui_edge::{MemSink, Panel, SimPanel, SimPlan, Sink, StdSink};
-use meter::{make_screen, set_number, show};
+use gui_edge::{Panel, SimPanel, SimPlan, Sink, StdSink};
+use meter::{make_screen, show_number};
 use std::alloc::Global;
 use std::process::ExitCode;
 
@@ -36,36 +36,30 @@ fn opened_panel<F: Sink + Drop>(alloc: Global, frames: F) -> Result<SimPanel<F>,
     }
 }
 
+/// The number that a line says, if it says one, as the standard library reads it.
+fn number_of(text: &str) -> Option<i32> {
+    text.trim().parse().ok()
+}
+
 /// Shows the number that a line says. One that says none is passed over.
-fn show_line<S: Sink, P: Panel>(
-    text: &str,
-    gui: &mut Gui,
-    log: &mut S,
-    panel: &mut P,
-) -> Result<(), Fault>
+fn show_line<P: Panel>(text: &str, gui: &mut Gui, panel: &mut P) -> Result<(), Fault>
     requires { IsReady gui.old (P.state panel.old) }
     ensures { OnOk result (IsReady gui.new (P.state panel.new)) }
 {
-    let Ok(number) = text.trim().parse() else {
-        return Ok(());
-    };
-    set_number(gui, log, number)?;
-    show(gui, panel)
+    match number_of(text) {
+        Some(number) => show_number(gui, panel, number),
+        None => Ok(()),
+    }
 }
 
 /// Shows each number of standard input.
-fn show_numbers<S: Sink, P: Panel>(
-    rt: &HostRuntime,
-    gui: &mut Gui,
-    log: &mut S,
-    panel: &mut P,
-) -> Result<(), Fault>
+fn show_numbers<P: Panel>(rt: &HostRuntime, gui: &mut Gui, panel: &mut P) -> Result<(), Fault>
     requires { IsReady gui.old (P.state panel.old) }
 {
-    make_screen(gui, log)?;
+    make_screen(gui)?;
     for line in rt.lines(rt.alloc()) {
         let line = line?;
-        show_line(line.as_str(), gui, log, panel)?;
+        show_line(line.as_str(), gui, panel)?;
     }
     Ok(())
 }
@@ -73,11 +67,9 @@ fn show_numbers<S: Sink, P: Panel>(
 /// Opens the machine and the panel, and shows the numbers.
 fn run(rt: &HostRuntime) -> Result<(), Fault> {
     let alloc = rt.alloc();
-    // No handler says anything, so the log needs no room.
-    let mut log = MemSink::with_capacity(alloc, 0, Vec::new(alloc))?;
     let mut panel = opened_panel(alloc, StdSink::new(rt.stdout()))?;
     let mut gui = Gui::open(alloc, &Limits::with_sizes(64, 24, 8))?;
-    show_numbers(rt, &mut gui, &mut log, &mut panel)
+    show_numbers(rt, &mut gui, &mut panel)
 }
 
 fn main(rt: HostRuntime) -> ExitCode {

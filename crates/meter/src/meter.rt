@@ -1,15 +1,19 @@
 //! The screen of a meter, by typed commands.
-ghost use Rattle.std.specs.Prelude.{◌≡◌, ◌<◌, OnOk};
+ghost use Rattle.std.specs.Prelude.{◌≡◌, ◌<◌, Err, IfErr, None, OnOk, Some};
 ghost use Rattle.gui_core.specs.Machines.{machine_of, stage_of};
 ghost use Rattle.gui_play.specs.Panels.{CanSend, Refreshes, ShowsScene};
-ghost use Rattle.meter.specs.Numbers.{after, showing};
+ghost use Rattle.gui_base.specs.declared.refusal.Refusal.{Refusal};
+ghost use Rattle.meter.specs.declared.fault.Fault.TheVariants as fault;
+ghost use Rattle.meter.specs.Changes.{after, after_all, refusal_of, refusal_of_all};
+ghost use Rattle.meter.specs.Numbers.{alarms, number_changes, screen_changes};
 ghost use Rattle.meter.specs.Ready.{IsReady, StaysReady};
+ghost use Rattle.meter.specs.Shown.{Hinders, WritesPicture, unheard};
 ghost use Rattle.scene_defs.specs.Valid.{IsChange};
 
 use crate::fault::Fault;
-use gui_base::{Align, Handle, Kind, Length, Part, Prop, Selector, State, Steps};
+use gui_base::{Align, Handle, Kind, Length, Part, Prop, Refusal, Selector, State, Steps};
 use gui_core::{Gui, Refreshed, Reply};
-use gui_edge::{Panel, Sink};
+use gui_edge::{Failed, Panel, Sink};
 use itoa::Buffer;
 use run_defs::Command;
 use scene_defs::{Change, Text};
@@ -40,57 +44,75 @@ const ALARMED: Selector = Selector {
     states: 1 << 12,
 };
 
-/// Makes one change. A refusal is a fault of the meter: its changes fit the pools.
-#[tactic(auto, using(crate::proofs::Ready::stays_ready))]
-fn change<S: Sink>(gui: &mut Gui, log: &mut S, change: Change) -> Result<(), Fault>
-    requires { IsChange change }
-    ensures machine { machine_of gui.new ≡ after (machine_of gui.old) change.entry }
-    ensures ready { StaysReady gui.old gui.new }
-{
-    match gui.apply(&Command::Change(change), log)? {
-        Reply::Ok { .. } => Ok(()),
-        Reply::Refused(refusal) => Err(Fault::Refused(refusal)),
+/// What the changes of a meter write: nothing, since no handler hears of them.
+#[derive(Drop)]
+struct Unheard;
+
+impl Sink for Unheard {
+    ghost state = { λ s. unheard };
+
+    fn put(&mut self, _piece: &[u8]) -> Result<(), Failed> {
+        Ok(())
     }
 }
 
-/// Makes the bar, which is full at 100.
-fn make_bar<S: Sink>(gui: &mut Gui, log: &mut S) -> Result<(), Fault>
+/// Makes one change.
+#[tactic(auto, using(crate::proofs::Ready::stays_ready), unfolding(crate::specs::Changes::refusal_of, crate::specs::Changes::after))]
+fn change(gui: &mut Gui, change: Change) -> Result<(), Refusal>
+    requires { IsChange change }
+    ensures ok { OnOk result (refusal_of (machine_of gui.old) change.entry ≡ None) }
+    ensures err { IfErr result (λ refusal. refusal_of (machine_of gui.old) change.entry ≡ Some refusal) }
+    ensures machine { machine_of gui.new ≡ after (machine_of gui.old) change.entry }
     ensures ready { StaysReady gui.old gui.new }
 {
-    change(gui, log, Change::New(BAR, SCREEN, Kind::Bar))?;
-    change(gui, log, Change::Align(BAR, Align::BottomMid, 0, -3))?;
-    let (width, height) = (Length::Pixels(58), Length::Pixels(8));
-    change(gui, log, Change::Size(BAR, width, height))
+    match gui.apply(&Command::Change(change), &mut Unheard) {
+        Ok(Reply::Ok { .. }) => Ok(()),
+        Ok(Reply::Refused(refusal)) => Err(refusal),
+        // What is not heard does not fail.
+        Err(Failed) => Ok(()),
+    }
 }
 
-/// Gives the bar its colours.
-fn color_bar<S: Sink>(gui: &mut Gui, log: &mut S) -> Result<(), Fault>
+/// Makes the screen: a bar that is full at 100, its colours, and digits over it. It stops at the first change that
+/// is refused.
+pub fn make_screen(gui: &mut Gui) -> Result<(), Refusal>
+    ensures ok { OnOk result (refusal_of_all (machine_of gui.old) screen_changes ≡ None) }
+    ensures err { IfErr result (λ refusal. refusal_of_all (machine_of gui.old) screen_changes ≡ Some refusal) }
+    ensures machine { machine_of gui.new ≡ after_all (machine_of gui.old) screen_changes }
     ensures ready { StaysReady gui.old gui.new }
 {
-    change(gui, log, Change::Local(BAR, FILLED, Prop::BgColor, GREEN))?;
-    change(gui, log, Change::Local(BAR, ALARMED, Prop::BgColor, RED))
+    change(gui, Change::New(BAR, SCREEN, Kind::Bar))?;
+    change(gui, Change::Align(BAR, Align::BottomMid, 0, -3))?;
+    change(
+        gui,
+        Change::Size(BAR, Length::Pixels(58), Length::Pixels(8)),
+    )?;
+    change(gui, Change::Local(BAR, FILLED, Prop::BgColor, GREEN))?;
+    change(gui, Change::Local(BAR, ALARMED, Prop::BgColor, RED))?;
+    change(gui, Change::New(DIGITS, SCREEN, Kind::Label))?;
+    change(gui, Change::Align(DIGITS, Align::TopMid, 0, 3))
 }
 
-/// Makes the screen: the bar, and the digits over it.
-pub fn make_screen<S: Sink>(gui: &mut Gui, log: &mut S) -> Result<(), Fault>
-    ensures ready { StaysReady gui.old gui.new }
+/// Whether a number is one of an alarm.
+fn alarms(number: i32) -> bool
+    ensures { result ≡ alarms number }
 {
-    make_bar(gui, log)?;
-    color_bar(gui, log)?;
-    change(gui, log, Change::New(DIGITS, SCREEN, Kind::Label))?;
-    change(gui, log, Change::Align(DIGITS, Align::TopMid, 0, 3))
+    number >= ALARM
 }
 
-/// Brings a number to the screen. One beyond the range of the bar is at its end.
-pub fn set_number<S: Sink>(gui: &mut Gui, log: &mut S, number: i32) -> Result<(), Fault>
-    ensures machine { OnOk result (machine_of gui.new ≡ showing number (machine_of gui.old)) }
+/// Brings a number to the screen. One beyond the range of the bar is at its end. It stops at the first change that
+/// is refused.
+fn set_number(gui: &mut Gui, number: i32) -> Result<(), Refusal>
+    ensures ok { OnOk result (refusal_of_all (machine_of gui.old) (number_changes number) ≡ None) }
+    ensures err { IfErr result (λ refusal. refusal_of_all (machine_of gui.old) (number_changes number) ≡ Some refusal) }
+    ensures machine { machine_of gui.new ≡ after_all (machine_of gui.old) (number_changes number) }
     ensures ready { StaysReady gui.old gui.new }
 {
     let mut buffer = Buffer::new();
     let digits = Text::plain(buffer.format(number));
-    change(gui, log, Change::Text(DIGITS, digits))?;
-    change(gui, log, Change::Value(BAR, number))?;
-    change(gui, log, Change::State(BAR, State::User1, number >= ALARM))
+    change(gui, Change::Text(DIGITS, digits))?;
+    change(gui, Change::Value(BAR, number))?;
+    change(gui, Change::State(BAR, State::User1, alarms(number)))
 }
 
 /// Sends what is pending. The count of its steps is for proofs alone.
@@ -109,14 +131,34 @@ fn refresh<P: Panel, B: Ledger>(gui: &mut Gui, panel: &mut P, blank: Blank) -> R
 }
 
 /// Sends what the screen owes the panel, and presents the frame: the panel shows the scene's picture then.
-pub fn show<P: Panel>(gui: &mut Gui, panel: &mut P) -> Result<(), Fault>
+fn show<P: Panel>(gui: &mut Gui, panel: &mut P) -> Result<(), Fault>
     requires { IsReady gui.old (P.state panel.old) }
     ensures machine { machine_of gui.new ≡ machine_of gui.old }
     ensures ready { OnOk result (IsReady gui.new (P.state panel.new)) }
     ensures shows { OnOk result (ShowsScene (P.state panel.new) (machine_of gui.old).scene) }
+    ensures writes { OnOk result (WritesPicture (P.state panel.old) (P.state panel.new) (machine_of gui.old).scene) }
+    ensures hinders { IfErr result (λ fault. Hinders fault (P.state panel.old) (P.state panel.new)) }
 {
     match refresh::<P, Brand>(gui, panel, Blank::new(1)) {
         Refreshed::Done => Ok(panel.present()?),
         Refreshed::Fault => Err(Fault::Unsent),
+    }
+}
+
+/// Brings a number to the screen, and shows it.
+pub fn show_number<P: Panel>(gui: &mut Gui, panel: &mut P, number: i32) -> Result<(), Fault>
+    requires { IsReady gui.old (P.state panel.old) }
+    ensures machine { machine_of gui.new ≡ after_all (machine_of gui.old) (number_changes number) }
+    ensures ready { OnOk result (IsReady gui.new (P.state panel.new)) }
+    ensures shows { OnOk result (ShowsScene (P.state panel.new) (machine_of gui.new).scene) }
+    ensures writes { OnOk result (WritesPicture (P.state panel.old) (P.state panel.new) (machine_of gui.new).scene) }
+    ensures refused { (refusal : Refusal) → refusal_of_all (machine_of gui.old) (number_changes number) ≡ Some refusal →
+        result ≡ Err (fault.Refused refusal) }
+    ensures hinders { refusal_of_all (machine_of gui.old) (number_changes number) ≡ None →
+        IfErr result (λ fault. Hinders fault (P.state panel.old) (P.state panel.new)) }
+{
+    match set_number(gui, number) {
+        Ok(()) => show(gui, panel),
+        Err(refusal) => Err(Fault::Refused(refusal)),
     }
 }

@@ -48,6 +48,16 @@ fn check_starts<P: Panel>(rt: &impl Abort, panel: &ListingPanel<P>, want: &[[i32
     assert_eq!(rt; panel.starts.as_slice(), want);
 }
 
+/// Compares how a refresh ended.
+fn check_refreshed(rt: &impl Abort, got: Refreshed, want: Refreshed) {
+    assert_eq!(rt; got, want);
+}
+
+/// Compares a count of areas, slices or pixels.
+fn check_count(rt: &impl Abort, got: u64, want: u64) {
+    assert_eq!(rt; got, want);
+}
+
 /// Refreshes a panel of four by three pixels in slices of a line, where the start of a number fails, and then
 /// once more.
 fn refresh_twice<L: Ledger>(
@@ -69,12 +79,12 @@ fn refresh_twice<L: Ledger>(
     let mut damage = whole_panel(whole);
     let mut panel = open_panel(alloc, 4, 3, 4, fails)?;
     let first = refresher.refresh(&white, &mut damage, &mut panel, &mut steps);
-    assert_eq!(rt; first, Refreshed::Fault);
-    assert_eq!(rt; panel.starts.len() as u64, fails);
+    check_refreshed(rt, first, Refreshed::Fault);
+    check_count(rt, panel.starts.len() as u64, fails);
     let second = refresher.refresh(&white, &mut damage, &mut panel, &mut steps);
-    assert_eq!(rt; second, Refreshed::Done);
+    check_refreshed(rt, second, Refreshed::Done);
     check_starts(rt, &panel, want);
-    assert_eq!(rt; panel.panel.sent(), 16);
+    check_count(rt, panel.panel.sent(), 16);
     for y in 0..3 {
         for x in 0..4 {
             assert_eq!(rt; panel.panel.shown(x, y), Rgb565::WHITE);
@@ -106,21 +116,21 @@ fn refresh_changes<L: Ledger>(rt: &impl Abort, alloc: Global, blank: Blank) -> R
     let mut damage = whole_panel(whole);
     let mut panel = open_panel(alloc, 6, 4, 12, 0)?;
     let first = refresher.refresh(&white, &mut damage, &mut panel, &mut steps);
-    assert_eq!(rt; first, Refreshed::Done);
+    check_refreshed(rt, first, Refreshed::Done);
     let second = refresher.refresh(&white, &mut damage, &mut panel, &mut steps);
-    assert_eq!(rt; second, Refreshed::Done);
+    check_refreshed(rt, second, Refreshed::Done);
     check_starts(rt, &panel, &[[0, 0, 5, 1], [0, 2, 5, 3]]);
     damage.add(Area::at(1, 0, 2, 1));
     damage.add(Area::at(4, 3, 5, 5));
     damage.add(Area::at(2, 0, 3, 1));
     let third = refresher.refresh(&white, &mut damage, &mut panel, &mut steps);
-    assert_eq!(rt; third, Refreshed::Done);
+    check_refreshed(rt, third, Refreshed::Done);
     check_starts(
         rt,
         &panel,
         &[[0, 0, 5, 1], [0, 2, 5, 3], [1, 0, 4, 0], [4, 3, 5, 3]],
     );
-    assert_eq!(rt; panel.panel.sent(), 30);
+    check_count(rt, panel.panel.sent(), 30);
     assert_eq!(rt; refresher.sum_of(&white, &mut steps), 65_512);
     Ok(())
 }
@@ -156,12 +166,12 @@ fn refresh_full_list<L: Ledger>(rt: &impl Abort, alloc: Global, blank: Blank) ->
     assert!(rt; damage.take_slice(198).is_some());
     damage.add(Area::at(0, 0, 66, 2));
     add_dots(&mut damage);
-    assert_eq!(rt; damage.areas().len(), 32);
+    check_count(rt, damage.areas().len() as u64, 32);
     let first = refresher.refresh(&white, &mut damage, &mut panel, &mut steps);
-    assert_eq!(rt; first, Refreshed::Fault);
-    assert_eq!(rt; damage.areas().len(), 1);
+    check_refreshed(rt, first, Refreshed::Fault);
+    check_count(rt, damage.areas().len() as u64, 1);
     let second = refresher.refresh(&white, &mut damage, &mut panel, &mut steps);
-    assert_eq!(rt; second, Refreshed::Done);
+    check_refreshed(rt, second, Refreshed::Done);
     let lines = [[0, 0, 65, 0], [0, 0, 65, 0], [0, 1, 65, 1], [0, 2, 65, 2]];
     check_starts(rt, &panel, &lines);
     Ok(())

@@ -7,6 +7,7 @@ pub mod Farthest
 pub mod Finishing
 pub mod Fitting
 pub mod Flows
+pub mod InTrees
 pub mod Keeps
 pub mod Kids
 pub mod Leaving

@@ -33,7 +33,8 @@ pub fn take_gone(
 
 /// Whether an object is there, or has no entry.
 fn has_left(tree: &Tree, entries: &Table<Entry>, h: Handle) -> bool
-    ensures { result ≡ true → HasLeft tree.now.forest entries.now h.0 }
+    ensures left { result ≡ true → HasLeft tree.now.forest entries.now h.0 }
+    ensures known { HasLeft tree.now.forest entries.now h.0 → result ≡ true }
 {
     if tree.has(h) {
         return true;
@@ -43,7 +44,8 @@ fn has_left(tree: &Tree, entries: &Table<Entry>, h: Handle) -> bool
 
 /// Whether none of these objects that are gone has an entry still.
 pub fn have_left(tree: &Tree, entries: &Table<Entry>, listed: &[Handle]) -> bool
-    ensures { result ≡ true → HaveLeft tree.now.forest entries.now listed.now }
+    ensures left { result ≡ true → HaveLeft tree.now.forest entries.now listed.now }
+    ensures known { HaveLeft tree.now.forest entries.now listed.now → result ≡ true }
 {
     for h in listed {
         if !has_left(tree, entries, *h) {

@@ -38,7 +38,8 @@ pub fn add_any(listed: &mut Vec<Handle>, h: Option<Handle>)
 
 /// Whether both list the same objects in the same order.
 pub fn are_same(some: &[Handle], others: &[Handle]) -> bool
-    ensures { result ≡ true → some.now ≡ others.now }
+    ensures same { result ≡ true → some.now ≡ others.now }
+    ensures other { some.now ≡ others.now → result ≡ true }
 {
     if some.len() != others.len() {
         return false;

@@ -147,7 +147,8 @@ pub fn scrolled_by(own: &LayoutBox, reach: Reach) -> Scrolled
 
 /// Whether nothing is moved.
 pub fn is_none(offset: Offset) -> bool
-    ensures { result ≡ true → moves_of offset ≡ no_span }
+    ensures still { result ≡ true → moves_of offset ≡ no_span }
+    ensures moves { moves_of offset ≡ no_span → result ≡ true }
 {
     offset.across == 0 && offset.down == 0
 }

@@ -39,7 +39,9 @@ pub fn is_steady(own: &LayoutBox) -> bool
 
 /// Whether trees of any height have room in an object that stands there.
 pub fn is_nearby(position: Position) -> bool
-    ensures { result ≡ true → StandsNearby (slot_of position) }
+    ensures near { result ≡ true → StandsNearby (slot_of position) }
+    ensures far { StandsNearby (slot_of position) → result ≡ true }
 {
-    (-NEARBY < position.x && position.x <= NEARBY) && (-NEARBY < position.y && position.y <= NEARBY)
+    (-NEARBY <= position.x && position.x <= NEARBY)
+        && (-NEARBY <= position.y && position.y <= NEARBY)
 }

@@ -27,11 +27,11 @@ use Rattle.gui_layout.proofs.Climbing.{is_above}
 use Rattle.gui_boxes.proofs.These.{has-times, has_value}
 use Rattle.gui_debts.specs.Seen.{IsSeen}
 use Rattle.gui_debts.specs.Sights.{KeepOthers}
-use Rattle.gui_debts.specs.declared.concerned.Concerned.{Concerned}
-use Rattle.gui_debts.specs.declared.concerned.Concerned.TheVariants.{Nobody}
-use Rattle.gui_debts.specs.declared.edit.Edit.TheVariants.{New}
+use Rattle.gui_concerns.specs.declared.concerned.Concerned.{Concerned}
+use Rattle.gui_concerns.specs.declared.concerned.Concerned.TheVariants.{Nobody}
+use Rattle.gui_concerns.specs.declared.edit.Edit.TheVariants.{New}
 use Rattle.gui_debts.specs.declared.seen.Seen.{Seen}
-use Rattle.gui_debts.proofs.Changes.{after_is}
+use Rattle.gui_concerns.proofs.Changes.{after_is}
 use Rattle.gui_debts.proofs.Sparing.{keeps, painted, painted-is}
 use Rattle.gui_change.specs.Comes.{Comes}
 use Rattle.gui_change.specs.Edits.{WasSeenEdited}

@@ -21,8 +21,8 @@ use Rattle.debt_defs.specs.Subject.{subject_of}
 use Rattle.debt_defs.specs.Concerns.{concerns, touches}
 use Rattle.debt_defs.proofs.Concerned.{others_are_same}
 use Rattle.gui_layout.specs.Scenes.{scene_box}
-use Rattle.gui_debts.specs.Moving.{moves_nobody, is_nobody, goes_by}
-use Rattle.gui_debts.proofs.Changes.{after_is}
+use Rattle.gui_concerns.specs.Moving.{moves_nobody, is_nobody, goes_by}
+use Rattle.gui_concerns.proofs.Changes.{after_is}
 use Rattle.gui_change.proofs.Laid.{laid, box-same}
 use Rattle.gui_change.proofs.MainValues.{values-set, values-unset, values-local, values-unlocal}
 use Rattle.gui_change.proofs.SetRows.{hidden-kept, scrollable-kept, row-set}

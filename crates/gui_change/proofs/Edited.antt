@@ -26,18 +26,19 @@ use Rattle.gui_layout.specs.declared.places.Places.{Places}
 use Rattle.gui_layout.proofs.Entering.{few}
 use Rattle.gui_boxes.proofs.Pendings.{any-part}
 use Rattle.gui_boxes.proofs.These.{length-preorder}
-use Rattle.gui_debts.specs.Concerned.{is_below}
+use Rattle.gui_concerns.specs.Concerned.{is_below}
 use Rattle.gui_change.specs.Edits.{WasEdited}
-use Rattle.gui_debts.specs.Edits.{beside, edit_of}
-use Rattle.gui_debts.specs.declared.concerned.Concerned.{Concerned}
-use Rattle.gui_debts.specs.declared.edit.Edit.TheVariants.{Gone, New, Reparented}
+use Rattle.gui_concerns.specs.Edits.{beside, edit_of}
+use Rattle.gui_concerns.specs.declared.concerned.Concerned.{Concerned}
+use Rattle.gui_concerns.specs.declared.edit.Edit.TheVariants.{Gone, New, Reparented}
 use Rattle.gui_tree.proofs.Paths.{children_gone}
-use Rattle.gui_debts.proofs.Changes.{after_is}
+use Rattle.gui_concerns.proofs.Changes.{after_is}
 use Rattle.gui_change.proofs.Comings.{Deleted, Made, failed, made-gone, made-new}
 use Rattle.gui_change.proofs.Kids.{parent-child}
-use Rattle.gui_change.proofs.Marked.{in-tree}
+use Rattle.gui_concerns.proofs.Marked.{in-tree}
 use Rattle.gui_change.proofs.Orders.{root_there}
-use Rattle.gui_debts.proofs.Parents.{moved-off, put-there}
+use Rattle.gui_concerns.proofs.Lists.{some-size}
+use Rattle.gui_concerns.proofs.Parents.{moved-off, put-there}
 use Rattle.gui_change.proofs.Unmoved.{keeps, limits-stay, new-told, removed-told, reparented-told, there-with, valid-after}
 
 -- what is marked and has not changed has other children
@@ -95,10 +96,6 @@ cut-sizes h (Tree t cs rest) = elim (cases_Bool (eqb t h)) [
     | inr outer ↦ rw (isnt, outer) (omega (arith, cut-small h cs, cut-sizes h rest))
   ]
 ]
-
-pub some-size : (k : ℕ) (f : Forest ℕ) → has f k ≡ true → 0 < size f
-some-size k Empty there = absurd (false≢true there)
-some-size k (Tree t cs rest) there = omega arith
 
 module _ (places : Places) (after : Scene) (made : Change) (concerned : Concerned) (removed : List ℕ) (parent : Option Handle) (was : WasEdited places after (Gone parent) made concerned removed) where
   gone : Deleted made was.was.before parent

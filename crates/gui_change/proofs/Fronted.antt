@@ -15,11 +15,11 @@ use Rattle.scene_defs.specs.Valid.{IsValid}
 use Rattle.scene_defs.specs.Visible.{root_tree, shown_trees}
 use Rattle.gui_layout.specs.declared.places.Places.{Places}
 use Rattle.gui_change.specs.Edits.{WasEdited}
-use Rattle.gui_debts.specs.Edits.{edit_of}
+use Rattle.gui_concerns.specs.Edits.{edit_of}
 use Rattle.gui_change.specs.Fronts.{Fronts}
-use Rattle.gui_debts.specs.declared.concerned.Concerned.{Concerned}
-use Rattle.gui_debts.specs.declared.edit.Edit.TheVariants.{Beside}
-use Rattle.gui_debts.proofs.Changes.{after_is}
+use Rattle.gui_concerns.specs.declared.concerned.Concerned.{Concerned}
+use Rattle.gui_concerns.specs.declared.edit.Edit.TheVariants.{Beside}
+use Rattle.gui_concerns.proofs.Changes.{after_is}
 use Rattle.gui_change.proofs.Fronting.{gone_last, root-goes, root_of, three-go}
 use Rattle.gui_change.proofs.Kids.{parent-child}
 use Rattle.gui_change.proofs.Moves.{above-is}

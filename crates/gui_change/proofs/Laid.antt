@@ -24,7 +24,7 @@ use Rattle.scene_defs.specs.Row.{is_on}
 use Rattle.scene_defs.specs.Scene.{Object, Scene, object_at, value}
 use Rattle.gui_layout.specs.Scenes.{scene_box}
 use Rattle.gui_layout.proofs.SceneBoxes.{named}
-use Rattle.gui_debts.specs.Moving.{goes_by}
+use Rattle.gui_concerns.specs.Moving.{goes_by}
 
 -- Of an object, of its row and of its values what layout goes by.
 abbrev pub laid_row : Row → Row

@@ -4,8 +4,6 @@ pub mod BarsStay
 pub mod Kids
 pub mod Lending
 pub mod Listed
-pub mod Marked
-pub mod Marks
 pub mod Missing
 pub mod Listing
 pub mod Orderless

@@ -25,7 +25,7 @@ use Rattle.scene_defs.specs.Scene.{Object, Scene, path_at, styled_of, value}
 use Rattle.debt_defs.specs.Concerns.{asked}
 use Rattle.debt_defs.proofs.SameRows.{all-off}
 use Rattle.debt_defs.proofs.Wins.{prop-is, prop-set, prop-unset, value-same}
-use Rattle.gui_debts.specs.Moving.{goes_by, goes_by_set}
+use Rattle.gui_concerns.specs.Moving.{goes_by, goes_by_set}
 
 -- a property that layout goes by is another one than one that it does not go by
 other-prop : (p q : Prop) → goes_by p ≡ false → goes_by q ≡ true → same_prop p q ≡ false

@@ -19,14 +19,9 @@ use Rattle.gui_change.specs.Again.{AreSeenOf}
 use Rattle.gui_debts.specs.Owed.{sight_of}
 use Rattle.gui_debts.specs.Seen.{KeepsItems, items_known, place_in}
 use Rattle.gui_debts.specs.Sights.{AreSeen, KeepOthers}
-use Rattle.gui_debts.specs.declared.concerned.Concerned.{Concerned}
+use Rattle.gui_concerns.specs.declared.concerned.Concerned.{Concerned}
 use Rattle.gui_debts.specs.declared.seen.Seen.{Seen}
-use Rattle.gui_change.proofs.Orders.{nobody}
 use Rattle.gui_change.proofs.Staying.{some-each}
-
--- the next of a list, and the rest
-pub next_of : (hs : List Handle) (i : ℕ) → i < length hs → drop i hs ≡ get_or hs i nobody ∷ drop (i + 1) hs
-next_of hs i within = rw (add-one, drop-cons hs i nobody)
 
 pub times-append : (xs ys : List Handle) (n : ℕ) → times (xs ++ ys) n ≡ times xs n + times ys n
 times-append [] ys n = omega arith

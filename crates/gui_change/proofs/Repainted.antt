@@ -27,14 +27,14 @@ use Rattle.scene_defs.specs.Scene.{Object, Scene, object_at, value}
 use Rattle.gui_layout.proofs.SceneBoxes.{named}
 use Rattle.gui_layout.specs.declared.places.Places.{Places}
 use Rattle.gui_pool.specs.Table.{Table}
-use Rattle.gui_debts.specs.declared.concerned.Concerned.{Concerned}
-use Rattle.gui_debts.specs.declared.concerned.Concerned.TheVariants.{Nobody}
+use Rattle.gui_concerns.specs.declared.concerned.Concerned.{Concerned}
+use Rattle.gui_concerns.specs.declared.concerned.Concerned.TheVariants.{Nobody}
 use Rattle.gui_change.specs.declared.scene_look.SceneLook.{SceneLook}
 use Rattle.gui_debts.specs.declared.seen.Seen.{Seen}
 use Rattle.gui_change.specs.Edits.{WasSeenSame}
-use Rattle.gui_debts.specs.Moving.{painted_by, sets_no_paint}
+use Rattle.gui_concerns.specs.Moving.{painted_by, sets_no_paint}
 use Rattle.gui_debts.specs.Sights.{AreSeen, KeepOthers}
-use Rattle.gui_debts.proofs.Changes.{after_is}
+use Rattle.gui_concerns.proofs.Changes.{after_is}
 use Rattle.gui_change.proofs.SetRows.{object-set, values-set}
 use Rattle.gui_debts.proofs.Sparing.{PaintsSame, keeps}
 

@@ -29,7 +29,7 @@ use Rattle.gui_debts.specs.Owed.{sight_of, owed}
 use Rattle.gui_debts.specs.Seen.{IsSeen}
 use Rattle.gui_change.specs.Sees.{IsSeenIn, KnowsShown, SeesAgain, owing}
 use Rattle.gui_debts.specs.Sights.{AreSeen, KeepOthers}
-use Rattle.gui_debts.specs.declared.concerned.Concerned.{Concerned}
+use Rattle.gui_concerns.specs.declared.concerned.Concerned.{Concerned}
 use Rattle.gui_debts.specs.declared.seen.Seen.{Seen}
 use Rattle.gui_change.proofs.Orders.{shown_once}
 use Rattle.gui_change.proofs.Orderless.{all-first, same-off, same-order}

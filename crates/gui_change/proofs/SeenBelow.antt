@@ -10,7 +10,7 @@ use Rattle.gui_base.specs.Forest.{Forest, StandsOnce, has, parent_of, tree_at}
 use Rattle.gui_base.specs.declared.Handle.{Handle}
 use Rattle.gui_damage.specs.Gridded.{GridList}
 use Rattle.gui_boxes.specs.Listing.{HasThese}
-use Rattle.gui_layout.proofs.Settling.{tree-there}
+use Rattle.gui_boxes.proofs.InTrees.{tree-there}
 use Rattle.gui_boxes.proofs.These.{has_value}
 use Rattle.gui_pool.specs.Table.{Table, value_at}
 use Rattle.gui_style.specs.Styles.{uses_style}
@@ -25,14 +25,14 @@ use Rattle.debt_defs.specs.Concerns.{lies_in}
 use Rattle.debt_defs.proofs.Inside.{among-handles}
 use Rattle.debt_defs.proofs.Moved.{lies-in-tree}
 use Rattle.gui_change.specs.Again.{owed_again}
-use Rattle.gui_debts.specs.Concerned.{is_below, is_below_user, may_be}
+use Rattle.gui_concerns.specs.Concerned.{is_below, is_below_user, may_be}
 use Rattle.gui_change.specs.Dues.{OwesAll}
 use Rattle.gui_change.specs.Sees.{IsSeenIn, KnowsShown, SeesAgain, is_below_one, is_below_other, owing}
 use Rattle.gui_debts.specs.Sights.{AreSeen, KeepOthers}
-use Rattle.gui_debts.specs.declared.concerned.Concerned.{Concerned}
-use Rattle.gui_debts.specs.declared.concerned.Concerned.TheVariants.{Nobody}
+use Rattle.gui_concerns.specs.declared.concerned.Concerned.{Concerned}
+use Rattle.gui_concerns.specs.declared.concerned.Concerned.TheVariants.{Nobody}
 use Rattle.gui_debts.specs.declared.seen.Seen.{Seen}
-use Rattle.gui_debts.proofs.Below.{below_met, climbs, meets_from, steps_from, user_met}
+use Rattle.gui_concerns.proofs.Below.{below_met, climbs, meets_from, steps_from, user_met}
 use Rattle.gui_change.proofs.Orders.{shown_there}
 use Rattle.gui_change.proofs.SeenAgain.{all-owed, nothing-known, shown-has, shown-still}
 use Rattle.gui_debts.proofs.Sparing.{seen-keeps}

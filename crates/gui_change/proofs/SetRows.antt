@@ -15,7 +15,7 @@ use Rattle.scene_defs.specs.declared.Row.{Row}
 use Rattle.scene_defs.specs.Edits.{over_row, with_row}
 use Rattle.scene_defs.specs.Row.{is_on}
 use Rattle.scene_defs.specs.Scene.{Object, Scene, is_at, object_by, path_at, styled_of, value}
-use Rattle.gui_debts.specs.Moving.{goes_by_flag}
+use Rattle.gui_concerns.specs.Moving.{goes_by_flag}
 use Rattle.gui_change.proofs.Laid.{LaidSame, laid}
 
 -- a bit that is set or cleared leaves another one

@@ -26,19 +26,19 @@ use Rattle.gui_layout.specs.Tops.{in_trees_at}
 use Rattle.gui_layout.specs.declared.places.Places.{Places}
 use Rattle.gui_layout.proofs.Climbing.{is_above}
 use Rattle.gui_tree.proofs.Parts.{distinct_once}
-use Rattle.gui_debts.specs.Concerned.{may_be}
+use Rattle.gui_concerns.specs.Concerned.{may_be}
 use Rattle.gui_change.specs.Edits.{WasKept, WasSeenEdited}
-use Rattle.gui_debts.specs.Edits.{edit_of}
+use Rattle.gui_concerns.specs.Edits.{edit_of}
 use Rattle.gui_change.specs.Marking.{ScrollsSame}
 use Rattle.gui_debts.specs.Seen.{IsSeen}
-use Rattle.gui_debts.specs.declared.concerned.Concerned.{Concerned}
-use Rattle.gui_debts.specs.declared.edit.Edit.TheVariants.{Same}
+use Rattle.gui_concerns.specs.declared.concerned.Concerned.{Concerned}
+use Rattle.gui_concerns.specs.declared.edit.Edit.TheVariants.{Same}
 use Rattle.gui_change.specs.declared.scene_look.SceneLook.{SceneLook}
 use Rattle.gui_debts.specs.declared.seen.Seen.{Seen}
 use Rattle.gui_change.proofs.BarsStay.{bars-alike}
-use Rattle.gui_debts.proofs.Below.{handles-stay}
+use Rattle.gui_concerns.proofs.Below.{handles-stay}
 use Rattle.gui_change.proofs.Orders.{shown_listed}
-use Rattle.gui_debts.proofs.Subjects.{leaves-by}
+use Rattle.gui_concerns.proofs.Subjects.{leaves-by}
 use Rattle.gui_change.proofs.Subtrees.{tree-trans}
 use Rattle.gui_change.proofs.Unchanged.{DifferBut, boxes-hidden, looks-same, still-seen}
 use Rattle.gui_change.proofs.Unmoved.{limits-stay, off-concerned, same-after, valid-after}

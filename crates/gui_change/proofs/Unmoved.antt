@@ -41,21 +41,21 @@ use Rattle.gui_layout.specs.declared.places.Places.{Places}
 use Rattle.gui_layout.proofs.Before.{settled_but_marks}
 use Rattle.gui_tree.proofs.Parts.{distinct_once as handles-distinct}
 use Rattle.gui_layout.proofs.SceneBoxes.{none_found, row_found}
-use Rattle.gui_debts.specs.Concerned.{may_be}
+use Rattle.gui_concerns.specs.Concerned.{may_be}
 use Rattle.gui_change.specs.Edits.{WasEdited, WasMade}
-use Rattle.gui_debts.specs.Edits.{edit_of, is_gone}
-use Rattle.gui_debts.specs.Moving.{moves_nobody}
-use Rattle.gui_debts.specs.declared.concerned.Concerned.{Concerned}
-use Rattle.gui_debts.specs.declared.edit.Edit.{Edit}
-use Rattle.gui_debts.specs.declared.edit.Edit.TheVariants.{Beside}
+use Rattle.gui_concerns.specs.Edits.{edit_of, is_gone}
+use Rattle.gui_concerns.specs.Moving.{moves_nobody}
+use Rattle.gui_concerns.specs.declared.concerned.Concerned.{Concerned}
+use Rattle.gui_concerns.specs.declared.edit.Edit.{Edit}
+use Rattle.gui_concerns.specs.declared.edit.Edit.TheVariants.{Beside}
 use Rattle.gui_tree.proofs.Paths.{children_gone, parent_gone}
-use Rattle.gui_debts.proofs.Below.{after-handles, handles-stay}
+use Rattle.gui_concerns.proofs.Below.{after-handles, handles-stay}
 use Rattle.gui_change.proofs.BoxesStay.{boxes_stay}
-use Rattle.gui_debts.proofs.Changes.{after_is}
+use Rattle.gui_concerns.proofs.Changes.{after_is}
 use Rattle.gui_change.proofs.Comings.{box-left, failed}
 use Rattle.gui_change.proofs.Kids.{kid-before, kid-parent, kids-are, root-among}
 use Rattle.gui_change.proofs.Moves.{box-on-path, moved, parent-second, second}
-use Rattle.gui_debts.proofs.Parents.{put-there}
+use Rattle.gui_concerns.proofs.Parents.{put-there}
 use Rattle.gui_change.proofs.Unchanged.{box-alike, looks-same, there-is}
 
 -- what has no entry has no place

@@ -13,23 +13,8 @@ use Rattle.gui_layout.specs.declared.places.Places.{Places}
 use Rattle.gui_boxes.specs.Marks.{is_changed, is_marked, is_parent, most_marks}
 use Rattle.gui_layout.specs.SettledBut.{WereSettled}
 use Rattle.gui_change.specs.Edits.{WasEdited}
-use Rattle.gui_debts.specs.declared.concerned.Concerned.{Concerned}
-use Rattle.gui_debts.specs.declared.edit.Edit.{Edit}
-
--- only objects of these trees are marked, and each of them may be
-pub record AreMarked (marks : Marks) (f : Forest ℕ) : Type 0 where
-  pub there : (k : ℕ) → is_marked marks k ≡ true → has f k ≡ true
-  pub room : size f ≤ most_marks marks
-
--- no object is marked, and so many may be
-pub record AreUnmarked (marks : Marks) (objects : ℕ) : Type 0 where
-  pub none : (k : ℕ) → is_marked marks k ≡ false
-  pub most : most_marks marks ≡ objects
-
--- these objects are marked, besides those that were marked before
-pub record AlsoMarks (old new : Marks) (m : ℕ → Bool) : Type 0 where
-  pub changed : (k : ℕ) → is_changed new k ≡ (is_changed old k || m k)
-  pub parents : (k : ℕ) → is_parent new k ≡ true → is_parent old k ≡ true
+use Rattle.gui_concerns.specs.declared.concerned.Concerned.{Concerned}
+use Rattle.gui_concerns.specs.declared.edit.Edit.{Edit}
 
 -- places that were settled before a change were settled for a scene that differs in what the marks tell alone
 abbrev pub MarksTell : Marks → Scene → Edit → Change → Concerned → List ℕ → Type 0

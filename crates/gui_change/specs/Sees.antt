@@ -14,10 +14,10 @@ use Rattle.scene_defs.specs.Scene.{Scene, handles_of}
 use Rattle.scene_defs.specs.Shown.{order}
 use Rattle.debt_defs.specs.SceneLook.{is_among}
 use Rattle.gui_change.specs.Again.{owed_again}
-use Rattle.gui_debts.specs.Concerned.{is_below_user}
+use Rattle.gui_concerns.specs.Concerned.{is_below_user}
 use Rattle.gui_debts.specs.Seen.{IsSeen}
 use Rattle.gui_debts.specs.Sights.{KeepOthers}
-use Rattle.gui_debts.specs.declared.concerned.Concerned.{Concerned}
+use Rattle.gui_concerns.specs.declared.concerned.Concerned.{Concerned}
 use Rattle.gui_debts.specs.declared.seen.Seen.{Seen}
 
 -- what is shown owes by a table of what is known

@@ -2,7 +2,7 @@
 ghost use Rattle.gui_layout.specs.Solved.{AreReached, AreSolved};
 ghost use Rattle.gui_store.specs.Views.{scene_of};
 
-use gui_debts::Concerned;
+use gui_concerns::Concerned;
 use gui_layout::Places;
 use gui_store::Store;
 

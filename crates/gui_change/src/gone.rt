@@ -10,14 +10,15 @@ ghost use Rattle.gui_tree.specs.Handles.{numbers};
 ghost use Rattle.scene_defs.specs.Scene.{Scene, handles_of};
 ghost use Rattle.scene_defs.specs.Shown.{order};
 ghost use Rattle.gui_change.specs.Gone.{KnowsSome, gone_of, is_shown, owed_gone, shown_of};
-ghost use Rattle.gui_debts.specs.Handles.{number_of};
+ghost use Rattle.gui_concerns.specs.Handles.{number_of};
 ghost use Rattle.gui_debts.specs.Owed.{sight_of};
 ghost use Rattle.gui_debts.specs.Sights.{KeepOthers};
 
 use gui_base::{Grid, Handle};
 use gui_boxes::listing::put;
+use gui_concerns::Concerned;
 use gui_damage::Damage;
-use gui_debts::{Concerned, Seen, is_named, owe};
+use gui_debts::{Seen, is_named, owe};
 use gui_pool::Table;
 use gui_store::{SYSTEM_LAYER, Store, TOP_LAYER};
 

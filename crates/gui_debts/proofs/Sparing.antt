@@ -18,8 +18,8 @@ use Rattle.scene_defs.specs.Scene.{Object, Scene, object_at}
 use Rattle.scene_defs.specs.Valid.{IsValid, IsChange}
 use Rattle.debt_defs.specs.Concerns.{IsSame, look_at}
 use Rattle.debt_defs.proofs.Concerned.{others_are_same, look-same}
-use Rattle.gui_debts.specs.Concerned.{Covers}
-use Rattle.gui_debts.specs.declared.concerned.Concerned.{Concerned}
+use Rattle.gui_concerns.specs.Concerned.{Covers}
+use Rattle.gui_concerns.specs.declared.concerned.Concerned.{Concerned}
 use Rattle.gui_debts.specs.declared.seen.Seen.{Seen}
 use Rattle.gui_debts.specs.Seen.{IsSeen, KeepsItems, items_known, place_in}
 use Rattle.gui_debts.specs.Sights.{AreSeen, KeepOthers}

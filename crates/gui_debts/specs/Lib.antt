@@ -1,9 +1,5 @@
 pub mod Bars
-pub mod Concerned
-pub mod Edits
-pub mod Handles
 pub mod Kept
-pub mod Moving
 pub mod Owed
 pub mod Seen
 pub mod Sightings

@@ -2,8 +2,8 @@
 use Rattle.std.specs.Prelude.{◌≡◌, ℕ, true, false, Some}
 use Rattle.gui_pool.specs.Table.{Table, value_at}
 use Rattle.scene_defs.specs.Scene.{Scene, is_there}
-use Rattle.gui_debts.specs.Concerned.{may_be}
-use Rattle.gui_debts.specs.declared.concerned.Concerned.{Concerned}
+use Rattle.gui_concerns.specs.Concerned.{may_be}
+use Rattle.gui_concerns.specs.declared.concerned.Concerned.{Concerned}
 use Rattle.gui_debts.specs.declared.seen.Seen.{Seen}
 use Rattle.gui_debts.specs.Seen.{IsSeen, KeepsItems}
 

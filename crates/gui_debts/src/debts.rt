@@ -5,7 +5,7 @@ ghost use Rattle.debt_defs.specs.Debt.{is_named};
 ghost use Rattle.gui_base.specs.Corners.{rect_of};
 ghost use Rattle.gui_damage.specs.Gridded.{added_all_in};
 ghost use Rattle.gui_widgets.specs.Looks.{items_of};
-ghost use Rattle.gui_debts.specs.Handles.{number_of};
+ghost use Rattle.gui_concerns.specs.Handles.{number_of};
 ghost use Rattle.debt_defs.specs.Debt.{listed};
 ghost use Rattle.debt_defs.specs.Same.{same_by, same_item};
 ghost use Rattle.gui_debts.specs.Owed.{sight_of, is_touched, owed};

@@ -1,7 +1,7 @@
-//! What is known of the objects that are shown, whom a change may concern, and what objects owe.
+//! What is known of the objects that are shown, and what objects owe.
 //!
 //! Of an object that is shown is kept where it is seen and what it paints ([`Seen`]). After a change it is looked at
-//! once more where the change may concern it ([`Concerned`]), and what was seen of it before tells whether it is
+//! once more where the change may concern it (`Concerned` of `gui_concerns`), and what was seen of it before tells whether it is
 //! touched: it is the one that the change names, it is seen elsewhere, or it paints something else. A touched object
 //! owes where it was seen and where it is seen now ([`owe`]).
 //!
@@ -10,23 +10,15 @@
 #![tactic(auto)]
 
 mod bars;
-mod concerned;
 mod debts;
-mod edit;
 mod kept;
-mod moving;
-mod named;
 mod same;
 mod seen;
 mod sighting;
 
 pub use bars::{Bars, are_equal, bars_at};
-pub use concerned::{Concerned, concerned_by};
 pub use debts::{is_named, owe};
-pub use edit::{Edit, edit_of};
 pub use kept::{KeptBars, ShownBars};
-pub use moving::{moves_nobody, painted_by};
-pub use named::named_by;
 pub use same::same_visible;
 pub use seen::{Seen, ShownEntry, see};
 pub use sighting::{Nearby, Sighting};

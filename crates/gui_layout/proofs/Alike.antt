@@ -15,7 +15,7 @@ use Rattle.gui_boxes.specs.Settled.{Layout, known_at, tall_of}
 use Rattle.gui_boxes.specs.Slots.{slot_at, talls, tall_at}
 use Rattle.gui_boxes.proofs.Fitting.{tall_roots}
 use Rattle.gui_tree.proofs.Parts.{IsDistinct, distinct-part, found, there}
-use Rattle.gui_layout.proofs.Settling.{tree-in}
+use Rattle.gui_boxes.proofs.InTrees.{tree-in}
 
 -- Own heights.
 reach-but : (tall : Tall) (slot : Slot) (cs : Forest Tall) → kid_reach (but_height_tall tall) slot (roots (map_forest but_height_tall cs)) ≡ kid_reach tall slot (roots cs)

@@ -8,7 +8,8 @@ use Rattle.gui_tree.proofs.Below.{own_tree}
 use Rattle.gui_tree.proofs.Paths.{goes_up, path_from}
 use Rattle.gui_boxes.specs.Frames.{Encloses}
 use Rattle.gui_tree.proofs.Parts.{distinct_once}
-use Rattle.gui_layout.proofs.Settling.{parent-in, parent-out, tree-there}
+use Rattle.gui_boxes.proofs.InTrees.{tree-there}
+use Rattle.gui_layout.proofs.Settling.{parent-in, parent-out}
 
 pub number : (o : Option ℕ) (p : Handle) → Some p ≡ option_map as_handle o → o ≡ Some p.0
 number None p e = cc

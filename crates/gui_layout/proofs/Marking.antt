@@ -11,7 +11,8 @@ use Rattle.gui_boxes.specs.Settled.{Known, wide_of, tall_of, Fits, AllFit, AllFi
 use Rattle.gui_layout.specs.Settles.{LetsStand}
 use Rattle.gui_boxes.proofs.Keeps.{elsewhere}
 use Rattle.gui_tree.proofs.Parts.{IsDistinct}
-use Rattle.gui_layout.proofs.Settling.{is_root, root-has, root-out, tree-in, is_at, parent-root, AllFree, fits-free, free-wide, free-stand, free-widths, free-slots, width-steady, height-steady}
+use Rattle.gui_boxes.proofs.InTrees.{tree-in}
+use Rattle.gui_layout.proofs.Settling.{is_root, root-has, root-out, is_at, parent-root, AllFree, fits-free, free-wide, free-stand, free-widths, free-slots, width-steady, height-steady}
 
 -- What is steady by its test is so.
 free-is : (course : Course) → is_free course ≡ true → course ≡ Free

@@ -22,7 +22,8 @@ use Rattle.gui_layout.specs.Tops.{ScrollsAt, in_trees_at, is_it, is_over}
 use Rattle.gui_boxes.specs.Views.{box_at}
 use Rattle.gui_layout.proofs.Climbing.{is_above}
 use Rattle.gui_tree.proofs.Parts.{IsDistinct, distinct_once}
-use Rattle.gui_layout.proofs.Settling.{is_at, parent-root, root-has, root-out, tree-in}
+use Rattle.gui_boxes.proofs.InTrees.{tree-in}
+use Rattle.gui_layout.proofs.Settling.{is_at, parent-root, root-has, root-out}
 use Rattle.gui_layout.proofs.Solves.{rest_same}
 use Rattle.gui_layout.proofs.Stepping.{mark-inside, marked-fewer}
 use Rattle.gui_layout.proofs.Tops.{in-first, in-second, listed-either}

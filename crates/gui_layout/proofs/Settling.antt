@@ -10,6 +10,7 @@ use Rattle.layout_defs.specs.Solving.{Wide, Tall, Slot, tall_box, width_in, own_
 use Rattle.layout_defs.proofs.Scrolling.{still_stands_flat}
 use Rattle.gui_boxes.specs.Settled.{Known, wide_of, tall_of, width_of, slot_of, Fits, StandsFree, IsSteady, is_content}
 pub use Rattle.gui_layout.specs.Marked.{is_root}
+use Rattle.gui_boxes.proofs.InTrees.{tree-in, tree-there}
 use Rattle.gui_boxes.proofs.Lists.{dealt-none}
 use Rattle.gui_tree.proofs.Parts.{IsDistinct}
 
@@ -21,27 +22,6 @@ root-has u (Tree h cs rest) is = elim (cases_Bool (eqb h u)) [
   | inl same ↦ or_left _ _ same
   | inr other ↦ or_right _ _ (or_right _ _ (root-has u rest (rw other at is)))
 ]
-
--- what lies in a tree of a forest lies in the forest
-pub tree-in : (u k : ℕ) (f : Forest ℕ) → has (tree_at f u) k ≡ true → has f k ≡ true
-tree-in u k Empty is = is
-tree-in u k (Tree h cs rest) is = elim (cases_Bool (eqb h u)) [
-  | inl same ↦
-      let top : (eqb h k ≡ true) ⊎ ((has cs k || false) ≡ true) = or_cases (eqb h k) (has cs k || false) (rw same at is) in
-      elim top [
-        | inl e ↦ or_left (eqb h k) (has cs k || has rest k) e
-        | inr e ↦
-            let low : (has cs k ≡ true) ⊎ (false ≡ true) = or_cases (has cs k) false e in
-            elim low [ inl i ↦ inside (or_left (has cs k) (has rest k) i) | inr i ↦ absurd (false≢true i) ]
-      ]
-  | inr other ↦ elim (cases_Bool (has cs u)) [
-    | inl below ↦ inside (or_left (has cs k) (has rest k) (tree-in u k cs (rw (other, below) at is)))
-    | inr out ↦ inside (or_right (has cs k) (has rest k) (tree-in u k rest (rw (other, out) at is)))
-  ]
-]
-  where
-    inside : (has cs k || has rest k) ≡ true → has (Tree h cs rest) k ≡ true
-    inside i = or_right (eqb h k) (has cs k || has rest k) i
 
 -- a root lies in no other root's tree
 pub root-out : (u k : ℕ) (f : Forest ℕ) → IsDistinct f → is_root k f ≡ true → eqb k u ≡ false → has (tree_at f u) k ≡ false
@@ -95,17 +75,6 @@ parent-root u above (Tree h cs rest) distinct is = elim (cases_Bool (eqb h u)) [
       let later : is_root u rest ≡ true = rw other at is in
       let out : has cs u ≡ false = false_from_ne_true (has cs u) (λ i. both_ways (has rest u) (distinct.0 u i) (root-has u rest later)) in
       rw (other, out) (parent-root u above rest distinct.4 later)
-]
-
--- a tree that has something is there
-pub tree-there : (u k : ℕ) (f : Forest ℕ) → has (tree_at f u) k ≡ true → has f u ≡ true
-tree-there u k Empty is = absurd (false≢true is)
-tree-there u k (Tree h cs rest) is = elim (cases_Bool (eqb h u)) [
-  | inl same ↦ or_left (eqb h u) (has cs u || has rest u) same
-  | inr other ↦ or_right (eqb h u) (has cs u || has rest u) (elim (cases_Bool (has cs u)) [
-    | inl below ↦ or_left (has cs u) (has rest u) below
-    | inr out ↦ or_right (has cs u) (has rest u) (tree-there u k rest (rw (other, out) at is))
-  ])
 ]
 
 -- the parent of an object lies outside its tree

@@ -17,7 +17,8 @@ use Rattle.gui_layout.specs.SettledBut.{AreRightBut, AreRightButChanged, nobody}
 use Rattle.gui_layout.specs.Solved.{layout_of}
 use Rattle.gui_layout.specs.Tops.{ScrollsAt, in_trees_at}
 use Rattle.gui_layout.proofs.Overs.{kid-top, root-in}
-use Rattle.gui_layout.proofs.Settling.{is_at, parent-in, parent-out, tree-there}
+use Rattle.gui_boxes.proofs.InTrees.{tree-there}
+use Rattle.gui_layout.proofs.Settling.{is_at, parent-in, parent-out}
 use Rattle.gui_layout.proofs.Without.{flat-alike, left-root}
 
 -- One handle alone.

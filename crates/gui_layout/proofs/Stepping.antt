@@ -23,7 +23,8 @@ use Rattle.gui_layout.proofs.Marking.{Stays, fill-step, step}
 use Rattle.gui_boxes.proofs.Each.{tree_first}
 use Rattle.gui_tree.proofs.Parts.{distinct_once}
 use Rattle.gui_layout.proofs.Renewals.{room-same, steady-same}
-use Rattle.gui_layout.proofs.Settling.{parent-root, root-out, tree-in}
+use Rattle.gui_boxes.proofs.InTrees.{tree-in}
+use Rattle.gui_layout.proofs.Settling.{parent-root, root-out}
 use Rattle.gui_layout.proofs.Solves.{rest_same}
 
 -- A mark lies in a marked tree, and so does all that lies in a tree with it.

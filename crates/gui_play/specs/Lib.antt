@@ -1,4 +1,6 @@
+pub mod Animated
 pub mod Commands
+pub mod Sliding
 pub mod Steps
 pub use Rattle.gui_board.specs.Boards
 pub use Rattle.gui_board.specs.Handling

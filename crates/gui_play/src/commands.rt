@@ -9,13 +9,13 @@ ghost use Rattle.gui_board.specs.Boards.{machine_of, stage, Plays, IsFresh};
 ghost use Rattle.gui_play.specs.Commands.{IsPlay};
 ghost use Rattle.gui_play.specs.Steps.{Steps};
 
+use crate::animating::is_anim_in_range;
 use crate::devices::{feed_encoder, feed_keypad, feed_pointer};
 use crate::ticks::tick;
 use gui_base::intervals::{COORDINATE, DEVICE_GROUP, GROUP, HANDLE, TICK, TURN, VALUE};
 use gui_base::{Action, Aim, Refusal};
 use gui_board::Board;
 use gui_edge::{Failed, Sink};
-use gui_reactions::animating::is_anim_in_range;
 use play_defs::{EncoderReading, KeyReading, PointerReading};
 use run_defs::{Command, Reply};
 use scene_defs::Change;

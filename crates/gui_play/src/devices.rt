@@ -11,11 +11,11 @@ ghost use Rattle.run_defs.specs.Play.{◌▷◌, aimed, each};
 ghost use Rattle.run_defs.specs.Reactions.{arrow, hold, press, release};
 ghost use Rattle.gui_board.specs.Boards.{machine_of, Plays, Quiet};
 
+use crate::reactions::{arrow, hold, let_up, press, release};
 use gui_base::{EventKind, Handle, Key, State};
 use gui_board::Board;
 use gui_drag::{end_scrolling, serve_drag};
 use gui_edge::Sink;
-use gui_reactions::reactions::{arrow, hold, let_up, press, release};
 use play_defs::{Drag, EncoderReading, InputEvent, KeyReading, PointerReading, Scrolling};
 
 /// The arrow of a step of a turn.

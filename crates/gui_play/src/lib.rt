@@ -2,8 +2,11 @@
 //! command, or its first refusal.
 #![tactic(auto)]
 
+mod animating;
 mod commands;
 mod devices;
+mod pointing;
+mod reactions;
 mod ticks;
 
 pub use commands::apply;

@@ -3,10 +3,10 @@ ghost use Rattle.gui_edge.specs.Sink.{SinkState};
 ghost use Rattle.run_defs.specs.Ticks.{tick};
 ghost use Rattle.gui_board.specs.Boards.{Plays};
 
+use crate::animating::animate_all;
 use crate::devices::{feed_encoder, feed_keypad, feed_pointer};
 use gui_board::Board;
 use gui_edge::Sink;
-use gui_reactions::animating::animate_all;
 
 /// Time passes for the pointer, the keypad, the encoder and the animations, in this order.
 pub(crate) fn tick<S: Sink>(board: &mut Board, ms: u16, log: &mut S)

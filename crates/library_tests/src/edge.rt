@@ -65,24 +65,34 @@ impl Write for Device {
     }
 }
 
+/// Compares how many bytes a source gave, or that it failed.
+fn check_read(rt: &impl Abort, got: Result<usize, Failed>, want: Result<usize, Failed>) {
+    assert_eq!(rt; got, want);
+}
+
+/// Compares whether a sink or a panel did what it was asked for.
+fn check_done(rt: &impl Abort, got: Result<(), Failed>, want: Result<(), Failed>) {
+    assert_eq!(rt; got, want);
+}
+
 #[test]
 fn a_reader_fails_once(rt: HostRuntime) {
     let mut source = StdSource::new(Device::new(&[Some(2), None, Some(9)]));
     let mut buf = [0; 4];
-    assert_eq!(rt; source.read(&mut buf), Ok(2));
-    assert_eq!(rt; source.read(&mut buf), Err(Failed));
-    assert_eq!(rt; source.read(&mut buf), Ok(4));
-    assert_eq!(rt; source.read(&mut buf), Ok(0));
+    check_read(&rt, source.read(&mut buf), Ok(2));
+    check_read(&rt, source.read(&mut buf), Err(Failed));
+    check_read(&rt, source.read(&mut buf), Ok(4));
+    check_read(&rt, source.read(&mut buf), Ok(0));
 }
 
 #[test]
 fn a_writer_takes_parts_and_fails(rt: HostRuntime) {
     let mut device = Device::new(&[Some(2), Some(1), Some(1), None, Some(2), Some(0), Some(3)]);
     let mut sink = StdSink::new(&mut device);
-    assert_eq!(rt; sink.put(b"abc"), Ok(()));
-    assert_eq!(rt; sink.put(b"abc"), Err(Failed));
-    assert_eq!(rt; sink.put(b"abc"), Err(Failed));
-    assert_eq!(rt; sink.put(b"abc"), Ok(()));
+    check_done(&rt, sink.put(b"abc"), Ok(()));
+    check_done(&rt, sink.put(b"abc"), Err(Failed));
+    check_done(&rt, sink.put(b"abc"), Err(Failed));
+    check_done(&rt, sink.put(b"abc"), Ok(()));
     assert_eq!(rt; device.moved, 9);
 }
 
@@ -92,12 +102,12 @@ fn memory_gives_and_takes(rt: HostRuntime) -> Result<(), Fail> {
     let mut source = MemSource::new(Vec::from_slice(alloc, b"abcde")?, 3, vec![in alloc; 2]?);
     let mut sink = MemSink::with_capacity(alloc, 8, vec![in alloc; 1]?)?;
     let mut buf = [0; 4];
-    assert_eq!(rt; source.read(&mut buf), Ok(3));
-    assert_eq!(rt; sink.put(&buf[..3]), Err(Failed));
-    assert_eq!(rt; sink.put(&buf[..3]), Ok(()));
-    assert_eq!(rt; source.read(&mut buf), Err(Failed));
-    assert_eq!(rt; source.read(&mut buf), Ok(2));
-    assert_eq!(rt; sink.put(b"123456"), Err(Failed));
+    check_read(&rt, source.read(&mut buf), Ok(3));
+    check_done(&rt, sink.put(&buf[..3]), Err(Failed));
+    check_done(&rt, sink.put(&buf[..3]), Ok(()));
+    check_read(&rt, source.read(&mut buf), Err(Failed));
+    check_read(&rt, source.read(&mut buf), Ok(2));
+    check_done(&rt, sink.put(b"123456"), Err(Failed));
     assert_eq!(rt; sink.bytes(), &b"aabc1234"[..]);
     Ok(())
 }
@@ -220,7 +230,7 @@ fn a_panel_shows_and_presents(rt: HostRuntime) -> Result<(), Fail> {
     let mut panel = small_panel(alloc)?;
     send_all(&rt, alloc, &mut panel)?;
     assert_eq!(rt; panel.sent(), 8);
-    assert_eq!(rt; panel.present(), Ok(()));
+    check_done(&rt, panel.present(), Ok(()));
     let frames = panel.into_frames();
     assert_eq!(rt;
         frames.bytes(),

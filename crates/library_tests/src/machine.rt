@@ -82,13 +82,27 @@ fn reply(gui: &mut Gui, log: &mut MemSink, change: Change) -> Option<Reply>
     gui.apply(&Command::Change(change), log).ok()
 }
 
+/// Compares the reply to a change.
+fn check_reply(
+    rt: &impl Abort,
+    gui: &mut Gui,
+    log: &mut MemSink,
+    change: Change,
+    want: Option<Reply>,
+)
+    requires { IsChange change }
+{
+    assert_eq!(rt; reply(gui, log, change), want);
+}
+
 /// Changes an object, and looks at the replies and at the scene.
 fn change_object(rt: &impl Abort, gui: &mut Gui, log: &mut MemSink) {
     let (h, done) = (Handle(10), Some(Reply::Ok { noted: false }));
     let range = Some(Reply::Refused(Refusal::Range));
-    assert_eq!(rt; reply(gui, log, Change::New(h, Handle(3), Kind::Obj)), done);
-    assert_eq!(rt; reply(gui, log, Change::Pos(h, -1, 2)), done);
-    assert_eq!(rt; reply(gui, log, Change::Pos(h, 4001, 0)), range);
+    let new = Change::New(h, Handle(3), Kind::Obj);
+    check_reply(rt, gui, log, new, done);
+    check_reply(rt, gui, log, Change::Pos(h, -1, 2), done);
+    check_reply(rt, gui, log, Change::Pos(h, 4001, 0), range);
     assert!(rt;
         gui.store()
             .row(h)

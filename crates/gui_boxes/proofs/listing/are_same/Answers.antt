@@ -15,5 +15,5 @@ pub loop-i-preserved : goal.loop-i-preserved
 loop-i-preserved c =
     below_more (λ k. get_or c.args.some.now k none ≡ get_or c.args.others.now k none) c.loop-i.i c.loop-i.invariant (same _ _ c.if-some-i.false)
 
-pub returns : goal.returns
-returns c = λ e. ext_get_or none c.args.some.now c.args.others.now c.if-some-others.false (λ k within. c.loop-i.invariant k (omega arith))
+pub returns-clause-same : goal.returns-clause-same
+returns-clause-same c = λ e. ext_get_or none c.args.some.now c.args.others.now c.if-some-others.false (λ k within. c.loop-i.invariant k (omega arith))

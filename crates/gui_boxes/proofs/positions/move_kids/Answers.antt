@@ -15,7 +15,7 @@ use Rattle.gui_boxes.proofs.positions.move_kids.Goals.{Then-is_none}
 
 -- where both numbers are none, nothing is moved
 still : (c : Then-is_none) → moves_of c.args.offset ≡ no_span
-still c = c.is_none.ensures c.if-is_none.true
+still c = c.is_none.ensures.still c.if-is_none.true
 
 pub returns-then-is_none-clause-moved : goal.returns-then-is_none-clause-moved
 returns-then-is_none-clause-moved c =

@@ -5,7 +5,7 @@ use Rattle.scene_defs.specs.Scene.{handles_of}
 use Rattle.gui_boxes.specs.Marks.{solved_in}
 use Rattle.gui_layout.specs.Tops.{in_trees_at}
 use Rattle.gui_debts.specs.Sights.{KeepOthers}
-use Rattle.gui_debts.specs.declared.concerned.Concerned.TheVariants.{Nobody}
+use Rattle.gui_concerns.specs.declared.concerned.Concerned.TheVariants.{Nobody}
 use Rattle.gui_change.proofs.Arrived.{all-keep, entries-come, entries-room, fresh, others-seen, still}
 use Rattle.gui_change.proofs.edits.see_made.Goals as goal
 use Rattle.gui_change.proofs.edits.see_made.Goals.{After-settle_new}

@@ -7,9 +7,9 @@ use Rattle.debt_defs.specs.SceneLook.{is_among}
 use Rattle.gui_boxes.specs.Marks.{solved_in}
 use Rattle.gui_layout.specs.Tops.{in_trees_at}
 use Rattle.gui_change.specs.Dues.{OwesAll}
-use Rattle.gui_debts.specs.Handles.{number_of}
+use Rattle.gui_concerns.specs.Handles.{number_of}
 use Rattle.gui_debts.specs.Sights.{KeepOthers}
-use Rattle.gui_debts.specs.declared.concerned.Concerned.{Concerned}
+use Rattle.gui_concerns.specs.declared.concerned.Concerned.{Concerned}
 use Rattle.gui_change.proofs.Owing.{again_is_debt}
 use Rattle.gui_change.proofs.Repainted.{painted-known}
 use Rattle.gui_change.proofs.Still.{entries-stay, kept, order-stays, others-seen}

@@ -9,10 +9,10 @@ use Rattle.gui_boxes.proofs.These.{these_after}
 use Rattle.gui_store.specs.Views.{scene_of}
 use Rattle.gui_tree.specs.Handles.{numbers}
 use Rattle.gui_change.specs.Gone.{gone_of, owed_gone, shown_of}
-use Rattle.gui_debts.specs.Handles.{number_of}
+use Rattle.gui_concerns.specs.Handles.{number_of}
 use Rattle.gui_change.proofs.Missing.{gone-other, gone-shown, hidden-begins}
-use Rattle.gui_change.proofs.Orders.{nobody}
-use Rattle.gui_change.proofs.Renewing.{first-some, next_of, one_less, one_gone, value-still}
+use Rattle.gui_boxes.proofs.Entered.{now as next_of, nothing as nobody}
+use Rattle.gui_change.proofs.Renewing.{first-some, one_less, one_gone, value-still}
 use Rattle.gui_change.proofs.gone.forget_hidden.Goals as goal
 use Rattle.gui_change.proofs.gone.forget_hidden.Goals.{After-is_shown}
 

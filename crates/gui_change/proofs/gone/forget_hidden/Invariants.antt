@@ -7,7 +7,7 @@ use Rattle.gui_pool.specs.Table.{value_at}
 use Rattle.gui_store.specs.Views.{scene_of}
 use Rattle.gui_tree.specs.Handles.{numbers}
 use Rattle.gui_change.specs.Gone.{gone_of, owed_gone, shown_of}
-use Rattle.gui_debts.specs.Handles.{number_of}
+use Rattle.gui_concerns.specs.Handles.{number_of}
 use Rattle.gui_debts.specs.declared.seen.Seen.{Seen}
 use Rattle.gui_change.proofs.gone.forget_hidden.Given as goal
 

@@ -6,10 +6,11 @@ use Rattle.gui_boxes.proofs.These.{HasBut, MayPut, but_first, but_none, but_put}
 use Rattle.gui_pool.specs.Table.{value_at}
 use Rattle.gui_store.specs.Views.{scene_of}
 use Rattle.gui_change.proofs.Missing.{missing, missing-begins, missing-known, missing-other, missing-told}
-use Rattle.gui_change.proofs.Orders.{few_shown, nobody, shown_proper}
+use Rattle.gui_boxes.proofs.Entered.{now as next_of, nothing as nobody}
+use Rattle.gui_change.proofs.Orders.{few_shown, shown_proper}
 use Rattle.gui_change.proofs.Reordering.{copied-some}
 use Rattle.gui_change.proofs.Staying.{times-item}
-use Rattle.gui_change.proofs.Renewing.{next_of, put-keeps, put-sights}
+use Rattle.gui_change.proofs.Renewing.{put-keeps, put-sights}
 use Rattle.gui_change.proofs.gone.put_missing.Goals as goal
 use Rattle.gui_change.proofs.gone.put_missing.Goals.{After-is_some, After-tree-tree}
 

@@ -8,11 +8,11 @@ use Rattle.gui_store.specs.Views.{scene_of}
 use Rattle.gui_tree.specs.Handles.{numbers}
 use Rattle.scene_defs.specs.Shown.{order}
 use Rattle.debt_defs.specs.SceneLook.{is_among}
-use Rattle.gui_debts.specs.Handles.{number_of}
+use Rattle.gui_concerns.specs.Handles.{number_of}
 use Rattle.gui_debts.specs.Owed.{sight_of}
 use Rattle.gui_debts.specs.Seen.{IsSeen}
 use Rattle.gui_debts.specs.Sights.{KeepOthers}
-use Rattle.gui_debts.specs.declared.concerned.Concerned.{Concerned}
+use Rattle.gui_concerns.specs.declared.concerned.Concerned.{Concerned}
 use Rattle.gui_debts.specs.declared.seen.Seen.{Seen}
 use Rattle.gui_change.specs.Dues.{OwesAll}
 use Rattle.gui_change.specs.Gone.{is_shown}

@@ -3,7 +3,7 @@ use Rattle.std.specs.Prelude.{option_map}
 use Rattle.gui_base.specs.declared.Handle.{Handle}
 use Rattle.gui_damage.specs.Gridded.{added_all_in}
 use Rattle.gui_pool.specs.Table.{value_at}
-use Rattle.gui_debts.specs.Handles.{number_of}
+use Rattle.gui_concerns.specs.Handles.{number_of}
 use Rattle.gui_debts.specs.Owed.{owed, sight_of}
 use Rattle.gui_change.specs.Reordered.{owed_by_named}
 use Rattle.gui_debts.specs.declared.seen.Seen.{Seen}

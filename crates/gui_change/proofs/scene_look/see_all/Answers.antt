@@ -3,8 +3,8 @@ use Rattle.std.specs.Prelude.{is_some}
 use Rattle.std.proofs.lemmas.List.{drop_all}
 use Rattle.gui_store.specs.Views.{scene_of}
 use Rattle.gui_boxes.proofs.These.{HasBut, but_all, but_none, but_first, but_put, some_none}
-use Rattle.gui_change.proofs.Orders.{nobody, listed_there, shown_proper}
-use Rattle.gui_change.proofs.Renewing.{next_of}
+use Rattle.gui_boxes.proofs.Entered.{now as next_of, nothing as nobody}
+use Rattle.gui_change.proofs.Orders.{listed_there, shown_proper}
 use Rattle.gui_change.proofs.Sighted.{seen_put}
 use Rattle.gui_change.proofs.scene_look.see_all.Goals as goal
 

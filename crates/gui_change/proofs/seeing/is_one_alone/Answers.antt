@@ -3,7 +3,7 @@ use Rattle.gui_base.specs.Forest.{Forest, children_of, first_root}
 use Rattle.gui_store.specs.Views.{scene_of}
 use Rattle.gui_tree.specs.Handles.{as_handle}
 use Rattle.scene_defs.specs.Scene.{handles_of}
-use Rattle.gui_debts.specs.Concerned.{may_be}
+use Rattle.gui_concerns.specs.Concerned.{may_be}
 use Rattle.gui_change.proofs.Alone.{alone, no_child}
 use Rattle.gui_change.proofs.seeing.is_one_alone.Goals as goal
 

@@ -3,7 +3,7 @@ use Rattle.std.specs.Prelude.{option_map}
 use Rattle.gui_base.specs.Forest.{Forest, has}
 use Rattle.gui_store.specs.Views.{scene_of}
 use Rattle.scene_defs.specs.Scene.{is_there}
-use Rattle.gui_debts.specs.Handles.{number_of}
+use Rattle.gui_concerns.specs.Handles.{number_of}
 use Rattle.gui_change.proofs.SeenAgain.{hidden-again}
 use Rattle.gui_change.proofs.SeenBelow.{below-tree, gone-below, gone-unknown}
 use Rattle.gui_change.proofs.seeing.see_below.Goals as goal

@@ -3,7 +3,7 @@ use Rattle.std.specs.List.{list_any}
 use Rattle.std.proofs.lemmas.Bool.{both_ways, cases_Bool, eqb-true}
 use Rattle.gui_store.specs.Views.{scene_of}
 use Rattle.gui_style.specs.Styles.{is_handle}
-use Rattle.gui_debts.specs.Concerned.{is_below}
+use Rattle.gui_concerns.specs.Concerned.{is_below}
 use Rattle.gui_change.specs.Sees.{is_below_other}
 use Rattle.gui_change.proofs.SeenAgain.{shown-still, then-again}
 use Rattle.gui_change.proofs.SeenBelow.{user-below}

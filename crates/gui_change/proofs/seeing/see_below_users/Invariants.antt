@@ -2,7 +2,7 @@ use Rattle.std.proofs.Common.{◌≡◌, ℕ, true, false, None, length}
 use Rattle.std.specs.List.{list_any}
 use Rattle.gui_store.specs.Views.{scene_of}
 use Rattle.gui_style.specs.Styles.{is_handle, uses_style}
-use Rattle.gui_debts.specs.Concerned.{is_below}
+use Rattle.gui_concerns.specs.Concerned.{is_below}
 use Rattle.gui_change.specs.Sees.{IsRoom, IsSeenIn, SeesAgain, is_below_other}
 use Rattle.gui_change.proofs.seeing.see_below_users.Given as goal
 

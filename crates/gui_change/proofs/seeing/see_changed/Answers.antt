@@ -4,8 +4,8 @@ use Rattle.std.proofs.lemmas.Bool.{cases_Bool}
 use Rattle.gui_boxes.proofs.These.{these_kept}
 use Rattle.gui_store.specs.Views.{scene_of}
 use Rattle.scene_defs.specs.Scene.{handles_of}
-use Rattle.gui_debts.specs.Concerned.{may_be}
-use Rattle.gui_debts.specs.Handles.{number_of}
+use Rattle.gui_concerns.specs.Concerned.{may_be}
+use Rattle.gui_concerns.specs.Handles.{number_of}
 use Rattle.gui_layout.specs.Tops.{in_trees_at}
 use Rattle.gui_change.specs.Sees.{SeesAgain}
 use Rattle.gui_debts.specs.Sights.{AreSeen}

@@ -3,9 +3,9 @@ use Rattle.std.proofs.lemmas.Bool.{eqb-true, or_cases}
 use Rattle.gui_store.specs.Views.{scene_of}
 use Rattle.gui_pool.specs.Table.{Table}
 use Rattle.scene_defs.specs.Scene.{Scene}
-use Rattle.gui_debts.specs.Concerned.{is_below, may_be}
+use Rattle.gui_concerns.specs.Concerned.{is_below, may_be}
 use Rattle.gui_change.specs.Sees.{IsSeenIn}
-use Rattle.gui_debts.specs.declared.concerned.Concerned.{Concerned}
+use Rattle.gui_concerns.specs.declared.concerned.Concerned.{Concerned}
 use Rattle.gui_debts.specs.declared.seen.Seen.{Seen}
 use Rattle.gui_change.proofs.SeenAgain.{shown-still, then-again}
 use Rattle.gui_change.proofs.seeing.see_concerned.Goals as goal

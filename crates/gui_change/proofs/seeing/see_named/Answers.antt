@@ -3,7 +3,7 @@ use Rattle.std.proofs.lemmas.Bool.{eqb-true}
 use Rattle.gui_base.specs.declared.Handle.{Handle}
 use Rattle.gui_store.specs.Views.{scene_of}
 use Rattle.debt_defs.specs.Debt.{is_named}
-use Rattle.gui_debts.specs.Handles.{number_of}
+use Rattle.gui_concerns.specs.Handles.{number_of}
 use Rattle.gui_change.specs.Sees.{IsSeenIn}
 use Rattle.gui_change.proofs.seeing.see_named.Goals as goal
 

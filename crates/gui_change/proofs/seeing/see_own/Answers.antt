@@ -1,9 +1,9 @@
 use Rattle.std.proofs.Common.{◌≡◌, subst, true}
 use Rattle.std.specs.Prelude.{option_map}
 use Rattle.gui_store.specs.Views.{scene_of}
-use Rattle.gui_debts.specs.Concerned.{may_be}
-use Rattle.gui_debts.specs.Handles.{number_of}
-use Rattle.gui_debts.specs.declared.concerned.Concerned.{Concerned}
+use Rattle.gui_concerns.specs.Concerned.{may_be}
+use Rattle.gui_concerns.specs.Handles.{number_of}
+use Rattle.gui_concerns.specs.declared.concerned.Concerned.{Concerned}
 use Rattle.gui_change.proofs.SeenAgain.{shown-still, then-again}
 use Rattle.gui_change.proofs.seeing.see_own.Goals as goal
 

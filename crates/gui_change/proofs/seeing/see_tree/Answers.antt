@@ -12,11 +12,11 @@ use Rattle.scene_defs.specs.Visible.{shown_trees}
 use Rattle.gui_boxes.specs.Listing.{times}
 use Rattle.gui_layout.proofs.Entering.{few}
 use Rattle.gui_tree.proofs.Parts.{there, found, distinct_once, size-part}
-use Rattle.gui_layout.proofs.Settling.{tree-in}
+use Rattle.gui_boxes.proofs.InTrees.{tree-in}
 use Rattle.gui_boxes.proofs.These.{has-times, times_is}
 use Rattle.debt_defs.specs.Debt.{is_named}
 use Rattle.gui_change.specs.Again.{AreKnown}
-use Rattle.gui_debts.specs.Handles.{number_of}
+use Rattle.gui_concerns.specs.Handles.{number_of}
 use Rattle.gui_change.proofs.Reordering.{copied-some}
 use Rattle.gui_change.proofs.SeenAgain.{hidden-again, listed-again, nothing-known, shown-has}
 use Rattle.gui_change.proofs.ShownTrees.{count-tree, shown-below, shown-above}

@@ -6,10 +6,9 @@ use Rattle.gui_base.specs.declared.Handle.{Handle}
 use Rattle.gui_store.specs.Views.{scene_of}
 use Rattle.scene_defs.specs.Scene.{handles_of}
 use Rattle.gui_layout.specs.Tops.{in_trees_at}
-use Rattle.gui_change.proofs.Orders.{nobody}
+use Rattle.gui_boxes.proofs.Entered.{now as next_of, nothing as nobody}
 use Rattle.gui_change.proofs.SeenAgain.{shown-still, then-again}
 use Rattle.gui_change.proofs.Staying.{times-item}
-use Rattle.gui_change.proofs.Renewing.{next_of}
 use Rattle.gui_change.proofs.seeing.see_trees.Goals as goal
 
 pub is_one_alone-requires : goal.is_one_alone-requires

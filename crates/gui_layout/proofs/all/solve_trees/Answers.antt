@@ -9,7 +9,7 @@ use Rattle.gui_store.specs.Views.{scene_of}
 use Rattle.gui_layout.specs.Scenes.{scene_box}
 use Rattle.gui_layout.proofs.Renewals.{holds-still, renewed-in}
 use Rattle.gui_boxes.specs.Tables.{Listing, IsListed, AreListed, told}
-use Rattle.gui_layout.proofs.Settling.{tree-in}
+use Rattle.gui_boxes.proofs.InTrees.{tree-in}
 use Rattle.gui_layout.proofs.Solves.{Solves, solves_none, solves_first}
 use Rattle.gui_layout.proofs.all.solve_trees.Goals as goal
 use Rattle.gui_layout.proofs.all.solve_trees.Goals.{In-None}

@@ -1,4 +1,0 @@
-pub mod Animated
-pub mod Columns
-pub mod Sliding
-pub mod Values

@@ -1,2 +1,0 @@
-pub mod Animated
-pub mod Sliding

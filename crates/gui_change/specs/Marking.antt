@@ -1,6 +1,5 @@
 -- Which objects are marked: those that may stand elsewhere.
-use Rattle.std.specs.Prelude.{◌≡◌, ◌≤◌, ◌<◌, ℕ, List, Bool, true, false, ◌||◌}
-use Rattle.gui_base.specs.Forest.{Forest, has, size}
+use Rattle.std.specs.Prelude.{◌≡◌, ◌<◌, ℕ, List, true, false}
 use Rattle.gui_base.specs.declared.Handle.{Handle}
 use Rattle.scene_defs.specs.declared.Change.{Change}
 use Rattle.scene_defs.specs.Scene.{Scene, handles_of, is_there}
@@ -10,7 +9,7 @@ use Rattle.gui_layout.specs.Solved.{AreSettled, limits_of, offset_at, place_at, 
 use Rattle.gui_layout.specs.Tops.{in_trees_at}
 use Rattle.gui_boxes.specs.declared.marks.Marks.{Marks}
 use Rattle.gui_layout.specs.declared.places.Places.{Places}
-use Rattle.gui_boxes.specs.Marks.{is_changed, is_marked, is_parent, most_marks}
+use Rattle.gui_boxes.specs.Marks.{is_changed, is_parent}
 use Rattle.gui_layout.specs.SettledBut.{WereSettled}
 use Rattle.gui_change.specs.Edits.{WasEdited}
 use Rattle.gui_concerns.specs.declared.concerned.Concerned.{Concerned}

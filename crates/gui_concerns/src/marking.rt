@@ -1,5 +1,5 @@
 //! Marks of the objects that may stand elsewhere after a change.
-ghost use Rattle.std.specs.Prelude.{◌≤◌, ◌<◌, ◌+◌, length, List, Some, ◌≡◌, ◌==◌, ◌&&◌, ℕ, true, false, eqb};
+ghost use Rattle.std.specs.Prelude.{◌≤◌, ◌<◌, ◌+◌, length, Some, ◌≡◌, ◌==◌, ◌&&◌, ℕ, true, false, eqb};
 ghost use Rattle.std.specs.Option.{ForSome};
 ghost use Rattle.gui_base.specs.Forest.{has, tree_at};
 ghost use Rattle.gui_boxes.specs.Marks.{is_changed, is_marked, mark_count, most_marks};

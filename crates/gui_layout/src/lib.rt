@@ -5,12 +5,12 @@
 //! own height, which goes by its width. A pass goes down by recursion, 16 deep at most, and along siblings by
 //! loops. It reads what the passes before it found of each object, and writes one thing more into its entry.
 //!
-//! Where objects have changed, come or gone, or stand elsewhere among their siblings, they are marked
-//! ([`Marks`]), and the places are settled for all of them at once. Each mark has one tree solved: that of the
-//! nearest object, from the marked one upward, that stands by itself in a parent whose place does not go by
-//! its children. A tree without marks stays as it is.
+//! Where objects have changed, come or gone, or stand elsewhere among their siblings, they are marked (by
+//! [`Marks`](gui_boxes::marks::Marks)), and the places are settled for all of them at once. Each mark has one
+//! tree solved: that of the nearest object, from the marked one upward, that stands by itself in a parent whose
+//! place does not go by its children. A tree without marks stays as it is.
 //!
-//! All memory is taken at [`Places::open`] and [`Marks::open`].
+//! All memory is taken at [`Places::open`] and [`Marks::open`](gui_boxes::marks::Marks::open).
 #![tactic(auto)]
 
 mod all;

@@ -1,5 +1,6 @@
-pub mod Changes
+pub mod Commands
 pub mod Faults
+pub mod Lines
 pub mod Numbers
 pub mod Ready
 pub mod Shown

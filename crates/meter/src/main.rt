@@ -2,10 +2,18 @@
 //! that tells of an alarm. There is no script: the scene is made and changed by typed commands.
 #![tactic(auto)]
 
-ghost use Rattle.std.specs.Prelude.{◌≡◌, None, IfOk, OnOk};
+ghost use Rattle.std.specs.Prelude.{◌≡◌, Err, None, Ok, Some, IfErr, IfOk, OnOk};
+ghost use Rattle.gui_base.specs.declared.refusal.Refusal.{Refusal};
 ghost use Rattle.gui_base.specs.Limits.{with_sizes};
+ghost use Rattle.gui_core.specs.Machines.{machine_of};
 ghost use Rattle.gui_edge.specs.Panel.{HasSizes};
+ghost use Rattle.gui_play.specs.Panels.{ShowsScene};
+ghost use Rattle.meter.specs.Commands.{after_all, refusal_of_all};
+ghost use Rattle.meter.specs.declared.fault.Fault.TheVariants as fault;
+ghost use Rattle.meter.specs.Lines.{IsNumberOf, SaysNumber, number_in};
+ghost use Rattle.meter.specs.Numbers.{number_commands};
 ghost use Rattle.meter.specs.Ready.{IsReady};
+ghost use Rattle.meter.specs.Shown.{Hinders, WritesPicture};
 
 mod fault;
 mod meter;
@@ -37,14 +45,31 @@ fn opened_panel<F: Sink + Drop>(alloc: Global, frames: F) -> Result<SimPanel<F>,
 }
 
 /// The number that a line says, if it says one, as the standard library reads it.
-fn number_of(text: &str) -> Option<i32> {
+fn number_of(text: &str) -> Option<i32>
+    ensures { IsNumberOf text.now result }
+{
     text.trim().parse().ok()
 }
 
 /// Shows the number that a line says. One that says none is passed over.
 fn show_line<P: Panel>(text: &str, gui: &mut Gui, panel: &mut P) -> Result<(), Fault>
     requires { IsReady gui.old (P.state panel.old) }
-    ensures { OnOk result (IsReady gui.new (P.state panel.new)) }
+    ensures ready { OnOk result (IsReady gui.new (P.state panel.new)) }
+    ensures machine { SaysNumber text.now →
+        machine_of gui.new ≡ after_all (machine_of gui.old) (number_commands (number_in text.now)) }
+    ensures shows { SaysNumber text.now →
+        OnOk result (ShowsScene (P.state panel.new) (machine_of gui.new).scene) }
+    ensures writes { SaysNumber text.now →
+        OnOk result (WritesPicture (P.state panel.old) (P.state panel.new) (machine_of gui.new).scene) }
+    ensures refused { (refusal : Refusal) → SaysNumber text.now →
+        refusal_of_all (machine_of gui.old) (number_commands (number_in text.now)) ≡ Some refusal →
+        result ≡ Err (fault.Refused refusal) }
+    ensures hinders { SaysNumber text.now →
+        refusal_of_all (machine_of gui.old) (number_commands (number_in text.now)) ≡ None →
+        IfErr result (λ fault. Hinders fault (P.state panel.old) (P.state panel.new)) }
+    ensures other { ¬ (SaysNumber text.now) → result ≡ Ok tt }
+    ensures other_machine { ¬ (SaysNumber text.now) → gui.new ≡ gui.old }
+    ensures other_panel { ¬ (SaysNumber text.now) → panel.new ≡ panel.old }
 {
     match number_of(text) {
         Some(number) => show_number(gui, panel, number),

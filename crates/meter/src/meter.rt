@@ -1,14 +1,15 @@
 //! The screen of a meter, by typed commands.
-ghost use Rattle.std.specs.Prelude.{◌≡◌, ◌<◌, Err, IfErr, None, OnOk, Some};
+ghost use Rattle.std.specs.Prelude.{◌≡◌, ◌<◌, All, Err, IfErr, None, OnOk, Some};
+ghost use Rattle.gui_base.specs.Refusing.{result_of};
 ghost use Rattle.gui_core.specs.Machines.{machine_of, stage_of};
 ghost use Rattle.gui_play.specs.Panels.{CanSend, Refreshes, ShowsScene};
 ghost use Rattle.gui_base.specs.declared.refusal.Refusal.{Refusal};
 ghost use Rattle.meter.specs.declared.fault.Fault.TheVariants as fault;
-ghost use Rattle.meter.specs.Changes.{after, after_all, refusal_of, refusal_of_all};
-ghost use Rattle.meter.specs.Numbers.{alarms, number_changes, screen_changes};
+ghost use Rattle.meter.specs.Commands.{after, after_all, refusal_of, refusal_of_all};
+ghost use Rattle.meter.specs.Numbers.{alarms, number_commands, screen_commands};
 ghost use Rattle.meter.specs.Ready.{IsReady, StaysReady};
 ghost use Rattle.meter.specs.Shown.{Hinders, WritesPicture, unheard};
-ghost use Rattle.scene_defs.specs.Valid.{IsChange};
+ghost use Rattle.run_defs.specs.Step.{IsCommand};
 
 use crate::fault::Fault;
 use gui_base::{Align, Handle, Kind, Length, Part, Prop, Refusal, Selector, State, Steps};
@@ -56,16 +57,15 @@ impl Sink for Unheard {
     }
 }
 
-/// Makes one change.
-#[tactic(auto, using(crate::proofs::Ready::stays_ready), unfolding(crate::specs::Changes::refusal_of, crate::specs::Changes::after))]
-fn change(gui: &mut Gui, change: Change) -> Result<(), Refusal>
-    requires { IsChange change }
-    ensures ok { OnOk result (refusal_of (machine_of gui.old) change.entry ≡ None) }
-    ensures err { IfErr result (λ refusal. refusal_of (machine_of gui.old) change.entry ≡ Some refusal) }
-    ensures machine { machine_of gui.new ≡ after (machine_of gui.old) change.entry }
+/// Gives one command.
+#[tactic(auto, using(crate::proofs::Ready::stays_ready), unfolding(crate::specs::Commands::refusal_of, crate::specs::Commands::after))]
+fn give(gui: &mut Gui, command: &Command) -> Result<(), Refusal>
+    requires { IsCommand command.now }
+    ensures answer { result ≡ result_of (refusal_of (machine_of gui.old) command.now) }
+    ensures machine { machine_of gui.new ≡ after (machine_of gui.old) command.now }
     ensures ready { StaysReady gui.old gui.new }
 {
-    match gui.apply(&Command::Change(change), &mut Unheard) {
+    match gui.apply(command, &mut Unheard) {
         Ok(Reply::Ok { .. }) => Ok(()),
         Ok(Reply::Refused(refusal)) => Err(refusal),
         // What is not heard does not fail.
@@ -73,24 +73,38 @@ fn change(gui: &mut Gui, change: Change) -> Result<(), Refusal>
     }
 }
 
-/// Makes the screen: a bar that is full at 100, its colours, and digits over it. It stops at the first change that
-/// is refused.
-pub fn make_screen(gui: &mut Gui) -> Result<(), Refusal>
-    ensures ok { OnOk result (refusal_of_all (machine_of gui.old) screen_changes ≡ None) }
-    ensures err { IfErr result (λ refusal. refusal_of_all (machine_of gui.old) screen_changes ≡ Some refusal) }
-    ensures machine { machine_of gui.new ≡ after_all (machine_of gui.old) screen_changes }
+/// Gives these commands in order, up to the first that is refused.
+fn give_all(gui: &mut Gui, commands: &[Command]) -> Result<(), Refusal>
+    requires { All IsCommand commands.now }
+    ensures answer { result ≡ result_of (refusal_of_all (machine_of gui.old) commands.now) }
+    ensures machine { machine_of gui.new ≡ after_all (machine_of gui.old) commands.now }
     ensures ready { StaysReady gui.old gui.new }
 {
-    change(gui, Change::New(BAR, SCREEN, Kind::Bar))?;
-    change(gui, Change::Align(BAR, Align::BottomMid, 0, -3))?;
-    change(
+    for command in commands {
+        give(gui, command)?;
+    }
+    Ok(())
+}
+
+/// Makes the screen: a bar that is full at 100, its colours, and digits over it. It stops at the first command that
+/// is refused.
+pub fn make_screen(gui: &mut Gui) -> Result<(), Refusal>
+    ensures answer { result ≡ result_of (refusal_of_all (machine_of gui.old) screen_commands) }
+    ensures machine { machine_of gui.new ≡ after_all (machine_of gui.old) screen_commands }
+    ensures ready { StaysReady gui.old gui.new }
+{
+    give_all(
         gui,
-        Change::Size(BAR, Length::Pixels(58), Length::Pixels(8)),
-    )?;
-    change(gui, Change::Local(BAR, FILLED, Prop::BgColor, GREEN))?;
-    change(gui, Change::Local(BAR, ALARMED, Prop::BgColor, RED))?;
-    change(gui, Change::New(DIGITS, SCREEN, Kind::Label))?;
-    change(gui, Change::Align(DIGITS, Align::TopMid, 0, 3))
+        &[
+            Command::Change(Change::New(BAR, SCREEN, Kind::Bar)),
+            Command::Change(Change::Align(BAR, Align::BottomMid, 0, -3)),
+            Command::Change(Change::Size(BAR, Length::Pixels(58), Length::Pixels(8))),
+            Command::Change(Change::Local(BAR, FILLED, Prop::BgColor, GREEN)),
+            Command::Change(Change::Local(BAR, ALARMED, Prop::BgColor, RED)),
+            Command::Change(Change::New(DIGITS, SCREEN, Kind::Label)),
+            Command::Change(Change::Align(DIGITS, Align::TopMid, 0, 3)),
+        ],
+    )
 }
 
 /// Whether a number is one of an alarm.
@@ -100,19 +114,23 @@ fn alarms(number: i32) -> bool
     number >= ALARM
 }
 
-/// Brings a number to the screen. One beyond the range of the bar is at its end. It stops at the first change that
+/// Brings a number to the screen. One beyond the range of the bar is at its end. It stops at the first command that
 /// is refused.
 fn set_number(gui: &mut Gui, number: i32) -> Result<(), Refusal>
-    ensures ok { OnOk result (refusal_of_all (machine_of gui.old) (number_changes number) ≡ None) }
-    ensures err { IfErr result (λ refusal. refusal_of_all (machine_of gui.old) (number_changes number) ≡ Some refusal) }
-    ensures machine { machine_of gui.new ≡ after_all (machine_of gui.old) (number_changes number) }
+    ensures answer { result ≡ result_of (refusal_of_all (machine_of gui.old) (number_commands number)) }
+    ensures machine { machine_of gui.new ≡ after_all (machine_of gui.old) (number_commands number) }
     ensures ready { StaysReady gui.old gui.new }
 {
     let mut buffer = Buffer::new();
     let digits = Text::plain(buffer.format(number));
-    change(gui, Change::Text(DIGITS, digits))?;
-    change(gui, Change::Value(BAR, number))?;
-    change(gui, Change::State(BAR, State::User1, alarms(number)))
+    give_all(
+        gui,
+        &[
+            Command::Change(Change::Text(DIGITS, digits)),
+            Command::Change(Change::Value(BAR, number)),
+            Command::Change(Change::State(BAR, State::User1, alarms(number))),
+        ],
+    )
 }
 
 /// Sends what is pending. The count of its steps is for proofs alone.
@@ -148,13 +166,13 @@ fn show<P: Panel>(gui: &mut Gui, panel: &mut P) -> Result<(), Fault>
 /// Brings a number to the screen, and shows it.
 pub fn show_number<P: Panel>(gui: &mut Gui, panel: &mut P, number: i32) -> Result<(), Fault>
     requires { IsReady gui.old (P.state panel.old) }
-    ensures machine { machine_of gui.new ≡ after_all (machine_of gui.old) (number_changes number) }
+    ensures machine { machine_of gui.new ≡ after_all (machine_of gui.old) (number_commands number) }
     ensures ready { OnOk result (IsReady gui.new (P.state panel.new)) }
     ensures shows { OnOk result (ShowsScene (P.state panel.new) (machine_of gui.new).scene) }
     ensures writes { OnOk result (WritesPicture (P.state panel.old) (P.state panel.new) (machine_of gui.new).scene) }
-    ensures refused { (refusal : Refusal) → refusal_of_all (machine_of gui.old) (number_changes number) ≡ Some refusal →
+    ensures refused { (refusal : Refusal) → refusal_of_all (machine_of gui.old) (number_commands number) ≡ Some refusal →
         result ≡ Err (fault.Refused refusal) }
-    ensures hinders { refusal_of_all (machine_of gui.old) (number_changes number) ≡ None →
+    ensures hinders { refusal_of_all (machine_of gui.old) (number_commands number) ≡ None →
         IfErr result (λ fault. Hinders fault (P.state panel.old) (P.state panel.new)) }
 {
     match set_number(gui, number) {

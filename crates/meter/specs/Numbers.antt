@@ -10,7 +10,7 @@ use Rattle.gui_base.specs.declared.words.Kind.TheVariants as kind
 use Rattle.gui_base.specs.declared.words.Part.TheVariants.{Indicator}
 use Rattle.gui_base.specs.declared.words.State.TheVariants.{User1}
 use Rattle.run_defs.specs.declared.Command.{Command}
-use Rattle.run_defs.specs.declared.Command.TheVariants.{Change as ask}
+use Rattle.run_defs.specs.declared.Command.TheVariants.{Change as OfChange}
 use Rattle.scene_defs.specs.declared.Change.TheVariants as change
 
 abbrev pub screen : Handle
@@ -31,7 +31,7 @@ alarmed = record { part = Indicator; states = 4096 }
 
 -- a bar with two colours, and digits over it
 abbrev pub screen_commands : List Command
-screen_commands = map ask
+screen_commands = map OfChange
     (change.New bar screen kind.Bar ∷ change.Align bar BottomMid (pos 0) (negsuc 2) ∷
     change.Size bar (Pixels 58) (Pixels 8) ∷
     change.Local bar filled BgColor (pos 4431943) ∷ change.Local bar alarmed BgColor (pos 15022389) ∷
@@ -43,5 +43,5 @@ alarms n = int_le (pos 80) n
 
 -- a number is shown: its digits, its share of the bar, and whether it alarms
 abbrev pub number_commands : ℤ → List Command
-number_commands n = map ask
+number_commands n = map OfChange
     (change.Text digits (signed_decimal n) ∷ change.Value bar n ∷ change.State bar User1 (alarms n) ∷ [])

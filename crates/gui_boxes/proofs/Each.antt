@@ -1,5 +1,5 @@
 -- What holds of each object of trees.
-use Rattle.std.proofs.Common.{◌≡◌, ◌<◌, subst, ℕ, true, false, eqb, ◌||◌, ◌⊎◌, inl, inr}
+use Rattle.std.proofs.Common.{◌≡◌, subst, ℕ, true, false, eqb, ◌||◌, ◌⊎◌, inl, inr}
 use Rattle.std.proofs.lemmas.Bool.{eqb-true, or_cases, or_left, or_right, false≢true}
 use Rattle.gui_base.specs.Forest.{Forest, Empty, Tree, has}
 use Rattle.gui_tree.proofs.Parts.{here}

@@ -33,6 +33,9 @@ line_before a b w p q h k = omega (arith, mul-le (a + 1) w b w (omega arith) (om
 line_fits : (a b w h : ℕ) → a < h → b < w → a * w + b < w * h
 line_fits a b w h p q = omega (arith, mul-le (a + 1) w h w (omega arith) (omega arith))
 
+pub starts : (area : Rect) (x y : ℤ) → has area x y ≡ true → (area.x1 ≤ℤ x) × (area.y1 ≤ℤ y)
+starts area x y h = (grind (arith, ints), grind (arith, ints))
+
 pub place_fits : (area : Rect) (x y : ℤ) → has area x y ≡ true → place area x y < size_of area
 unfolding place
 place_fits area x y h =

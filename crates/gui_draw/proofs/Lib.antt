@@ -3,6 +3,7 @@ pub mod Counts
 pub mod Steps
 pub mod Lines
 pub mod Bands
+pub mod Between
 pub mod Drawing
 pub mod Spanning
 pub mod Seeing

@@ -1,5 +1,5 @@
 -- A part of a draw buffer, line by line.
-use Rattle.gui_draw.proofs.Common.{pos, ◌≡◌, ◌∙◌, refl, sym, ap, ℕ, zero, suc, ◌+◌, ◌*◌, ◌<◌, ◌≤◌, Bool, true, false, ◌&&◌, if◌then◌else◌, Option, Some, None, arith, ℤ, ◌≤ℤ◌, ◌+ℤ◌, ints, Rgb565, Rect, has, is_empty, width_of, height_of, Dab, Coat, laid, within, plain, fill_coat, mix, Buffer, pixel_at, pixel_count, Draws, IsInside, IsPart, IsOutside, HasLine, line_of}
+use Rattle.gui_draw.proofs.Common.{pos, ◌≡◌, ◌∙◌, refl, sym, ap, ℕ, zero, suc, ◌+◌, ◌*◌, ◌<◌, ◌≤◌, Bool, true, false, ◌&&◌, if◌then◌else◌, Option, Some, None, arith, ℤ, ◌≤ℤ◌, ◌+ℤ◌, ints, nat_tests, Rgb565, Rect, has, is_empty, width_of, height_of, Dab, Coat, laid, within, plain, fill_coat, mix, Buffer, pixel_at, pixel_count, Draws, IsInside, IsPart, IsOutside, HasLine, line_of}
 use Rattle.gui_base.specs.Area.{size_of}
 use Rattle.gui_color.specs.Buffer.{IsMixed}
 pub use Rattle.gui_color.proofs.Filling.{first_lines, lines_none, lines_more, lines_apart, lines_all}
@@ -39,6 +39,17 @@ part_is area clip item inner part first second some =
       inside = record { some = some; first = (at part.x1 part.y1).0 (grind (arith, ints)); last = (at part.x2 part.y2).0 (grind (arith, ints)) };
       pixels = λ x y i. (at x y).1 i;
     }
+
+has_none : (part : Rect) (x y : ℤ) → is_empty part ≡ true → has part x y ≡ false
+has_none part x y none = grind (arith, ints, nat_tests)
+
+out_all : (a b c : Bool) → ((a && b) && c) ≡ false → a ≡ true → (b && c) ≡ false
+out_all true b c h i = h
+out_all false b c h i = cc
+
+pub part_none : (area clip item inner part : Rect) → ((x y : ℤ) → has inner x y ≡ (has area x y && has clip x y)) → ((x y : ℤ) → has part x y ≡ (has inner x y && has item x y)) → is_empty part ≡ true → IsOutside area clip item
+part_none area clip item inner part first second none = λ x y i.
+    out_all (has area x y) (has clip x y) (has item x y) (sym (second x y ∙ ap (λ (t : Bool). t && has item x y) (first x y)) ∙ has_none part x y none) i
 
 -- an item in a clip
 clipped : (inside a b : Bool) (d : Option Dab) → inside ≡ (a && b) → (if inside then d else None) ≡ (if a then (if b then d else None) else None)

@@ -1,5 +1,6 @@
 -- Lines of cells, one line after another.
-use Rattle.gui_draw.proofs.Common.{pos, ◌≡◌, ◌∙◌, refl, sym, ap, ℕ, zero, suc, ◌+◌, ◌-◌, ◌*◌, ◌≤◌, Bool, true, false, ◌&&◌, ◌||◌, if◌then◌else◌, Option, Some, None, List, [], ◌∷◌, take, drop, length, is_some, arith, inl, inr, ℤ, ◌≤ℤ◌, ◌+ℤ◌, ◌-ℤ◌, le_z, lt_z, ints, nat_tests, cases_Bool, Rgb565, Rect, has, width_of, IsPart, Buffer, Face, Dab, Coat, only, within, plain, Draws, run_at, lines_at, letter_count, DrawsIn, IsOutside}
+use Rattle.gui_draw.proofs.Common.{pos, ◌≡◌, ◌∙◌, refl, sym, ap, ℕ, zero, suc, ◌+◌, ◌-◌, ◌*◌, ◌≤◌, Bool, true, false, ◌&&◌, ◌||◌, if◌then◌else◌, Option, Some, None, List, [], ◌∷◌, take, drop, length, is_some, arith, inl, inr, ℤ, ◌≤ℤ◌, ◌+ℤ◌, ◌-ℤ◌, le_z, lt_z, ints, nat_tests, cases_Bool, Rgb565, Rect, has, width_of, IsPart, Buffer, Face, Dab, Coat, only, within, plain, Draws, run_at, lines_at, letter_count, DrawsIn, IsPen, IsOutside}
+use Rattle.gui_base.specs.Area.{IsCoordinate}
 use Rattle.gui_draw.proofs.Lines.{part_inside, part_outside}
 use Rattle.gui_draw.proofs.Steps.{draws_same, draws_both}
 use Rattle.std.proofs.lemmas.List.{length-take, length-drop}
@@ -106,6 +107,11 @@ pub record Lining (s : LineSetting) (align : TextAlign) (pitch whole : ℕ) (all
   pub others :
       (new : Buffer) (more last : ℕ) → Draws buf new (to + more) last (within part (only (lines_at s align pitch whole rest left y) (plain color opa))) →
       Draws old new (from + used + more) last (within part (only (lines_at s align pitch whole all left top) (plain color opa)))
+
+-- a line of them may begin there
+pub pen_line : {s : LineSetting} {align : TextAlign} {pitch whole opa from to : ℕ} {all rest : List TextLine} {part : Rect} {color : Rgb565} {old buf : Buffer} {left top x y : ℤ} →
+    Lining s align pitch whole all part color opa old buf from to left top rest x y → IsCoordinate top → IsPen y
+pen_line h k = let low = h.low in let high = h.high in (omega (arith, ints), omega (arith, ints))
 
 module _ (s : LineSetting) (align : TextAlign) (pitch whole : ℕ) (all : List TextLine) (part : Rect) (color : Rgb565) (opa : ℕ) where
   pub lining_none : (buf : Buffer) (from : ℕ) (left top : ℤ) → length all ≤ 1001 → Lining s align pitch whole all part color opa buf buf from from left top all left top

@@ -1,7 +1,7 @@
 -- Own heights that are set at found widths.
-use Rattle.std.proofs.Common.{◌≡◌, ◌∙◌, ◌<◌, refl, sym, ap, subst, ℕ, length, set, true, false, cond, eqb, eq-eqb, ◌||◌, ◌⊎◌, List, get_or, map, inl, inr}
+use Rattle.std.proofs.Common.{◌≡◌, ◌∙◌, ◌<◌, refl, sym, ap, subst, ℕ, length, set, true, cond, eqb, eq-eqb, List, get_or, map, inl, inr}
 use Rattle.std.specs.Prelude.{Option, Some, None}
-use Rattle.std.proofs.lemmas.Bool.{cases_Bool, eqb-true, or_cases, or_left, or_right, false≢true}
+use Rattle.std.proofs.lemmas.Bool.{cases_Bool, eqb-true, or_left, or_right}
 use Rattle.std.proofs.lemmas.Simd.{map-map}
 use Rattle.gui_base.specs.Forest.{Forest, Empty, Tree, has, map_forest, roots}
 use Rattle.gui_base.proofs.Forests.{map-agree}

@@ -7,18 +7,25 @@ use Rattle.std.proofs.lemmas.Int.{ints, to_z-of_z}
 use Rattle.gui_base.specs.declared.intervals.TheConstants.{VALUE}
 use Rattle.gui_base.specs.declared.props.Prop.{Prop}
 use Rattle.gui_base.specs.Intervals.{is_within}
-use Rattle.gui_base.specs.Props.{is_value}
+use Rattle.gui_base.specs.Props.{is_value, values_of}
 use Rattle.scene_defs.specs.declared.Row.{Row}
 use Rattle.scene_defs.specs.Row.{is_range}
 use Rattle.scene_defs.specs.Valid.{IsRow}
 use Rattle.scene_defs.proofs.InRange.{numbers_of}
 
--- a number that is kept in 32 bits
-pub kept : (n v : ℤ) → SFits w32 n → v ≡ n → to_z w32 (of_z w32 n) ≡ v
-kept n v fits e = to_z-of_z w32 n fits ∙ sym e
+-- a value of a property is kept in 32 bits
+value_fits : (p : Prop) (n : ℤ) → int_le (pos 0) (values_of p).low ≡ true → int_le (values_of p).high (pos 16777215) ≡ true → is_value p n ≡ true → SFits w32 n
+value_fits p n least most is =
+    let both : (int_le (values_of p).low n ≡ true) × (int_le n (values_of p).high ≡ true) = and_parts _ _ is in
+    let low = both.0 in
+    let high = both.1 in
+    grind (arith, ints, nat_tests)
 
-pub still : (p : Prop) (n : ℤ) → SFits w32 n → is_value p n ≡ true → is_value p (to_z w32 (of_z w32 n)) ≡ true
-still p n fits is = subst (λ m. is_value p m ≡ true) (sym (to_z-of_z w32 n fits)) is
+pub kept_value : (p : Prop) (n v : ℤ) → int_le (pos 0) (values_of p).low ≡ true → int_le (values_of p).high (pos 16777215) ≡ true → is_value p n ≡ true → v ≡ n → to_z w32 (of_z w32 n) ≡ v
+kept_value p n v least most is e = to_z-of_z w32 n (value_fits p n least most is) ∙ sym e
+
+pub still_value : (p : Prop) (n : ℤ) → int_le (pos 0) (values_of p).low ≡ true → int_le (values_of p).high (pos 16777215) ≡ true → is_value p n ≡ true → is_value p (to_z w32 (of_z w32 n)) ≡ true
+still_value p n least most is = subst (λ m. is_value p m ≡ true) (sym (to_z-of_z w32 n (value_fits p n least most is))) is
 
 -- a value lies in its range, which has two ends, and each of them is kept in 32 bits
 pub record IsKept (row : Row) : Type 0 where

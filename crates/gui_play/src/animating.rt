@@ -1,5 +1,6 @@
 //! Animations: what they give their objects as time passes.
 ghost use Rattle.std.specs.Prelude.{◌≡◌, IfSome, length};
+ghost use Rattle.std.specs.Ordering.{int_eq};
 ghost use Rattle.gui_base.specs.Intervals.{is_counted};
 ghost use Rattle.play_defs.specs.Animation.{IsAnim, IsEnd};
 ghost use Rattle.play_defs.specs.Laws.{LiesBetween};
@@ -67,6 +68,13 @@ fn is_pixels(n: u16, length: Length) -> bool
     }
 }
 
+/// Whether two numbers are the same.
+fn are_same(m: i32, n: i32) -> bool
+    ensures { result ≡ int_eq m n }
+{
+    m == n
+}
+
 /// A change, unless what it would make so is so already.
 fn unless_so(so: bool, change: Change<'static>) -> Option<Change<'static>>
     ensures { result ≡ unless_so so change.entry }
@@ -81,8 +89,8 @@ fn var_change(var: Var, row: &Row, n: i32, h: Handle) -> Option<Change<'static>>
     ensures in_range { IfSome result IsChange }
 {
     match var {
-        Var::X => unless_so(n == row.x, Change::Pos(h, n, row.y)),
-        Var::Y => unless_so(n == row.y, Change::Pos(h, row.x, n)),
+        Var::X => unless_so(are_same(n, row.x), Change::Pos(h, n, row.y)),
+        Var::Y => unless_so(are_same(n, row.y), Change::Pos(h, row.x, n)),
         Var::Width => {
             let width = pixels(n);
             let so = is_pixels(width, row.width);
@@ -95,7 +103,7 @@ fn var_change(var: Var, row: &Row, n: i32, h: Handle) -> Option<Change<'static>>
         }
         Var::Value => {
             let value = brought_in(row.min, row.max, n);
-            unless_so(value == row.value, Change::Value(h, value))
+            unless_so(are_same(value, row.value), Change::Value(h, value))
         }
     }
 }

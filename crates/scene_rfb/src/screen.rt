@@ -1,12 +1,12 @@
 //! The machine with a panel in memory, as what a viewer looks at.
-ghost use Rattle.std.specs.Prelude.{◌≡◌, [], true, None, IfOk, OnOk, OnErr};
+ghost use Rattle.std.specs.Prelude.{◌≡◌, [], ◌∷◌, true, None, IfOk, OnOk, OnErr};
 ghost use Rattle.std.specs.Io.KnownBytes.{Appends};
 ghost use Rattle.gui_base.specs.Bounded.{bounds_of};
 ghost use Rattle.gui_edge.specs.Causes.{HasCause};
 ghost use Rattle.gui_edge.specs.Panel.{HasSizes};
 ghost use Rattle.gui_edge.specs.Sink.{AppendsPrefix};
 ghost use Rattle.run_defs.specs.Machine.{first_machine};
-ghost use Rattle.run_defs.specs.Run.{Replied, log_lines};
+ghost use Rattle.run_defs.specs.Run.{Replied, log_text};
 ghost use Rattle.run_defs.specs.Why.{refusal_of};
 ghost use Rattle.run_defs.specs.declared.Reply.TheVariants.{Refused};
 ghost use Rattle.rfb_view.specs.ViewPanel.{view_state};
@@ -65,9 +65,9 @@ impl Screen {
 fn refuse<L: Sink>(fault: LineFault, number: u32, log: &mut L) -> Result<bool, Failed>
     ensures noted { IfOk result (λ n. n ≡ true) }
     ensures ok { OnOk result (Appends (L.state log.old).held (L.state log.new).held
-        (log_lines (Replied number [] (Refused (refusal_of fault))))) }
+        (log_text (Replied number [] (Refused (refusal_of fault)) ∷ []))) }
     ensures err { OnErr result (AppendsPrefix (L.state log.old).held (L.state log.new).held
-        (log_lines (Replied number [] (Refused (refusal_of fault))))) }
+        (log_text (Replied number [] (Refused (refusal_of fault)) ∷ []))) }
     ensures cause { HasCause (L.state log.old).faults (L.state log.new).faults result }
 {
     let reply = Reply::Refused(Refusal::from(fault));

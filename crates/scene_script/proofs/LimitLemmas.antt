@@ -12,7 +12,7 @@ use Rattle.gui_base.specs.Grids.{BlockSize}
 use Rattle.gui_base.specs.Limits.{Bounds, HaveBlocks}
 use Rattle.run_defs.specs.Language.{mapped}
 use Rattle.run_defs.specs.Numbers.{natural, number, within, value_of}
-use Rattle.run_defs.specs.Words.{if_said, limits_of, number_within, setting_of, sets_a_pool, sets_a_limit, with_width, with_height, with_pool, with_further, is_x, sized, size_said, are_whole}
+use Rattle.run_defs.specs.Words.{if_said, limits_of, number_within, setting_of, sets_a_pool, sets_a_limit, with_width, with_height, with_further, is_x, sized, size_said, are_whole}
 use Rattle.scene_script.specs.CommandLine.{begins_with_dash, limits_by, Splits}
 use Rattle.scene_script.proofs.WordLemmas.{nothing_after}
 
@@ -68,10 +68,6 @@ no_pools (Some limits) words e = rw (no_settings words e) refl
 pub nothing_set : (words : List (List ℕ)) → with_further None words ≡ None
 unfolding with_further
 nothing_set words = refl
-
-pub nothing_further : (limits : Bounds) → with_further (Some limits) [] ≡ Some limits
-unfolding with_further with_pool
-nothing_further limits = refl
 
 no_width : (width : Option ℕ) (height lines : List ℕ) → width ≡ None → with_width width height lines ≡ None
 unfolding with_width

@@ -12,7 +12,15 @@ use Rattle.run_defs.specs.declared.names.StyleName.TheVariants as style
 use Rattle.run_defs.specs.declared.names.TreeName.TheVariants as tree
 use Rattle.run_defs.specs.declared.names.TheConstants.{COMMANDS}
 
--- a word of four bytes, and one of five, by its bytes
+-- a word of three bytes, one of four, and one of five, by its bytes
+pub three : (word : List ℕ) (a b c : ℕ) → 3 ≤ length word → length word < 4 → get_or word 0 0 ≡ a → get_or word 1 0 ≡ b →
+    get_or word 2 0 ≡ c → word ≡ a ∷ b ∷ c ∷ []
+three [] a b c least most p q r = absurd (omega arith)
+three (v ∷ []) a b c least most p q r = absurd (omega arith)
+three (v ∷ w ∷ []) a b c least most p q r = absurd (omega arith)
+three (v ∷ w ∷ x ∷ []) a b c least most p q r = rw (p, q, r) refl
+three (v ∷ w ∷ x ∷ y ∷ ys) a b c least most p q r = absurd (omega arith)
+
 pub four : (word : List ℕ) (a b c d : ℕ) → 4 ≤ length word → length word < 5 → get_or word 0 0 ≡ a → get_or word 1 0 ≡ b →
     get_or word 2 0 ≡ c → get_or word 3 0 ≡ d → word ≡ a ∷ b ∷ c ∷ d ∷ []
 four [] a b c d least most p q r s = absurd (omega arith)
@@ -33,6 +41,14 @@ five (v ∷ w ∷ x ∷ y ∷ z ∷ []) a b c d e least most p q r s t = rw (p, 
 five (v ∷ w ∷ x ∷ y ∷ z ∷ u ∷ us) a b c d e least most p q r s t = absurd (omega arith)
 
 -- what they mean
+pub pos : named (table {A = Name} COMMANDS) (codes "pos") ≡ Some (name.Row row.Pos)
+unfolding named
+pos = refl
+
+pub set : named (table {A = Name} COMMANDS) (codes "set") ≡ Some (name.Style style.Set)
+unfolding named
+set = refl
+
 pub size : named (table {A = Name} COMMANDS) (codes "size") ≡ Some (name.Row row.Size)
 unfolding named
 size = refl

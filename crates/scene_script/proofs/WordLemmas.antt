@@ -1,11 +1,11 @@
 -- How the words of a line are cut off one at a time.
-use Rattle.std.proofs.Common.{◌≡◌, ◌≢◌, refl, ap, sym, ◌∙◌, not, ℕ, suc, true, false, ◌+◌, ◌-◌, ◌<◌, Bool, List, [], ◌∷◌, ◌++◌, length, take, drop, get_or, arith, length-drop}
+use Rattle.std.proofs.Common.{◌≡◌, ◌≢◌, refl, ap, sym, ◌∙◌, not, ℕ, suc, true, false, ◌+◌, ◌-◌, ◌<◌, ◌≤◌, Bool, List, [], ◌∷◌, ◌++◌, length, take, drop, get_or, arith, length-drop}
 use Rattle.std.proofs.lemmas.List.{take_all, take_more}
 use Rattle.std.proofs.lemmas.List.Splits.{slice_split_first}
 use Rattle.std.specs.Prelude.{Some, None, if◌then◌else◌, slice_get, position, is_some}
 use Rattle.std.specs.List.{slice_split, list_any, before_first, after_first, position_or_len}
 use Rattle.std.proofs.lemmas.Bool.Decides.{nat_tests}
-use Rattle.run_defs.specs.Language.{words_of, words_from, onto, trimmed, trimmed_on, is_space, is_quote}
+use Rattle.run_defs.specs.Language.{words_of, is_comment, words_from, onto, trimmed, trimmed_on, is_space, is_quote}
 
 pub any_position : (p : ℕ → Bool) (bs : List ℕ) → list_any p bs ≡ is_some (position p bs)
 any_position p [] = refl
@@ -47,6 +47,14 @@ first_word (b ∷ bs) h n m =
 pub quoted_word : (bs : List ℕ) → slice_get bs 0 ≡ Some 34 → words_of bs ≡ trimmed bs ∷ []
 quoted_word [] e = cc
 quoted_word (b ∷ bs) e = grind (arith, nat_tests)
+
+-- a space before the words changes nothing
+pub space_before : (bs : List ℕ) → 1 ≤ length bs → get_or bs 0 0 ≡ 32 →
+    (words_of (take (length bs - 1) (drop 1 bs)) ≡ words_of bs) × (is_comment (take (length bs - 1) (drop 1 bs)) ≡ is_comment bs)
+space_before [] h e = absurd (omega arith)
+space_before (b ∷ bs) h e =
+    let all : take (length (b ∷ bs) - 1) bs ≡ bs = take_all (length (b ∷ bs) - 1) bs (omega arith) in
+    (ap words_of all ∙ rw e refl, ap is_comment all ∙ rw e refl)
 
 -- nothing follows where no byte cuts
 pub nothing_after : (p : ℕ → Bool) (bs : List ℕ) → list_any p bs ≡ false → after_first p bs ≡ []

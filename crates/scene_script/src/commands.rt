@@ -3,7 +3,8 @@ ghost use Rattle.std.specs.Prelude.{◌≡◌};
 ghost use Rattle.gui_base.specs.Names.{named, table};
 ghost use Rattle.run_defs.specs.declared.names.TheConstants.{COMMANDS};
 ghost use Rattle.run_defs.specs.Commands.{tree_fields, row_fields, style_fields, asset_fields};
-ghost use Rattle.run_defs.specs.Commands.{line_fields, command_says};
+ghost use Rattle.run_defs.specs.Commands.{line_fields, command_says, box_of, glyph_offset};
+ghost use Rattle.run_defs.specs.Fields.{fields, ◌▹◌, count_in};
 ghost use Rattle.run_defs.specs.Language.{words_of};
 
 use crate::actions::play_command;
@@ -39,7 +40,6 @@ pub(crate) fn say_command<'a>(name: &[u8], words: &'a [u8]) -> Result<Line<'a>, 
 }
 
 /// The command of a name. The names that most lines begin with are found without a search.
-#[tactic(auto, unfolding(gui_base::specs::Names::named))]
 fn command_named(word: &[u8]) -> Option<Name>
     ensures { result ≡ named (table {A = Name} COMMANDS) word.now }
 {
@@ -97,44 +97,38 @@ fn row_change<'a>(name: RowName, line: &mut Fields<'a>) -> Change<'a>
     ensures made { result ≡ (row_fields name line.old).made }
     ensures state { line.new ≡ (row_fields name line.old).at }
 {
+    let h = line.handle();
     match name {
         RowName::Flag => Change::Flag(
-            line.handle(),
+            h,
             line.name(&FLAGS, Flag::Hidden),
             line.name(&ON_OFF, false),
         ),
-        RowName::State => Change::State(line.handle(), line.state(), line.name(&ON_OFF, false)),
-        RowName::Pos => Change::Pos(
-            line.handle(),
-            line.number(COORDINATE),
-            line.number(COORDINATE),
-        ),
+        RowName::State => Change::State(h, line.state(), line.name(&ON_OFF, false)),
+        RowName::Pos => Change::Pos(h, line.number(COORDINATE), line.number(COORDINATE)),
         RowName::Align => Change::Align(
-            line.handle(),
+            h,
             line.align(),
             line.number(COORDINATE),
             line.number(COORDINATE),
         ),
-        RowName::Size => Change::Size(line.handle(), line.extent(), line.extent()),
-        RowName::Scroll => {
-            Change::Scroll(line.handle(), line.number(SCROLL), line.number(SCROLL))
-        }
-        RowName::Flex => Change::Flex(line.handle(), line.flow()),
+        RowName::Size => Change::Size(h, line.extent(), line.extent()),
+        RowName::Scroll => Change::Scroll(h, line.number(SCROLL), line.number(SCROLL)),
+        RowName::Flex => Change::Flex(h, line.flow()),
         RowName::Places => Change::Places(
-            line.handle(),
+            h,
             line.name(&PLACINGS, Placing::Start),
             line.name(&CROSS_PLACINGS, Placing::Start),
             line.name(&PLACINGS, Placing::Start),
         ),
-        RowName::Grow => Change::Grow(line.handle(), line.small(GROW)),
-        RowName::Text => Change::Text(line.handle(), line.text()),
-        RowName::Value => Change::Value(line.handle(), line.number(VALUE)),
+        RowName::Grow => Change::Grow(h, line.small(GROW)),
+        RowName::Text => Change::Text(h, line.text()),
+        RowName::Value => Change::Value(h, line.number(VALUE)),
         RowName::Range => {
-            let h = line.handle();
             let low = line.range_low();
             Change::Range(h, low, line.range_high(low))
         }
-        RowName::Source => Change::Source(line.handle(), line.count(IMAGE)),
+        RowName::Source => Change::Source(h, line.count(IMAGE)),
     }
 }
 
@@ -176,13 +170,7 @@ fn asset_change<'a>(name: AssetName, line: &mut Fields<'a>) -> Change<'a>
         AssetName::Glyph => Change::Glyph(
             line.small(FONT),
             line.code(),
-            GlyphBox {
-                advance: line.small(ADVANCE),
-                w: line.small(GLYPH_WIDTH),
-                h: line.small(GLYPH_HEIGHT),
-                ox: line.glyph_offset(),
-                oy: line.glyph_offset(),
-            },
+            glyph_box(line),
             line.bytes(),
         ),
         AssetName::EndFont => Change::EndFont(line.small(FONT)),
@@ -197,5 +185,21 @@ fn asset_change<'a>(name: AssetName, line: &mut Fields<'a>) -> Change<'a>
             line.count(IMAGE_ROW),
             line.bytes(),
         ),
+    }
+}
+
+/// How wide a glyph is set, and its box.
+fn glyph_box<'a>(line: &mut Fields<'a>) -> GlyphBox
+    ensures made { result ≡ (fields box_of line.old ▹ count_in ADVANCE ▹ count_in GLYPH_WIDTH
+        ▹ count_in GLYPH_HEIGHT ▹ glyph_offset ▹ glyph_offset).made }
+    ensures state { line.new ≡ (fields box_of line.old ▹ count_in ADVANCE ▹ count_in GLYPH_WIDTH
+        ▹ count_in GLYPH_HEIGHT ▹ glyph_offset ▹ glyph_offset).at }
+{
+    GlyphBox {
+        advance: line.small(ADVANCE),
+        w: line.small(GLYPH_WIDTH),
+        h: line.small(GLYPH_HEIGHT),
+        ox: line.glyph_offset(),
+        oy: line.glyph_offset(),
     }
 }

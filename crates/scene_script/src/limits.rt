@@ -1,8 +1,9 @@
 //! The limits that the words of the command line ask for.
 ghost use Rattle.std.specs.Prelude.{◌≡◌, ◌≤◌, ◌∷◌, [], Some, IfOk, IfErr, IfSome, MatchOption, is_some};
-ghost use Rattle.std.specs.Prelude.{false, filter_map, fold, map, length, unwrap_or};
+ghost use Rattle.std.specs.Prelude.{false, codes, filter_map, fold, map, length, unwrap_or};
 ghost use Rattle.std.specs.Option.{option_map};
 ghost use Rattle.std.specs.List.{list_all, list_any};
+ghost use Rattle.clap.specs.Matches.{first_value, matched_of, raw_values};
 ghost use Rattle.clap.specs.Words.{app_of, found_of, kind_of, with_rule};
 ghost use Rattle.clap.specs.declared.error.kind.ErrorKind.TheVariants.{OutOfMemory};
 ghost use Rattle.gui_base.specs.Bounded.{bounds_of};
@@ -248,7 +249,7 @@ fn with_further(limits: Limits, words: &[&str]) -> Option<Limits>
 }
 
 /// The limits of three words and of what follows them, if they have limits.
-#[tactic(auto, using(crate::proofs::LimitLemmas::nothing_further, crate::proofs::LimitLemmas::nothing_set))]
+#[tactic(auto, using(crate::proofs::LimitLemmas::nothing_set))]
 fn limits_by(
     width: Option<&str>,
     height: Option<&str>,
@@ -260,13 +261,8 @@ fn limits_by(
         (option_map (λ w. w.now) lines.entry)
         (unwrap_or (option_map (λ s. map (λ w. w.now) s.now) further.entry) []) }
 {
-    let width = width?;
-    let height = height?;
-    let limits = sizes(width.as_bytes(), height.as_bytes(), lines?.as_bytes())?;
-    match further {
-        Some(words) => with_further(limits, words),
-        None => Some(limits),
-    }
+    let limits = sizes(width?.as_bytes(), height?.as_bytes(), lines?.as_bytes())?;
+    with_further(limits, further.unwrap_or(&[]))
 }
 
 /// Whether a word begins with a dash.
@@ -281,6 +277,20 @@ fn has_dash(words: &[&str]) -> bool
     false
 }
 
+/// The limits of the words that were found, if they have limits.
+fn limits_found(matches: &ArgMatches) -> Option<Limits>
+    ensures { option_map bounds_of result ≡ limits_by (first_value (found_of matches.now) (codes "width"))
+        (first_value (found_of matches.now) (codes "height")) (first_value (found_of matches.now) (codes "lines"))
+        (unwrap_or (option_map raw_values (matched_of (found_of matches.now) (codes "further"))) []) }
+{
+    limits_by(
+        matches.get_str("width"),
+        matches.get_str("height"),
+        matches.get_str("lines"),
+        matches.get_strs("further"),
+    )
+}
+
 /// The limits that the words of the command line ask for, if they have limits: the width, the height and
 /// the lines, and then what they set of the pools, which made script, and which blocks the panel takes. A word
 /// that begins with a dash has none.
@@ -292,12 +302,7 @@ pub fn limits_of(alloc: Global, words: &[&str]) -> Result<Option<Limits>, NoMemo
         return Ok(None);
     }
     match split(alloc, words) {
-        Ok(matches) => Ok(limits_by(
-            matches.get_str("width"),
-            matches.get_str("height"),
-            matches.get_str("lines"),
-            matches.get_strs("further"),
-        )),
+        Ok(matches) => Ok(limits_found(&matches)),
         Err(error) => match error.kind() {
             ErrorKind::OutOfMemory => Err(NoMemory),
             _ => Ok(None),

@@ -15,7 +15,6 @@ use scene_defs::RowBytes;
 const BEYOND: u64 = 4_294_967_296;
 
 /// A number from `low` to `high`: syntax where the word is no number, and range where it is outside.
-#[tactic(auto, unfolding(run_defs::specs::Numbers::number))]
 pub(crate) fn number(word: &[u8], low: i32, high: i32) -> Result<i32, LineFault>
     ensures { result ≡ number low high word.now }
 {
@@ -24,7 +23,6 @@ pub(crate) fn number(word: &[u8], low: i32, high: i32) -> Result<i32, LineFault>
 }
 
 /// A number above `low`, up to `high`.
-#[tactic(auto, unfolding(run_defs::specs::Numbers::number))]
 pub(crate) fn number_above(word: &[u8], low: i32, high: i32) -> Result<i32, LineFault>
     ensures { result ≡ number (low +ℤ pos 1) high word.now }
 {
@@ -61,7 +59,6 @@ pub(crate) fn small(word: &[u8], interval: Count) -> Result<u8, LineFault>
 }
 
 /// A number of an interval that has none below -128 and none above 127.
-#[tactic(auto, unfolding(run_defs::specs::Numbers::number))]
 pub(crate) fn offset(word: &[u8], interval: Interval) -> Result<i8, LineFault>
     requires low { neg_ℤ (pos 129) <ℤ interval.low }
     requires high { interval.high <ℤ pos 128 }
@@ -72,7 +69,7 @@ pub(crate) fn offset(word: &[u8], interval: Interval) -> Result<i8, LineFault>
 }
 
 /// A number from `low` to `high`.
-#[tactic(auto, using(crate::proofs::NumberLemmas::intervals))]
+#[tactic(auto, using(crate::proofs::NumberLemmas::no_number))]
 fn within(word: &[u8], low: i64, high: i64) -> Result<i64, LineFault>
     requires low { neg_ℤ (pos beyond) <ℤ low }
     requires high { high <ℤ pos beyond }

@@ -57,7 +57,6 @@ fn is_comment(line: &[u8]) -> bool
 }
 
 /// Whether there is a control character. Eight bytes are looked at together.
-#[tactic(auto, using(crate::proofs::ControlLemmas::eight))]
 fn has_control(line: &[u8]) -> bool
     ensures { result ≡ list_any is_control line.now }
 {

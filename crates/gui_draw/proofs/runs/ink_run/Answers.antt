@@ -1,4 +1,5 @@
-use Rattle.gui_draw.proofs.Common.{◌≡◌, ◌+◌, ap, subst, arith, take, ℕ, chars, rect_of, face_in, within, only, plain, Draws, run_at}
+use Rattle.gui_draw.proofs.Common.{◌≡◌, ◌∙◌, ◌+◌, ap, length, subst, arith, take, ℕ, chars, rect_of, face_in, sym, ints, Rect, IsInside, within, only, plain, Draws, run_at}
+use Rattle.std.proofs.Common.{length-drop}
 use Rattle.gui_draw.proofs.Running.{running_none, running_more}
 use Rattle.gui_draw.proofs.runs.ink_run.Goals as goal
 
@@ -17,3 +18,23 @@ returns g c =
     let all : c.cells.counter ≡ c.args.run.count = omega arith in
     let face = face_in c.args.lettering.fonts.now c.args.lettering.look.font in
     subst (λ (n : ℕ). Draws c.args.buf.now c.cells.buf (c.args.steps.now + n) c.cells.steps (within (rect_of c.args.brush.part) (only (run_at face c.args.lettering.look.letter (take n (chars c.args.run.text.now)) c.args.start.x c.args.start.y) (plain c.args.brush.fg c.args.brush.opa)))) all c.cells.invariant.drawn
+
+pub unreachable-requires : goal.unreachable-requires
+unreachable-requires g c =
+    let none = sym (c.in_default.ensures.chars) ∙ c.cells.invariant.rest_is in
+    omega (arith, length-drop c.cells.counter (chars c.args.run.text.now), ap length none)
+
+pub ink_cell-requires-clause-near : goal.ink_cell-requires-clause-near
+ink_cell-requires-clause-near g c = (omega (arith, ints, c.cells.invariant, c.requires), omega (arith, ints))
+
+pub ink_cell-requires-clause-inside : goal.ink_cell-requires-clause-inside
+ink_cell-requires-clause-inside g c = subst (λ (area : Rect). IsInside area (rect_of c.args.brush.part)) (sym c.cells.invariant.drawn.area_stays) c.requires.inside
+
+pub ink_cell-requires-clause-there : goal.ink_cell-requires-clause-there
+ink_cell-requires-clause-there g c = c.requires.there
+
+pub next_cell-cell-requires-clause-near : goal.next_cell-cell-requires-clause-near
+next_cell-cell-requires-clause-near g c = omega (arith, ints)
+
+pub next_cell-cell-requires-clause-letter : goal.next_cell-cell-requires-clause-letter
+next_cell-cell-requires-clause-letter g c = c.requires.letter

@@ -3,7 +3,7 @@ use Rattle.std.proofs.Common.{◌+ℤ◌}
 use Rattle.text_defs.specs.Lines.{LineSetting}
 use Rattle.gui_font.specs.LinesLeft.{runs_left, setting_of}
 use Rattle.gui_font.specs.Runs.{GivesRun}
-use Rattle.gui_draw.proofs.Lining.{lining_none, lining_more, lining_all, run_count}
+use Rattle.gui_draw.proofs.Lining.{lining_none, lining_more, lining_all, pen_line, run_count}
 use Rattle.gui_draw.proofs.texts.ink_lines.Goals as goal
 
 pub lines-init : goal.lines-init
@@ -39,3 +39,13 @@ pub returns : goal.returns
 returns g c =
     rw (c.width-whole.ensures, c.corner_of-at.ensures.x, c.corner_of-at.ensures.y) at
     (lining_all _ _ _ _ _ (rect_of c.args.brush.part) _ _ _ _ _ _ _ _ _ _ _ c.lines.invariant.lining c.in_default.ensures.run.0)
+
+pub ink_line-requires-clause-near : goal.ink_line-requires-clause-near
+ink_line-requires-clause-near g c =
+    (c.line_start-first.ensures.pen, rw c.line_start-first.ensures.y (pen_line c.lines.invariant.lining (rw c.corner_of-at.ensures.y c.args.area.y1_fits)))
+
+pub line_start-first-requires : goal.line_start-first-requires
+line_start-first-requires g c = record { near = rw (c.lines.invariant.lining.x_is, c.corner_of-at.ensures.x) c.args.area.x1_fits }
+
+pub below-at-requires-clause-near : goal.below-at-requires-clause-near
+below-at-requires-clause-near g c = pen_line c.lines.invariant.lining (rw c.corner_of-at.ensures.y c.args.area.y1_fits)

@@ -266,3 +266,6 @@ returns-clause-boxes c =
     λ k was.
     ap (λ (j : Layout). but_height (box_at j.boxes k)) (told_all e)
     ∙ c.set_own_heights.ensures.boxes k (ap (λ (j : Layout). but_height (box_at j.boxes k)) wide_told ∙ was)
+
+pub find_places-requires-clause-once : goal.find_places-requires-clause-once
+find_places-requires-clause-once c = c.requires.once

@@ -6,6 +6,24 @@ use Rattle.gui_base.specs.Corners.{rect_of}
 use Rattle.gui_base.proofs.Blocks.{blocks_fit, not_negative}
 use Rattle.gui_base.proofs.rounding.GridRound.round.Goals as goal
 
+pub block_start-requires-clause-positive : goal.block_start-requires-clause-positive
+block_start-requires-clause-positive c =
+    let g = c.args.self.now in
+    let x1 : SFits w32 c.args.area.x1 = search rules in
+    simp to_z-of_z (not_negative (rect_of g.panel) (rect_of c.args.area) g.whole.left g.whole.top c.requires).0.0
+
+pub block_start-requires-2-clause-positive : goal.block_start-requires-2-clause-positive
+block_start-requires-2-clause-positive c =
+    let g = c.args.self.now in
+    let y1 : SFits w32 c.args.area.y1 = search rules in
+    simp to_z-of_z (not_negative (rect_of g.panel) (rect_of c.args.area) g.whole.left g.whole.top c.requires).0.1
+
+pub block_end-requires-clause-positive : goal.block_end-requires-clause-positive
+block_end-requires-clause-positive c =
+    let g = c.args.self.now in
+    let x2 : SFits w32 c.args.area.x2 = search rules in
+    simp to_z-of_z (not_negative (rect_of g.panel) (rect_of c.args.area) g.whole.left g.whole.top c.requires).1.0
+
 pub block_end-requires-clause-fits : goal.block_end-requires-clause-fits
 block_end-requires-clause-fits c =
     let g = c.args.self.now in

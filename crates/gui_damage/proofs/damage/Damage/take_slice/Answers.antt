@@ -1,4 +1,5 @@
-use Rattle.std.proofs.Common.{◌≡◌, ◌∙◌, sym, ap, subst, refl, ℕ, ◌*◌, ◌/◌, ◌≤◌}
+use Rattle.std.proofs.Common.{◌≡◌, ◌∙◌, sym, ap, subst, refl, ℕ, ◌*◌, ◌/◌, ◌≤◌, arith}
+use Rattle.std.proofs.Math.Nat.{mul-le-mul_right, div-mul-le_self}
 use Rattle.gui_base.specs.Area.{Rect, width_of}
 use Rattle.gui_base.specs.Corners.{rect_of}
 use Rattle.gui_damage.specs.Pending.{Pending}
@@ -36,3 +37,16 @@ invariant_of-self g c =
       ap (λ (p : Pending). p.panel) rest ∙ c.self.invariant.0,
       subst (λ (p : Pending). IsRounded (rules_of g d) p.areas) (sym rest) (subst (λ (n : ℕ). IsRounded (rules_of g d) (left_after n c.self.inside.list.areas)) (sym (most_is g d)) left),
     )
+
+-- so many lines of a width have no more pixels than the limit
+most_fit : (limit width step : ℕ) → (limit / width / step * step ≤ limit) × (limit / width / step * step * width ≤ limit)
+most_fit limit width step =
+    let lines = div-mul-le_self (limit / width) step in
+    let all = mul-le-mul_right width lines in
+    (omega (arith, lines), omega (arith, all, div-mul-le_self limit width))
+
+pub overflow_mul-limit : goal.overflow_mul-limit
+overflow_mul-limit g c = omega (arith, (most_fit c.args.limit c.width-width.result c.step-step.result).0)
+
+pub overflow_mul-limit-2 : goal.overflow_mul-limit-2
+overflow_mul-limit-2 g c = omega (arith, (most_fit c.args.limit c.width-width.result c.step-step.result).1)

@@ -35,3 +35,6 @@ returns-clause-added c =
     let self = c.args.self.now in
     let d = (goal.at.returns-clause-added c).After-put in
     subst (λ (t : Table Entry). AddsValue c.args.h.0 self.entries t) (sym c.put.ensures) (adds self.entries c.args.h _ (within d) (vacant_is self.limits.objects self.entries self.listed.items c.args.h.0 self.kept c.requires.new))
+
+pub put-requires-clause-vacant : goal.put-requires-clause-vacant
+put-requires-clause-vacant c = let self = c.args.self.now in vacant_is self.limits.objects self.entries self.listed.items c.args.h.0 self.kept c.requires.new

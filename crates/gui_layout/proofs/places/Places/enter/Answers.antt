@@ -1,4 +1,5 @@
 use Rattle.std.proofs.Common.{◌≡◌, ◌≤◌, ◌∙◌, ap, ◌++◌, ℕ, List, length, arith}
+use Rattle.std.proofs.lemmas.Grind.{common_steps}
 use Rattle.gui_base.specs.Forest.{Forest, size, preorder}
 use Rattle.gui_base.specs.Limits.{Bounds}
 use Rattle.gui_base.specs.declared.Handle.{Handle}
@@ -41,3 +42,9 @@ replace_entries-requires-clause-few c =
     let objects : c.args.self.now.limits.objects ≡ scene.limits.objects = ap (λ (b : Bounds). b.objects) c.requires in
     let long : length c.list_trees.new.listed.items ≡ size (handles_of scene.trees) = length_is c.list_trees.new.listed.items (handles_of scene.trees) (listed d) in
     omega arith
+
+pub invariant_of-self : goal.invariant_of-self
+invariant_of-self c = grind (arith, common_steps)
+
+pub invariant_of-self-2 : goal.invariant_of-self-2
+invariant_of-self-2 c = grind (arith, common_steps)

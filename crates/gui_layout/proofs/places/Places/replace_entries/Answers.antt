@@ -1,4 +1,5 @@
 use Rattle.std.proofs.Common.{◌≡◌, ◌∙◌, sym, ap, subst, ℕ, List, [], arith}
+use Rattle.std.proofs.lemmas.Grind.{common_steps}
 use Rattle.gui_base.specs.declared.Handle.{Handle}
 use Rattle.gui_pool.specs.Table.{Table}
 use Rattle.gui_boxes.specs.Listing.{HasThese}
@@ -26,3 +27,12 @@ invariant_of-self c =
       found_room = rw rooms.y_after list_room;
       items_room = self.items_room;
     }
+
+pub fill-requires-clause-blank : goal.fill-requires-clause-blank
+fill-requires-clause-blank c = grind (arith, common_steps)
+
+pub fill-requires-clause-few : goal.fill-requires-clause-few
+fill-requires-clause-few c = grind (arith, common_steps)
+
+pub fill-requires-clause-proper : goal.fill-requires-clause-proper
+fill-requires-clause-proper c = grind (arith, common_steps)

@@ -1,4 +1,4 @@
-use Rattle.std.proofs.lemmas.List.Elements.{All-tail}
+use Rattle.std.proofs.lemmas.List.Elements.{All-head, All-tail}
 use Rattle.std.specs.List.{All}
 use Rattle.gui_base.specs.declared.words.Part.TheVariants.{Main}
 use Rattle.gui_tree.proofs.Paths.{line_is, line_there}
@@ -35,3 +35,9 @@ loop-k-preserved c =
       rest = grind (arith, near, c.states_of-states.ensures, c.lookup-found.ensures, c.is_some.ensures, c.if-is_some.false);
       there = All-tail (λ k. has f k ≡ true) c.in-Some.k.0 c.next.new.self (subst (All (λ k. has f k ≡ true)) c.in-Some.ensures.steps c.loop-k.invariant.there);
     }
+
+pub states_of-states-requires : goal.states_of-states-requires
+states_of-states-requires c =
+    let f = c.args.self.now.tree.forest in
+    let here = All-head (λ k. has f k ≡ true) c.in-Some.k.0 c.next.new.self (subst (All (λ k. has f k ≡ true)) c.in-Some.ensures.steps c.loop-k.invariant.there) in
+    assumption here

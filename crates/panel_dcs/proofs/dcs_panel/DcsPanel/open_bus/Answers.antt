@@ -1,4 +1,5 @@
-use Rattle.std.proofs.Common.{refl, ◌∙◌, ap, subst}
+use Rattle.std.proofs.Common.{refl, ◌∙◌, ap, subst, arith}
+use Rattle.std.proofs.lemmas.Grind.{common_steps}
 use Rattle.gui_base.specs.Gridded.{size_in}
 use Rattle.panel_dcs.specs.DcsPanel.{OpensBus, resized}
 use Rattle.panel_dcs.specs.Turning.{turned, columns_of, pages_of}
@@ -36,3 +37,12 @@ returns-in-Ok-send_opening-clause-opened g c =
       opens = sized (g.B.Bus.state c.self.inside.bus) (g.B.Bus.state c.open.new.self) c.columns_of.result (columns_of (turned (record { turn = c.self.inside.sizes.turn; width = c.args.width; height = c.args.height }))) c.pages_of.result (pages_of (turned (record { turn = c.self.inside.sizes.turn; width = c.args.width; height = c.args.height }))) c.columns_of.ensures c.pages_of.ensures c.in-Ok.ensures;
       hears = c.in-Ok-send_opening.ensures.0;
     })
+
+pub invariant_of-self-inside-in-Ok-send_opening : goal.invariant_of-self-inside-in-Ok-send_opening
+invariant_of-self-inside-in-Ok-send_opening g c = grind (arith, common_steps)
+
+pub returns-in-Err-Failed-clause-answer : goal.returns-in-Err-Failed-clause-answer
+returns-in-Err-Failed-clause-answer g c = grind (arith, common_steps)
+
+pub returns-in-Err-NoMemory-clause-answer : goal.returns-in-Err-NoMemory-clause-answer
+returns-in-Err-NoMemory-clause-answer g c = grind (arith, common_steps)

@@ -2,7 +2,8 @@ use Rattle.panel_dcs.specs.Bus.{Feeds}
 use Rattle.panel_dcs.specs.Controller.{data_bytes}
 use Rattle.panel_dcs.specs.Polls.{next_row, rows_of}
 use Rattle.panel_dcs.specs.Transfers.{row_bytes}
-use Rattle.std.proofs.Common.{◌≡◌, subst, ap, ◌∙◌, ◌+◌, sym, refl}
+use Rattle.std.proofs.Common.{◌≡◌, subst, ap, ◌∙◌, ◌+◌, sym, refl, arith}
+use Rattle.std.proofs.lemmas.Grind.{common_steps}
 use Rattle.panel_dcs.proofs.Answering.{poll_breaks, poll_arrives, poll_goes_on}
 use Rattle.panel_dcs.proofs.Starting.{some_is, none_flies, next_flies}
 use Rattle.panel_dcs.proofs.dcs_panel.DcsPanel.poll_row.Goals as goal
@@ -65,3 +66,9 @@ returns-then-self-rows-clause-rows g c = subst (λ v. v.state.row + 1 ≡ rows_o
 
 pub returns-else-self-rows-clause-rows : goal.returns-else-self-rows-clause-rows
 returns-else-self-rows-clause-rows g c = ap (λ v. v.state.row + 1) c.self.view_is
+
+pub row_bytes-bytes-requires-clause-inside : goal.row_bytes-bytes-requires-clause-inside
+row_bytes-bytes-requires-clause-inside g c = grind (arith, common_steps)
+
+pub invariant_of-self-inside-in-Ok : goal.invariant_of-self-inside-in-Ok
+invariant_of-self-inside-in-Ok g c = grind (arith, common_steps)

@@ -1,0 +1,20 @@
+use Rattle.gui_draw.proofs.Between.{both_kept, count_kept}
+use Rattle.gui_draw.proofs.rings.right.Goals as goal
+
+pub last_start-requires-clause-coordinates : goal.last_start-requires-clause-coordinates
+last_start-requires-clause-coordinates c = both_kept _ _ c.args.area.x1_fits c.args.area.x2_fits
+
+pub last_start-requires-clause-few : goal.last_start-requires-clause-few
+last_start-requires-clause-few c = count_kept _ _ _ c.args.area.x1_fits c.args.area.x2_fits c.requires.thin.columns
+
+pub middle_start-requires-clause-coordinates : goal.middle_start-requires-clause-coordinates
+middle_start-requires-clause-coordinates c = both_kept _ _ c.args.area.y1_fits c.args.area.y2_fits
+
+pub middle_start-requires-clause-few : goal.middle_start-requires-clause-few
+middle_start-requires-clause-few c = count_kept _ _ _ c.args.area.y1_fits c.args.area.y2_fits c.requires.thin.lines
+
+pub middle_end-requires-clause-coordinates : goal.middle_end-requires-clause-coordinates
+middle_end-requires-clause-coordinates c = both_kept _ _ c.args.area.y1_fits c.args.area.y2_fits
+
+pub middle_end-requires-clause-few : goal.middle_end-requires-clause-few
+middle_end-requires-clause-few c = count_kept _ _ _ c.args.area.y1_fits c.args.area.y2_fits c.requires.thin.lines

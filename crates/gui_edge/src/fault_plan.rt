@@ -6,11 +6,21 @@ use std::marker::Model;
 
 /// The numbers of the calls that fail, and a count of the calls. The first call has the number 1, and calls
 /// past 2^64 - 1 have none.
-#[derive(Drop)]
 pub struct FaultPlan {
     numbers: Vec<u64>,
     calls: u64,
     failed: u64,
+}
+
+impl Drop for FaultPlan {
+    /// Lets go of all that it holds. Who owns one calls this, where each field by itself would be dear to prove.
+    fn drop(self) {
+        let FaultPlan {
+            numbers: _,
+            calls: _,
+            failed: _,
+        } = self;
+    }
 }
 
 impl Model for FaultPlan {

@@ -14,7 +14,7 @@ pub mod text;
 pub use fault_plan::FaultPlan;
 pub use panel::{OpenFault, Panel, Polled};
 pub use sim_panel::{SimPanel, SimPlan};
-pub use sink::{MemSink, Sink, StdSink};
+pub use sink::{MemSink, Sink, StdSink, Unheard};
 pub use source::{MemSource, Source, StdSource};
 
 /// A call on the outside failed. The object's count of faults rose in that call.

@@ -1,9 +1,8 @@
 -- What a frame of a meter does, and why there may be none.
-use Rattle.std.specs.Prelude.{◌<◌, IfSome, None}
+use Rattle.std.specs.Prelude.{◌<◌, IfSome}
 use Rattle.std.specs.Io.KnownBytes.{Appends}
 use Rattle.gui_edge.specs.Causes.{Rose}
 use Rattle.gui_edge.specs.Panel.{PanelState}
-use Rattle.gui_edge.specs.Sink.{SinkState}
 use Rattle.gui_base.specs.Ppm.{ppm}
 use Rattle.scene_defs.specs.Picture.{picture}
 use Rattle.scene_defs.specs.Scene.{Scene}
@@ -23,7 +22,3 @@ Hinders fault.Unread old new = ⊥
 abbrev pub WritesPicture : PanelState → PanelState → Scene → Type 0
 WritesPicture old new scene =
     IfSome new.shows (λ colors. Appends old.frames new.frames (ppm new.width new.height (picture scene)))
-
--- a log that tells nothing and never fails
-abbrev pub unheard : SinkState
-unheard = record { held = None; faults = 0 }

@@ -8,13 +8,13 @@ ghost use Rattle.meter.specs.declared.fault.Fault.TheVariants as fault;
 ghost use Rattle.meter.specs.Commands.{after, after_all, refusal_of, refusal_of_all};
 ghost use Rattle.meter.specs.Numbers.{alarms, number_commands, screen_commands};
 ghost use Rattle.meter.specs.Ready.{IsReady, StaysReady};
-ghost use Rattle.meter.specs.Shown.{Hinders, WritesPicture, unheard};
+ghost use Rattle.meter.specs.Shown.{Hinders, WritesPicture};
 ghost use Rattle.run_defs.specs.Step.{IsCommand};
 
 use crate::fault::Fault;
 use gui_base::{Align, Handle, Kind, Length, Part, Prop, Refusal, Selector, State, Steps};
 use gui_core::{Gui, Refreshed, Reply};
-use gui_edge::{Failed, Panel, Sink};
+use gui_edge::{Failed, Panel, Unheard};
 use itoa::Buffer;
 use run_defs::Command;
 use scene_defs::{Change, Text};
@@ -45,19 +45,7 @@ const ALARMED: Selector = Selector {
     states: 1 << 12,
 };
 
-/// What the changes of a meter write: nothing, since no handler hears of them.
-#[derive(Drop)]
-struct Unheard;
-
-impl Sink for Unheard {
-    ghost state = { λ s. unheard };
-
-    fn put(&mut self, _piece: &[u8]) -> Result<(), Failed> {
-        Ok(())
-    }
-}
-
-/// Gives one command.
+/// Gives one command. No handler hears of it, so it writes nothing.
 #[tactic(auto, using(crate::proofs::Ready::stays_ready), unfolding(crate::specs::Commands::refusal_of, crate::specs::Commands::after))]
 fn give(gui: &mut Gui, command: &Command) -> Result<(), Refusal>
     requires { IsCommand command.now }

@@ -1,7 +1,7 @@
 -- What a run of the made script comes to. Its replies are counted, and the log gets one line in the place of
 -- all of them.
 use Rattle.std.specs.Prelude.{◌≡◌, ℕ, Bool, true, false, ◌||◌, nat_lt, ◌≤◌, ◌⊎◌, List, [], ◌++◌, length}
-use Rattle.std.specs.Prelude.{Ok, None, codes, decimal}
+use Rattle.std.specs.Prelude.{Ok, codes, decimal}
 use Rattle.std.specs.List.{count_by}
 use Rattle.std.specs.Io.KnownBytes.{Appends}
 use Rattle.run_defs.specs.declared.Line.TheVariants.{Frame}
@@ -15,7 +15,7 @@ use Rattle.run_defs.specs.Run.{done_scenes, fault_count}
 use Rattle.run_defs.specs.Script.{Said}
 use Rattle.gui_edge.specs.Causes.{Rose}
 use Rattle.gui_edge.specs.Panel.{PanelState}
-use Rattle.gui_edge.specs.Sink.{SinkState, AppendsPrefix}
+use Rattle.gui_edge.specs.Sink.{AppendsPrefix, unheard}
 use Rattle.gui_core.specs.Sums.{picture_sum}
 use Rattle.scene_run.specs.Effects.{Output, output, Answers, Halted}
 
@@ -56,10 +56,7 @@ summary_of k first lines outcomes =
 
 -- Runs.
 
--- the log of replies that nobody reads
-abbrev pub unheard : SinkState
-unheard = record { held = None; faults = 0 }
-
+-- where nobody reads the log
 abbrev pub panel_alone : PanelState → Output
 panel_alone panel = output unheard panel
 

@@ -21,7 +21,7 @@ ghost use Rattle.scene_run.specs.Counting.{is_no_pump, making, done_in, faults_i
 ghost use Rattle.scene_run.specs.Counting.{MakesOn};
 ghost use Rattle.scene_run.specs.Effects.{output, Halted, SinceOpening};
 ghost use Rattle.scene_run.specs.Headline.{MadeEnded, IfUnstarted};
-ghost use Rattle.scene_run.specs.Making.{panel_alone, summary, unheard};
+ghost use Rattle.scene_run.specs.Making.{panel_alone, summary};
 ghost use Rattle.scene_run.specs.Running.{IsReady, IsStill, Halts};
 
 use crate::answer::{LineEnd, answer};
@@ -30,7 +30,7 @@ use arrayvec::ArrayVec;
 use gui_base::{Limits, Steps};
 use gui_core::Gui;
 use gui_edge::text::{push_bytes, push_number};
-use gui_edge::{Failed, Panel, Sink};
+use gui_edge::{Failed, Panel, Sink, Unheard};
 use run_defs::{FrameEnd, Outcome};
 use scene_script::{Line, LineFault, Maker};
 use std::marker::Brand;
@@ -57,18 +57,6 @@ fn ends_of(outcome: Option<Outcome>) -> (u32, u32)
         Some(Outcome::Frame(FrameEnd::Done)) => (1, 0),
         Some(Outcome::Frame(FrameEnd::Fault)) => (0, 1),
         Some(Outcome::Pump(_)) | None => (0, 0),
-    }
-}
-
-/// A log of replies that nobody reads.
-#[derive(Drop)]
-struct Unheard;
-
-impl Sink for Unheard {
-    ghost state = { λ s. unheard };
-
-    fn put(&mut self, _piece: &[u8]) -> Result<(), Failed> {
-        Ok(())
     }
 }
 

@@ -63,7 +63,6 @@ impl Runner {
     }
 
     /// Answers the line that the cutter's last answer made whole, if it made one.
-    #[tactic(auto, using(crate::proofs::Going::goes_on_none))]
     fn take_cut<L: Sink, P: Panel>(
         &mut self,
         cut: Cut,
@@ -104,7 +103,6 @@ impl Runner {
     }
 
     /// Takes a piece of the script.
-    #[tactic(auto, using(crate::proofs::Bytes::reads_none))]
     pub fn take_piece<L: Sink, P: Panel>(
         &mut self,
         piece: &[u8],

@@ -136,8 +136,10 @@ marked-changed old new k none parents is = elim (cases_Bool (is_changed new k)) 
   | inr off ↦ absurd (both_ways (is_marked old k) none (part-any (value_at old.pending k) (parents (any-part (value_at new.pending k) is off))))
 ]
 
+-- so what has not changed, and has no other children, is not marked
+pub unmarked-by : (old new : Marks) (k : ℕ) → is_marked old k ≡ false → is_changed new k ≡ false → (is_parent new k ≡ true → is_parent old k ≡ true) → is_marked new k ≡ false
+unmarked-by old new k none changed parents = false_from_ne_true (is_marked new k) (λ is. both_ways (is_changed new k) changed (marked-changed old new k none parents is))
+
 -- and so an object is not marked, if that is no other than before
 pub unmarked-still : (old new : Marks) (k : ℕ) → is_marked old k ≡ false → is_changed new k ≡ is_changed old k → is_parent new k ≡ is_parent old k → is_marked new k ≡ false
-unmarked-still old new k none changed parents = false_from_ne_true (is_marked new k) (λ is.
-    let all : is_changed new k ≡ true = marked-changed old new k none (λ part. sym parents ∙ part) is in
-    both_ways (is_marked old k) none (all-any (value_at old.pending k) (sym changed ∙ all)))
+unmarked-still old new k none changed parents = unmarked-by old new k none (changed ∙ none-changed old k none) (λ part. sym parents ∙ part)

@@ -147,6 +147,8 @@ pub fn mark_gone(marks: &mut Marks, store: &Store, parent: Option<Handle>)
     requires room { length (removed_of store.now) < (scene_of store.now).limits.objects }
     ensures gone { (k : ℕ) → is_changed marks.new k ≡ is_among (removed_of store.now) k }
     ensures parent { (p : Handle) → parent ≡ Some p → is_marked marks.new p.0 ≡ true }
+    ensures others { (k : ℕ) → is_among (removed_of store.now) k ≡ false →
+        ((p : Handle) → parent ≡ Some p → (k == p.0) ≡ false) → is_marked marks.new k ≡ false }
     ensures most { most_marks marks.new ≡ most_marks marks.old }
 {
     mark_listed(marks, store.tree().last_removed());
@@ -189,6 +191,8 @@ pub fn mark_reparented(
         ≡ has (tree_at (handles_of (scene_of store.now).trees) h.0) k }
     ensures old { (p : Handle) → old ≡ Some p → is_marked marks.new p.0 ≡ true }
     ensures new { is_marked marks.new new.0 ≡ true }
+    ensures others { (k : ℕ) → has (tree_at (handles_of (scene_of store.now).trees) h.0) k ≡ false →
+        (k == new.0) ≡ false → ((p : Handle) → old ≡ Some p → (k == p.0) ≡ false) → is_marked marks.new k ≡ false }
     ensures most { most_marks marks.new ≡ most_marks marks.old }
 {
     mark_below(marks, store.tree(), h);

@@ -5,7 +5,7 @@ use Rattle.gui_base.specs.declared.Handle.{Handle}
 use Rattle.gui_store.specs.Views.{removed_of}
 use Rattle.gui_tree.specs.Handles.{numbers}
 use Rattle.gui_boxes.specs.Marks.{is_changed, is_marked}
-use Rattle.gui_concerns.proofs.Marks.{count-none, none-changed}
+use Rattle.gui_concerns.proofs.Marks.{count-none, none-changed, unmarked-by}
 use Rattle.gui_concerns.proofs.marking.mark_gone.Goals as goal
 use Rattle.gui_concerns.proofs.marking.mark_gone.Goals.{After-mark_listed}
 
@@ -49,3 +49,14 @@ returns-clause-parent c p is =
     let both : Some c.in-Some.p ≡ Some p = sym c.in-Some.is ∙ is in
     let same : c.in-Some.p ≡ p = cc in
     subst (λ (g : Handle). is_marked c.mark_children.new.self g.0 ≡ true) same c.mark_children.ensures.own
+
+pub returns-in_default-clause-others : goal.returns-in_default-clause-others
+returns-in_default-clause-others c k gone above =
+    unmarked-by c.args.marks.now c.mark_listed.new.marks k (c.requires.none.none k) (listed (goal.at.returns-in_default-clause-others c).After-mark_listed k ∙ gone)
+    (c.mark_listed.ensures.marks.parents k)
+
+pub returns-clause-others : goal.returns-clause-others
+returns-clause-others c k gone above =
+    unmarked-by c.args.marks.now c.mark_children.new.self k (c.requires.none.none k)
+    (c.mark_children.ensures.changed k ∙ (listed (goal.at.returns-clause-others c).After-mark_listed k ∙ gone))
+    (λ part. c.mark_listed.ensures.marks.parents k (sym (c.mark_children.ensures.others k (above c.in-Some.p c.in-Some.is)) ∙ part))

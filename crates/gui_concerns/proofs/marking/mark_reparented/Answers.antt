@@ -1,6 +1,6 @@
-use Rattle.std.proofs.Common.{◌≡◌, ◌∙◌, sym, subst, ℕ, true, false, eqb, inl, inr, arith}
+use Rattle.std.proofs.Common.{◌≡◌, ◌∙◌, ap, sym, subst, ℕ, Bool, true, false, eqb, ◌||◌, inl, inr, arith}
 use Rattle.std.proofs.lemmas.Bool.{cases_Bool, eqb-true}
-use Rattle.gui_base.specs.Forest.{Forest, has}
+use Rattle.gui_base.specs.Forest.{Forest, has, tree_at}
 use Rattle.gui_pool.specs.Table.{value_at}
 use Rattle.gui_store.specs.Views.{scene_of}
 use Rattle.scene_defs.specs.Scene.{handles_of}
@@ -8,7 +8,7 @@ use Rattle.gui_boxes.specs.Marks.{is_changed, is_parent, most_marks}
 use Rattle.gui_boxes.specs.declared.marks.Marks.{Marks}
 use Rattle.gui_boxes.proofs.Pendings.{all-any, any-part, part-any}
 use Rattle.gui_concerns.specs.Marking.{AreMarked}
-use Rattle.gui_concerns.proofs.Marks.{none-there, room}
+use Rattle.gui_concerns.proofs.Marks.{none-changed, none-there, room, unmarked-by}
 use Rattle.gui_concerns.proofs.marking.mark_reparented.Goals as goal
 use Rattle.gui_concerns.proofs.marking.mark_reparented.Goals.{After-mark_below}
 
@@ -44,3 +44,23 @@ mark_children-requires-in-Some c =
     let still =
     still-parent c.mark_below.new.marks c.mark_children.new.self f c.args.new.0 (marked (goal.at.mark_children-requires-in-Some c).After-mark_below) c.requires.new c.mark_children.ensures.changed c.mark_children.ensures.others c.mark_children.ensures.most in
     record { room = room c.mark_children.new.self f c.in-Some.old still (c.requires.old c.in-Some.old c.in-Some.is) }
+
+-- what is not below the object has not changed
+unchanged : (c : After-mark_below) (k : ℕ) → has (tree_at (handles_of (scene_of c.args.store.now).trees) c.args.h.0) k ≡ false → is_changed c.mark_below.new.marks k ≡ false
+unchanged c k out =
+    c.mark_below.ensures.marks.changed k
+    ∙ (ap (λ (b : Bool). b || has (tree_at c.tree.result.now.forest c.args.h.0) k) (none-changed c.args.marks.now k (c.requires.none.none k))
+    ∙ subst (λ (f : Forest ℕ). has (tree_at f c.args.h.0) k ≡ false) (sym c.tree.ensures.forest) out)
+
+pub returns-in_default-clause-others : goal.returns-in_default-clause-others
+returns-in_default-clause-others c k out own above =
+    unmarked-by c.args.marks.now c.mark_children.new.self k (c.requires.none.none k)
+    (c.mark_children.ensures.changed k ∙ unchanged (goal.at.returns-in_default-clause-others c).After-mark_below k out)
+    (λ part. c.mark_below.ensures.marks.parents k (sym (c.mark_children.ensures.others k own) ∙ part))
+
+pub returns-in-Some-clause-others : goal.returns-in-Some-clause-others
+returns-in-Some-clause-others c k out own above =
+    let last = c.mark_children-in-Some.ensures in
+    unmarked-by c.args.marks.now c.mark_children-in-Some.new.self k (c.requires.none.none k)
+    (last.changed k ∙ (c.mark_children.ensures.changed k ∙ unchanged (goal.at.returns-in-Some-clause-others c).After-mark_below k out))
+    (λ part. c.mark_below.ensures.marks.parents k (sym (last.others k (above c.in-Some.old c.in-Some.is) ∙ c.mark_children.ensures.others k own) ∙ part))

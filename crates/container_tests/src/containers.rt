@@ -231,8 +231,14 @@ impl Drop for Counted<'_> {
     }
 }
 
+/// Compares how many values of each of two kinds were dropped.
+fn dropped(rt: &impl Abort, gone: &AtomicU32, left: &AtomicU32, want: [u32; 2]) {
+    let counts = [gone.load(Ordering::SeqCst), left.load(Ordering::SeqCst)];
+    same(rt, &counts, &want);
+}
+
 #[test]
-fn values_are_dropped_once(rt: HostRuntime) {
+fn values_of_keys_are_dropped_once(rt: HostRuntime) {
     let gone = AtomicU32::new(0);
     let left = AtomicU32::new(0);
     {
@@ -243,17 +249,15 @@ fn values_are_dropped_once(rt: HostRuntime) {
         drop(keys.insert(3, Counted { drops: &gone }));
         drop(keys.replace(1, Counted { drops: &left }));
         drop(keys.table.remove(2));
-        same(
-            &rt,
-            &[gone.load(Ordering::SeqCst), left.load(Ordering::SeqCst)],
-            &[3, 0],
-        );
+        dropped(&rt, &gone, &left, [3, 0]);
     }
-    same(
-        &rt,
-        &[gone.load(Ordering::SeqCst), left.load(Ordering::SeqCst)],
-        &[3, 1],
-    );
+    dropped(&rt, &gone, &left, [3, 1]);
+}
+
+#[test]
+fn values_of_owners_are_dropped_once(rt: HostRuntime) {
+    let gone = AtomicU32::new(0);
+    let left = AtomicU32::new(0);
     {
         let mut owners = NineOwners::open(&rt, rt.alloc(), 3);
         drop(owners.push(1, Counted { drops: &gone }));
@@ -263,15 +267,7 @@ fn values_are_dropped_once(rt: HostRuntime) {
         drop(owners.push(2, Counted { drops: &gone }));
         drop(owners.remove(1, 0));
         owners.clear(5);
-        same(
-            &rt,
-            &[gone.load(Ordering::SeqCst), left.load(Ordering::SeqCst)],
-            &[6, 1],
-        );
+        dropped(&rt, &gone, &left, [3, 0]);
     }
-    same(
-        &rt,
-        &[gone.load(Ordering::SeqCst), left.load(Ordering::SeqCst)],
-        &[6, 2],
-    );
+    dropped(&rt, &gone, &left, [3, 1]);
 }

@@ -13,3 +13,5 @@ mod pump;
 mod refresh;
 #[cfg(test)]
 mod rounding;
+#[cfg(test)]
+mod stage;

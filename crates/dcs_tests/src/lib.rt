@@ -1,7 +1,9 @@
-//! Tests of a turned panel over a bus in memory, and of whole runs on it.
+//! Tests of a turned panel over a bus in memory.
 #![tactic(auto)]
 
 #[cfg(test)]
+mod frames;
+#[cfg(test)]
 mod rows;
 #[cfg(test)]
-mod runs;
+mod sending;

@@ -1,15 +1,16 @@
 //! The bytes that a transfer sends, turned and not. They were worked out by hand.
-ghost use Rattle.std.specs.Prelude.{◌≡◌, ◌<◌, ◌≤◌, IsSome, IfOk, pos};
-ghost use Rattle.gui_edge.specs.Panel.{CanStart};
+ghost use Rattle.std.specs.Prelude.{◌≡◌, ◌≤◌, None, pos};
+ghost use Rattle.gui_base.specs.Area.{area_at};
 
-use gui_base::{Area, Block, NoMemory, Rgb565, Steps};
+use crate::sending::{line, send};
+use gui_base::{Block, Rgb565};
 use gui_color::DrawBuf;
-use gui_edge::{MemSink, Panel, Polled};
+use gui_edge::{MemSink, Panel};
 use panel_dcs::{DcsPanel, LogBus};
 use std::alloc::Global;
 use std::marker::Brand;
 use std::process::Abort;
-use std::sync::ledger::{Blank, Ledger};
+use std::sync::ledger::Blank;
 use std::test::Fail;
 
 /// A byte of the bus, with true for a command.
@@ -56,80 +57,75 @@ const QUARTER: [Byte; 15] = [
     (false, 0xE0),
 ];
 
-/// A buffer with a red pixel at column 1 of line 0 and a green one beside it.
-fn red_and_green<L: Ledger>(alloc: Global, blank: Blank) -> Result<DrawBuf, NoMemory>
-    requires name { blank.name ≡ L.name }
-    requires parts { blank.parts ≡ L.parts }
-    requires some { 0 < blank.parts }
-    ensures { IfOk result (λ buf. buf.area ≡ record { x1 = pos 1; y1 = pos 0; x2 = pos 2; y2 = pos 0 }) }
-{
-    let (book, all) = blank.open::<L>();
-    let mut steps = Steps::new(book, all);
-    let mut buf = DrawBuf::open(alloc, 8)?;
-    buf.begin(Area::at(1, 0, 2, 1), &mut steps);
-    buf.row_mut(0, 1, 2)
-        .copy_from_slice(&[Rgb565(0xF800), Rgb565(0x07E0)]);
-    Ok(buf)
-}
-
-/// Sends a buffer, by at most two polls, and tells whether all of it came through.
-fn send<P: Panel>(panel: &mut P, buf: DrawBuf) -> bool
+/// Opens a panel of 4 by 2 pixels, sends a buffer, by at most two polls, and tells whether all of it came through.
+fn show<P: Panel>(alloc: Global, panel: &mut P, buf: DrawBuf) -> bool
+    requires closed { (P.state panel.old).limit ≡ 0 }
     requires free { (P.state panel.old).coming ≡ None }
-    requires area { CanStart (P.state panel.old) buf }
+    requires area { buf.area ≡ area_at (pos 1) (pos 0) 2 1 }
 {
-    if panel.start(buf).is_err() {
-        return false;
-    }
-    match panel.poll() {
-        Polled::Ready(_) => true,
-        Polled::NotYet => matches!(panel.poll(), Polled::Ready(_)),
-        Polled::Failed(_) => false,
-    }
+    panel.open(alloc, 4, 2, 8, Block { w: 1, h: 1 }).is_ok() && send(panel, buf, 2)
 }
 
-/// Compares the bytes that a bus has kept from a place on.
-fn check_bytes(rt: &impl Abort, bus: &LogBus, from: usize, expected: &[Byte])
+/// The bus after a red pixel at column 1 of line 0 and a green one beside it were sent on a turn, and whether they came
+/// through.
+fn sent(alloc: Global, turn: u8) -> Result<(bool, LogBus), Fail>
+    requires { turn ≤ 3 }
+{
+    let buf = line::<Brand>(
+        alloc,
+        1,
+        0,
+        &[Rgb565(0xF800), Rgb565(0x07E0)],
+        Blank::new(1),
+    )?;
+    let frames = MemSink::with_capacity(alloc, 64, Vec::new(alloc))?;
+    let bus = LogBus::with_capacity(alloc, 1000, Vec::new(alloc))?;
+    let mut panel = DcsPanel::new(frames, bus, turn);
+    let came = show(alloc, &mut panel, buf);
+    let (_frames, bus) = panel.into_parts();
+    Ok((came, bus))
+}
+
+/// How many of these bytes a bus has kept from a place on, up to the first that it has not.
+fn count_kept(bus: &LogBus, from: usize, bytes: &[Byte]) -> usize
     requires { from ≤ 4 }
 {
-    for (i, byte) in expected.iter().enumerate() {
-        assert_eq!(rt; bus.nth(from + i), Some(*byte), "at {i}");
+    for (i, byte) in bytes.iter().enumerate() {
+        if bus.nth(from + i) != Some(*byte) {
+            return i;
+        }
     }
+    bytes.len()
 }
 
-/// Opens a panel of 4 by 2 pixels and sends the buffer: the bus keeps the bytes of the opening and these, and no more.
-fn check_transfer<L: Ledger>(
+/// The bus has kept the bytes of the opening and these, and no more.
+fn check_kept(rt: &impl Abort, bus: &LogBus, expected: &[Byte; 15]) {
+    assert_eq!(rt; count_kept(bus, 0, &OPENING), 4);
+    assert_eq!(rt; count_kept(bus, 4, expected), 15);
+    assert_eq!(rt; bus.nth(19), None);
+}
+
+/// On a turn the buffer comes through, and these are its bytes.
+fn check_transfer(
     rt: &impl Abort,
     alloc: Global,
-    blank: Blank,
     turn: u8,
     expected: &[Byte; 15],
 ) -> Result<(), Fail>
-    requires turn { turn ≤ 3 }
-    requires name { blank.name ≡ L.name }
-    requires parts { blank.parts ≡ L.parts }
-    requires some { 0 < blank.parts }
+    requires { turn ≤ 3 }
 {
-    let buf = red_and_green::<L>(alloc, blank)?;
-    let bus = LogBus::with_capacity(alloc, 1000, Vec::new(alloc))?;
-    let frames = MemSink::with_capacity(alloc, 64, Vec::new(alloc))?;
-    let mut panel = DcsPanel::new(frames, bus, turn);
-    if let Err(fault) = panel.open(alloc, 4, 2, 8, Block { w: 1, h: 1 }) {
-        return Err(Fail::from(fault));
-    }
-    assert!(rt; send(&mut panel, buf));
-    let (_frames, bus) = panel.into_parts();
-    check_bytes(rt, &bus, 0, &OPENING);
-    check_bytes(rt, &bus, 4, expected);
-    assert_eq!(rt; bus.nth(19), None);
+    let (came, bus) = sent(alloc, turn)?;
+    assert!(rt; came);
+    check_kept(rt, &bus, expected);
     Ok(())
 }
 
 #[test]
 fn a_row_of_two_pixels_is_sent_as_one_row(rt: HostRuntime) -> Result<(), Fail> {
-    check_transfer::<Brand>(&rt, rt.alloc(), Blank::new(1), 0, &UPRIGHT)
+    check_transfer(&rt, rt.alloc(), 0, &UPRIGHT)
 }
 
 #[test]
 fn by_a_quarter_it_is_sent_as_two_rows(rt: HostRuntime) -> Result<(), Fail> {
-    check_transfer::<Brand>(&rt, rt.alloc(), Blank::new(1), 1, &QUARTER)
+    check_transfer(&rt, rt.alloc(), 1, &QUARTER)
 }

@@ -3,12 +3,13 @@ ghost use Rattle.std.specs.Prelude.{◌≡◌, ◌<◌, ◌≤◌, false};
 ghost use Rattle.gui_base.specs.Area.{is_empty, size_of};
 ghost use Rattle.gui_base.specs.Corners.{rect_of};
 
-use gui_base::{Area, NoMemory, Rgb565, Steps};
+use gui_base::{Area, Rgb565, Steps};
 use gui_color::DrawBuf;
 use gui_draw::{fill, ink, picture, ring};
 use gui_font::{Fonts, Images, TextAlign, TextLook};
 use std::alloc::Global;
 use std::marker::Brand;
+use std::process::Abort;
 use std::sync::ledger::{Blank, Ledger};
 
 /// All its pixels.
@@ -115,19 +116,28 @@ fn draw_item<L: Ledger>(buf: &mut DrawBuf, clip: Area, item: Item<'_>, steps: &m
     }
 }
 
+/// A buffer of at most so many pixels.
+pub(crate) fn opened(rt: &impl Abort, alloc: Global, limit: u32) -> DrawBuf
+    requires some { 1 ≤ limit }
+    requires most { limit ≤ 48 }
+    ensures { result.limit ≡ limit }
+{
+    DrawBuf::open(alloc, limit).expect(rt, "no memory")
+}
+
 /// An item in a clip: the pixels that are not black, line by line, each line as the bits of a byte from the
 /// left.
-pub(crate) fn seen(alloc: Global, clip: Area, item: Item<'_>) -> Result<[u8; 6], NoMemory> {
-    let mut buf = DrawBuf::open(alloc, 48)?;
+pub(crate) fn seen(rt: &impl Abort, alloc: Global, clip: Area, item: Item<'_>) -> [u8; 6] {
+    let mut buf = opened(rt, alloc, 48);
     draw(&mut buf, WHOLE, clip, &[item]);
-    Ok(lines_of(buf.pixels()))
+    lines_of(buf.pixels())
 }
 
 /// Items over all pixels: the number of the first pixel's colour.
-pub(crate) fn first_number(alloc: Global, items: &[Item<'_>]) -> Result<u16, NoMemory> {
-    let mut buf = DrawBuf::open(alloc, 48)?;
+pub(crate) fn first_number(rt: &impl Abort, alloc: Global, items: &[Item<'_>]) -> u16 {
+    let mut buf = opened(rt, alloc, 48);
     draw(&mut buf, WHOLE, WHOLE, items);
-    Ok(number_at(buf.pixels(), 0))
+    number_at(buf.pixels(), 0)
 }
 
 /// The number of the colour at a place: 0 where there is none.

@@ -1,18 +1,15 @@
 //! Images.
 
-use crate::canvas::{Item, SHADES, Shape, WHOLE, draw, first_number, number_at, white};
-use crate::checks::same_at;
-use gui_base::{Area, NoMemory, Rgb565};
-use gui_color::DrawBuf;
+use crate::canvas::{Item, Shape, WHOLE, draw, first_number, number_at, opened, white};
+use crate::checks::{check_shades, same_at};
+use gui_base::{Area, Rgb565};
 use gui_font::{Format, Images};
 use std::alloc::Global;
-use std::test::Fail;
+use std::process::Abort;
 
 /// The images 1, two rows of three colours, and 2 to 4, one pixel each: white, an opacity, and red with one.
-fn images(alloc: Global) -> Result<Images, &'static str> {
-    let Ok(mut images) = Images::with_capacity(alloc, 4, 18) else {
-        return Err("no memory");
-    };
+fn images(rt: &impl Abort, alloc: Global) -> Images {
+    let mut images = Images::with_capacity(alloc, 4, 18).expect(rt, "no memory");
     let answers = [
         images.begin(1, Format::Rgb565, 3, 2),
         images.row(1, 0, &[0, 1, 0, 2, 0, 3]),
@@ -24,25 +21,22 @@ fn images(alloc: Global) -> Result<Images, &'static str> {
         images.begin(4, Format::Rgb565Alpha, 1, 1),
         images.row(4, 0, &[0xF8, 0, 0x80]),
     ];
-    if answers == [Ok(()); 9] {
-        Ok(images)
-    } else {
-        Err("refused")
-    }
+    same_at(rt, &"the images", &answers, &[Ok(()); 9]);
+    images
 }
 
 /// The first image over black: the numbers of the first four pixels of two lines.
-fn shown(alloc: Global, images: &Images, clip: Area, area: Area) -> Result<[u16; 8], NoMemory> {
-    let mut buf = DrawBuf::open(alloc, 48)?;
+fn shown(rt: &impl Abort, alloc: Global, images: &Images, clip: Area, area: Area) -> [u16; 8] {
+    let mut buf = opened(rt, alloc, 48);
     let shape = Shape::Image { images, id: 1 };
     draw(&mut buf, WHOLE, clip, &[white(shape, area)]);
     let colors = buf.pixels();
-    Ok([0, 1, 2, 3, 8, 9, 10, 11].map(|i| number_at(colors, i)))
+    [0, 1, 2, 3, 8, 9, 10, 11].map(|i| number_at(colors, i))
 }
 
 #[test]
-fn images_are_cut_at_each_side(rt: HostRuntime) -> Result<(), Fail> {
-    let images = images(rt.alloc())?;
+fn images_are_cut_at_each_side(rt: HostRuntime) {
+    let images = images(&rt, rt.alloc());
     for (clip, want) in [
         (WHOLE, [1, 2, 3, 0, 4, 5, 6, 0]),
         (Area::at(1, 0, 3, 3), [0, 2, 3, 0, 0, 5, 6, 0]),
@@ -50,24 +44,22 @@ fn images_are_cut_at_each_side(rt: HostRuntime) -> Result<(), Fail> {
         (Area::at(0, 1, 4, 2), [0, 0, 0, 0, 4, 5, 6, 0]),
         (Area::at(0, 0, 4, 1), [1, 2, 3, 0, 0, 0, 0, 0]),
     ] {
-        let numbers = shown(rt.alloc(), &images, clip, WHOLE)?;
-        same_at(&rt, &(clip.x1, clip.y1), &numbers, &want);
+        let numbers = shown(&rt, rt.alloc(), &images, clip, WHOLE);
+        same_at(&rt, &clip, &numbers, &want);
     }
-    Ok(())
 }
 
 #[test]
-fn images_stand_at_the_top_left_of_their_area(rt: HostRuntime) -> Result<(), Fail> {
-    let images = images(rt.alloc())?;
+fn images_stand_at_the_top_left_of_their_area(rt: HostRuntime) {
+    let images = images(&rt, rt.alloc());
     for (area, want) in [
         (Area::at(1, 1, 2, 1), [0, 0, 0, 0, 0, 1, 2, 0]),
         (Area::at(-1, -1, 5, 4), [5, 6, 0, 0, 0, 0, 0, 0]),
         (Area::at(1, 0, 0, 2), [0; 8]),
     ] {
-        let numbers = shown(rt.alloc(), &images, WHOLE, area)?;
-        same_at(&rt, &(area.x1, area.y1), &numbers, &want);
+        let numbers = shown(&rt, rt.alloc(), &images, WHOLE, area);
+        same_at(&rt, &area, &numbers, &want);
     }
-    Ok(())
 }
 
 /// An image over all pixels with an opacity; where it has no colours it is red.
@@ -81,18 +73,14 @@ fn image(images: &Images, id: u16, opa: u8) -> Item<'_> {
 }
 
 #[test]
-fn images_are_mixed_once(rt: HostRuntime) -> Result<(), Fail> {
-    let images = images(rt.alloc())?;
-    for (opa, want) in SHADES {
-        let number = first_number(rt.alloc(), &[image(&images, 2, opa)])?;
-        same_at(&rt, &opa, &number, &want);
-    }
-    Ok(())
+fn images_are_mixed_once(rt: HostRuntime) {
+    let images = images(&rt, rt.alloc());
+    check_shades(&rt, rt.alloc(), image(&images, 2, 255));
 }
 
 #[test]
-fn texels_have_their_opacity(rt: HostRuntime) -> Result<(), Fail> {
-    let images = images(rt.alloc())?;
+fn texels_have_their_opacity(rt: HostRuntime) {
+    let images = images(&rt, rt.alloc());
     let under = white(Shape::Fill, WHOLE);
     for (id, opa, want) in [
         (3, 255, 0xFBEF),
@@ -101,8 +89,7 @@ fn texels_have_their_opacity(rt: HostRuntime) -> Result<(), Fail> {
         (4, 128, 0xFDF7),
         (5, 255, 0xFFFF),
     ] {
-        let number = first_number(rt.alloc(), &[under, image(&images, id, opa)])?;
+        let number = first_number(&rt, rt.alloc(), &[under, image(&images, id, opa)]);
         same_at(&rt, &(id, opa), &number, &want);
     }
-    Ok(())
 }

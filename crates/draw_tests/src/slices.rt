@@ -1,32 +1,26 @@
 //! A slice of one line against the same line of the whole.
 ghost use Rattle.std.specs.Prelude.{◌<◌};
 
-use crate::canvas::{Item, Shape, WHOLE, draw};
+use crate::canvas::{Item, Shape, WHOLE, draw, opened};
 use crate::checks::same_at;
 use gui_base::{Area, Rgb565};
-use gui_color::DrawBuf;
 use gui_font::{Fonts, Format, Images};
 use std::alloc::Global;
-use std::test::Fail;
+use std::process::Abort;
 
 const BLUE: Rgb565 = Rgb565(0x001F);
 
 /// An image of opacities.
-fn images(alloc: Global) -> Result<Images, &'static str> {
-    let Ok(mut images) = Images::with_capacity(alloc, 1, 9) else {
-        return Err("no memory");
-    };
+fn images(rt: &impl Abort, alloc: Global) -> Images {
+    let mut images = Images::with_capacity(alloc, 1, 9).expect(rt, "no memory");
     let answers = [
         images.begin(1, Format::Alpha, 3, 3),
         images.row(1, 0, &[0x10, 0x20, 0x30]),
         images.row(1, 1, &[0x40, 0x80, 0xC0]),
         images.row(1, 2, &[0xFF, 0xF0, 0x03]),
     ];
-    if answers == [Ok(()); 4] {
-        Ok(images)
-    } else {
-        Err("refused")
-    }
+    same_at(rt, &"the image", &answers, &[Ok(()); 4]);
+    images
 }
 
 /// One item of each kind, one over the other.
@@ -75,22 +69,25 @@ fn line(colors: &[Rgb565], y: usize) -> &[Rgb565]
     &colors[at..at + 8]
 }
 
-#[test]
-fn a_slice_is_a_line_of_the_whole(rt: HostRuntime) -> Result<(), Fail> {
-    let fonts = Fonts::with_capacity(rt.alloc(), 0, 0, 0)?;
-    let images = images(rt.alloc())?;
-    let items = items(&fonts, &images);
-    let mut whole = DrawBuf::open(rt.alloc(), 48)?;
-    draw(&mut whole, WHOLE, WHOLE, &items);
+/// Whether each line of items in a buffer of all lines is what they are in a buffer of that line alone.
+fn check_lines(rt: &impl Abort, alloc: Global, items: &[Item<'_>]) {
+    let mut whole = opened(rt, alloc, 48);
+    draw(&mut whole, WHOLE, WHOLE, items);
     for y in 0..6u8 {
-        let mut slice = DrawBuf::open(rt.alloc(), 8)?;
-        draw(&mut slice, Area::at(0, i32::from(y), 8, 1), WHOLE, &items);
+        let mut slice = opened(rt, alloc, 8);
+        draw(&mut slice, Area::at(0, i32::from(y), 8, 1), WHOLE, items);
         same_at(
-            &rt,
+            rt,
             &y,
             &slice.pixels(),
             &line(whole.pixels(), usize::from(y)),
         );
     }
-    Ok(())
+}
+
+#[test]
+fn a_slice_is_a_line_of_the_whole(rt: HostRuntime) {
+    let fonts = Fonts::with_capacity(rt.alloc(), 0, 0, 0).expect(&rt, "no memory");
+    let images = images(&rt, rt.alloc());
+    check_lines(&rt, rt.alloc(), &items(&fonts, &images));
 }

@@ -63,15 +63,32 @@ fn five_paths_go_from_end_to_end(rt: HostRuntime) {
 #[test]
 fn delay_playback_and_repeats(rt: HostRuntime) {
     let spec = there_and_back();
-    same(&rt, &value_of(&spec, 39), &AnimValue::Before);
-    same(&rt, &value_of(&spec, 40), &AnimValue::Now(100));
-    same(&rt, &value_of(&spec, 211), &AnimValue::Now(31));
-    same(&rt, &value_of(&spec, 540), &AnimValue::Now(-100));
-    same(&rt, &value_of(&spec, 639), &AnimValue::Now(-2));
-    same(&rt, &value_of(&spec, 740), &AnimValue::Now(100));
-    same(&rt, &value_of(&spec, 2139), &AnimValue::Now(98));
-    same(&rt, &value_of(&spec, 2140), &AnimValue::Last(100));
-    same(&rt, &value_of(&spec, u64::MAX), &AnimValue::Last(100));
+    let values = [
+        value_of(&spec, 39),
+        value_of(&spec, 40),
+        value_of(&spec, 211),
+        value_of(&spec, 540),
+        value_of(&spec, 639),
+        value_of(&spec, 740),
+        value_of(&spec, 2139),
+        value_of(&spec, 2140),
+        value_of(&spec, u64::MAX),
+    ];
+    same(
+        &rt,
+        &values,
+        &[
+            AnimValue::Before,
+            AnimValue::Now(100),
+            AnimValue::Now(31),
+            AnimValue::Now(-100),
+            AnimValue::Now(-2),
+            AnimValue::Now(100),
+            AnimValue::Now(98),
+            AnimValue::Last(100),
+            AnimValue::Last(100),
+        ],
+    );
 }
 
 /// Whose the nth animation is, and when it was started.
@@ -83,20 +100,28 @@ fn nth(anims: &Anims, n: u32) -> Option<(u16, u64)> {
 #[test]
 fn the_last_slot_and_a_replacement(rt: HostRuntime) {
     let mut anims = Anims::open(rt.alloc(), 2).expect(&rt, "no memory");
-    same(&rt, &anims.start(hundred(Path::Step), 7), &Ok(()));
-    same(&rt, &anims.start(there_and_back(), 8), &Ok(()));
     let mut third = hundred(Path::Step);
     third.var = Var::Y;
+    let answers = [
+        anims.start(hundred(Path::Step), 7),
+        anims.start(there_and_back(), 8),
+        anims.start(third, 9),
+        anims.start(hundred(Path::Linear), 9),
+        anims.stop(Handle(11), Var::X),
+    ];
     same(
         &rt,
-        &anims.start(third, 9),
-        &Err(Refusal::Full(Pool::Anims)),
+        &answers,
+        &[
+            Ok(()),
+            Ok(()),
+            Err(Refusal::Full(Pool::Anims)),
+            Ok(()),
+            Err(Refusal::Unknown),
+        ],
     );
-    same(&rt, &anims.start(hundred(Path::Linear), 9), &Ok(()));
-    same(&rt, &nth(&anims, 0), &Some((11, 8)));
-    same(&rt, &nth(&anims, 1), &Some((10, 9)));
-    same(&rt, &nth(&anims, 2), &None);
-    same(&rt, &anims.stop(Handle(11), Var::X), &Err(Refusal::Unknown));
+    let running = [nth(&anims, 0), nth(&anims, 1), nth(&anims, 2)];
+    same(&rt, &running, &[Some((11, 8)), Some((10, 9)), None]);
     anims.drop_ended(1008);
     same(&rt, &anims.spare(), &0);
     anims.drop_ended(1009);

@@ -1,10 +1,10 @@
 //! Fonts in memory. The texts and lines that are expected were worked out by hand.
+ghost use Rattle.std.specs.Prelude.{◌<◌};
 
 use bdf_font::{BdfStatus, run_bdf};
 use gui_edge::{MemSink, MemSource};
 use std::alloc::Global;
 use std::process::Abort;
-use std::test::Fail;
 
 const ONE_GLYPH: &[u8] =
     b"STARTFONT 2.1\nFONTBOUNDINGBOX 3 5 0 -1\nCHARS 1\nSTARTCHAR A\nENCODING 65\nDWIDTH 4 0\n\
@@ -17,88 +17,74 @@ const ROW_MISSING: &[u8] =
     b"STARTFONT 2.1\nFONTBOUNDINGBOX 3 5 0 -1\nCHARS 1\nSTARTCHAR A\nENCODING 65\nDWIDTH 4 0\n\
     BBX 3 4 0 0\nBITMAP\n40\nA0\nE0\nENDCHAR\nENDFONT\n";
 
-/// What a font comes to under a word, of which a read gives at most `piece` bytes: how it ended, and what was
-/// written.
-fn written(
-    alloc: Global,
-    word: &str,
-    font: &[u8],
+/// What is read, and how: the word, the font, how many bytes a read gives at most, and the numbers of the read and of
+/// the put that fail, from 1.
+#[derive(Clone, Copy)]
+struct Run<'a> {
+    word: &'a str,
+    font: &'a [u8],
     piece: usize,
-    reads: Vec<u64>,
-    puts: Vec<u64>,
-) -> Result<(BdfStatus, MemSink), Fail> {
-    let mut source = MemSource::new(Vec::from_slice(alloc, font)?, piece.max(1), reads);
-    let mut out = MemSink::with_capacity(alloc, 4096, puts)?;
-    let status = run_bdf(alloc, &[word], &mut source, &mut out);
-    Ok((status, out))
+    read: u64,
+    put: u64,
+}
+
+/// The font of one glyph as font 1, with no call that fails.
+const ONE: Run<'static> = Run {
+    word: "1",
+    font: ONE_GLYPH,
+    piece: 64,
+    read: 0,
+    put: 0,
+};
+
+/// It ends so, and so much is written.
+fn check(rt: &impl Abort, alloc: Global, run: Run, status: BdfStatus, lines: &[u8])
+    requires { 0 < run.piece }
+{
+    let font = Vec::from_slice(alloc, run.font).expect(rt, "no memory");
+    let reads = vec![in alloc; run.read].expect(rt, "no memory");
+    let puts = vec![in alloc; run.put].expect(rt, "no memory");
+    let mut source = MemSource::new(font, run.piece, reads);
+    let mut out = MemSink::with_capacity(alloc, 4096, puts).expect(rt, "no memory");
+    let ended = run_bdf(alloc, &[run.word], &mut source, &mut out);
+    assert_eq!(rt; (ended, out.bytes()), (status, lines));
 }
 
 #[test]
-fn a_font_of_one_glyph(rt: HostRuntime) -> Result<(), Fail> {
-    let alloc = rt.alloc();
+fn a_font_of_one_glyph(rt: HostRuntime) {
     for piece in [1, 7, 4096] {
-        let (status, out) = written(
-            alloc,
-            "1",
-            ONE_GLYPH,
-            piece,
-            Vec::new(alloc),
-            Vec::new(alloc),
-        )?;
-        assert_eq!(rt; status, BdfStatus::Done);
-        assert_eq!(rt; out.bytes(), ITS_LINES);
+        let run = Run { piece, ..ONE };
+        check(&rt, rt.alloc(), run, BdfStatus::Done, ITS_LINES);
     }
-    Ok(())
 }
 
 #[test]
-fn a_row_is_missing(rt: HostRuntime) -> Result<(), Fail> {
-    let alloc = rt.alloc();
-    let (status, out) = written(
-        alloc,
-        "1",
-        ROW_MISSING,
-        64,
-        Vec::new(alloc),
-        Vec::new(alloc),
-    )?;
-    assert_eq!(rt; status, BdfStatus::Bad { line: 12 });
-    assert!(rt; out.bytes().is_empty());
-    Ok(())
+fn a_row_is_missing(rt: HostRuntime) {
+    let run = Run {
+        font: ROW_MISSING,
+        ..ONE
+    };
+    check(&rt, rt.alloc(), run, BdfStatus::Bad { line: 12 }, b"");
 }
 
 #[test]
-fn a_read_or_the_put_fails(rt: HostRuntime) -> Result<(), Fail> {
-    let alloc = rt.alloc();
-    let (status, out) = written(
-        alloc,
-        "1",
-        ONE_GLYPH,
-        64,
-        vec![in alloc; 2]?,
-        Vec::new(alloc),
-    )?;
-    assert_eq!(rt; status, BdfStatus::ReadFault);
-    assert!(rt; out.bytes().is_empty());
-    let (status, _) = written(
-        alloc,
-        "1",
-        ONE_GLYPH,
-        64,
-        Vec::new(alloc),
-        vec![in alloc; 1]?,
-    )?;
-    assert_eq!(rt; status, BdfStatus::WriteFault);
-    Ok(())
+fn a_read_fails(rt: HostRuntime) {
+    let run = Run { read: 2, ..ONE };
+    check(&rt, rt.alloc(), run, BdfStatus::ReadFault, b"");
 }
 
 #[test]
-fn words_that_are_no_number_of_a_font(rt: HostRuntime) -> Result<(), Fail> {
-    let alloc = rt.alloc();
+fn the_put_fails(rt: HostRuntime) {
+    let run = Run { put: 1, ..ONE };
+    // Half of the bytes of a put that fails come through.
+    let half = ITS_LINES.split_at(32).0;
+    check(&rt, rt.alloc(), run, BdfStatus::WriteFault, half);
+}
+
+#[test]
+fn words_that_are_no_number_of_a_font(rt: HostRuntime) {
     for word in ["0", "100", "01", "-1", "x", ""] {
-        let (status, out) = written(alloc, word, ONE_GLYPH, 64, Vec::new(alloc), Vec::new(alloc))?;
-        assert_eq!(rt; status, BdfStatus::Usage);
-        assert!(rt; out.bytes().is_empty());
+        let run = Run { word, ..ONE };
+        check(&rt, rt.alloc(), run, BdfStatus::Usage, b"");
     }
-    Ok(())
 }

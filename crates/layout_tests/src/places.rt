@@ -1,5 +1,5 @@
 //! The places of a store's objects, worked out by hand.
-ghost use Rattle.std.specs.Prelude.{◌≡◌};
+ghost use Rattle.std.specs.Prelude.{◌≡◌, All};
 ghost use Rattle.scene_defs.specs.Valid.{IsChange};
 ghost use Rattle.gui_store.specs.Views.{scene_of};
 ghost use Rattle.gui_layout.specs.Solved.{AreSolved, limits_of};
@@ -10,7 +10,7 @@ use gui_layout::Places;
 use gui_store::Store;
 use scene_defs::Change;
 use std::alloc::Global;
-use std::test::Fail;
+use std::process::Abort;
 
 const SCREEN: Handle = Handle(3);
 
@@ -25,37 +25,29 @@ fn make(store: &mut Store, change: &Change) -> Result<(), &'static str>
     Ok(())
 }
 
-/// Makes an object of this size.
-fn add(
-    store: &mut Store,
-    h: u16,
-    parent: Handle,
-    width: Length,
-    height: Length,
-) -> Result<(), &'static str>
+/// Makes the changes in order, or tells that one is refused.
+fn make_all(store: &mut Store, changes: &[Change]) -> Result<(), &'static str>
+    requires { All IsChange changes.now }
     ensures { (scene_of store.new).limits ≡ (scene_of store.old).limits }
 {
-    make(store, &Change::New(Handle(h), parent, Kind::Obj))?;
-    make(store, &Change::Size(Handle(h), width, height))
+    for change in changes {
+        make(store, change)?;
+    }
+    Ok(())
 }
 
-/// Makes one of so many pixels.
-fn add_box(
-    store: &mut Store,
-    h: u16,
-    parent: Handle,
-    width: u16,
-    height: u16,
-) -> Result<(), &'static str>
-    ensures { (scene_of store.new).limits ≡ (scene_of store.old).limits }
+/// A new object.
+fn new(h: u16, parent: Handle) -> Change<'static>
+    ensures { IsChange result }
 {
-    add(
-        store,
-        h,
-        parent,
-        Length::Pixels(width),
-        Length::Pixels(height),
-    )
+    Change::New(Handle(h), parent, Kind::Obj)
+}
+
+/// The size of an object in pixels.
+fn size(h: u16, width: u16, height: u16) -> Change<'static>
+    ensures { IsChange result }
+{
+    Change::Size(Handle(h), Length::Pixels(width), Length::Pixels(height))
 }
 
 /// The corners of an area.
@@ -83,22 +75,23 @@ fn is_nowhere(places: &Places, h: u16) -> bool {
     places.place(Handle(h)).is_none()
 }
 
-/// Makes a child of the screen that grows.
-fn add_growing(store: &mut Store, h: u16) -> Result<(), &'static str>
-    ensures { (scene_of store.new).limits ≡ (scene_of store.old).limits }
-{
-    add_box(store, h, SCREEN, 1, 1)?;
-    make(store, &Change::Grow(Handle(h), 1))
-}
-
 /// Makes a row of three children that grow.
 fn make_growing(store: &mut Store) -> Result<(), &'static str>
     ensures { (scene_of store.new).limits ≡ (scene_of store.old).limits }
 {
-    make(store, &Change::Flex(SCREEN, Flow::Row))?;
-    add_growing(store, 10)?;
-    add_growing(store, 11)?;
-    add_growing(store, 12)
+    let changes = [
+        Change::Flex(SCREEN, Flow::Row),
+        new(10, SCREEN),
+        size(10, 1, 1),
+        Change::Grow(Handle(10), 1),
+        new(11, SCREEN),
+        size(11, 1, 1),
+        Change::Grow(Handle(11), 1),
+        new(12, SCREEN),
+        size(12, 1, 1),
+        Change::Grow(Handle(12), 1),
+    ];
+    make_all(store, &changes)
 }
 
 /// Whether they share it.
@@ -116,32 +109,27 @@ fn growing_share(store: &mut Store, places: &mut Places) -> Result<bool, &'stati
     Ok(stand(places, &wanted) && is_nowhere(places, 13))
 }
 
-/// Makes a row that is as large as its children.
-fn add_row(store: &mut Store, h: u16) -> Result<(), &'static str>
-    ensures { (scene_of store.new).limits ≡ (scene_of store.old).limits }
-{
-    add(store, h, SCREEN, Length::Content, Length::Content)?;
-    make(store, &Change::Flex(Handle(h), Flow::Row))
-}
-
-/// Makes a hidden object of 20 by 20 pixels, which has a place of its own.
-fn add_hidden(store: &mut Store, h: u16, parent: Handle) -> Result<(), &'static str>
-    ensures { (scene_of store.new).limits ≡ (scene_of store.old).limits }
-{
-    add_box(store, h, parent, 20, 20)?;
-    make(store, &Change::Pos(Handle(h), 5, 1))?;
-    make(store, &Change::Flag(Handle(h), Flag::Hidden, true))
-}
-
-/// Makes a row of three children, the second of which is hidden and has a child.
+/// Makes a row of three children, which is as large as they are. The second one is hidden and has a place of its own
+/// and a child.
 fn make_hiding(store: &mut Store) -> Result<(), &'static str>
     ensures { (scene_of store.new).limits ≡ (scene_of store.old).limits }
 {
-    add_row(store, 10)?;
-    add_box(store, 11, Handle(10), 4, 2)?;
-    add_hidden(store, 12, Handle(10))?;
-    add_box(store, 13, Handle(12), 2, 2)?;
-    add_box(store, 14, Handle(10), 3, 3)
+    let changes = [
+        new(10, SCREEN),
+        Change::Size(Handle(10), Length::Content, Length::Content),
+        Change::Flex(Handle(10), Flow::Row),
+        new(11, Handle(10)),
+        size(11, 4, 2),
+        new(12, Handle(10)),
+        size(12, 20, 20),
+        Change::Pos(Handle(12), 5, 1),
+        Change::Flag(Handle(12), Flag::Hidden, true),
+        new(13, Handle(12)),
+        size(13, 2, 2),
+        new(14, Handle(10)),
+        size(14, 3, 3),
+    ];
+    make_all(store, &changes)
 }
 
 /// Whether nothing of an object is visible.
@@ -175,9 +163,14 @@ fn solve_three(store: &mut Store, places: &mut Places) -> Result<(), &'static st
     requires { limits_of places.old ≡ (scene_of store.old).limits }
     ensures { limits_of places.new ≡ (scene_of store.new).limits }
 {
-    add_box(store, 10, SCREEN, 4, 4)?;
-    make(store, &Change::New(Handle(11), Handle(10), Kind::Obj))?;
-    add_box(store, 12, SCREEN, 5, 5)?;
+    let changes = [
+        new(10, SCREEN),
+        size(10, 4, 4),
+        new(11, Handle(10)),
+        new(12, SCREEN),
+        size(12, 5, 5),
+    ];
+    make_all(store, &changes)?;
     places.solve_all(store);
     Ok(())
 }
@@ -186,8 +179,7 @@ fn solve_three(store: &mut Store, places: &mut Places) -> Result<(), &'static st
 fn remove(store: &mut Store) -> Result<(), &'static str>
     ensures { (scene_of store.new).limits ≡ (scene_of store.old).limits }
 {
-    make(store, &Change::Delete(Handle(10)))?;
-    make(store, &Change::New(Handle(13), SCREEN, Kind::Obj))
+    make_all(store, &[Change::Delete(Handle(10)), new(13, SCREEN)])
 }
 
 /// Whether those that were removed have no place after all were found again.
@@ -227,31 +219,25 @@ fn unmarked_stay(
     Ok(is_nowhere(places, 13) && stand(places, &wanted))
 }
 
-/// Makes an object of 20 by 20 pixels that is scrolled.
-fn add_scrolled(store: &mut Store, h: u16) -> Result<(), &'static str>
-    ensures { (scene_of store.new).limits ≡ (scene_of store.old).limits }
-{
-    add_box(store, h, SCREEN, 20, 20)?;
-    make(store, &Change::Flag(Handle(h), Flag::Scrollable, true))?;
-    make(store, &Change::Scroll(Handle(h), 7, 15))
-}
-
-/// Makes a small object beside its parent's corner.
-fn add_beside(store: &mut Store, h: u16, parent: Handle) -> Result<(), &'static str>
-    ensures { (scene_of store.new).limits ≡ (scene_of store.old).limits }
-{
-    add_box(store, h, parent, 8, 4)?;
-    make(store, &Change::Pos(Handle(h), 15, -6))
-}
-
-/// Makes a scrolled object with two children, the first with a child that is wider.
+/// Makes a scrolled object with two children: the first has a child that is wider, and the second stands
+/// beside the object's corner.
 fn make_scrolled(store: &mut Store) -> Result<(), &'static str>
     ensures { (scene_of store.new).limits ≡ (scene_of store.old).limits }
 {
-    add_scrolled(store, 10)?;
-    add_box(store, 11, Handle(10), 10, 60)?;
-    add_box(store, 12, Handle(11), 30, 4)?;
-    add_beside(store, 13, Handle(10))
+    let changes = [
+        new(10, SCREEN),
+        size(10, 20, 20),
+        Change::Flag(Handle(10), Flag::Scrollable, true),
+        Change::Scroll(Handle(10), 7, 15),
+        new(11, Handle(10)),
+        size(11, 10, 60),
+        new(12, Handle(11)),
+        size(12, 30, 4),
+        new(13, Handle(10)),
+        size(13, 8, 4),
+        Change::Pos(Handle(13), 15, -6),
+    ];
+    make_all(store, &changes)
 }
 
 /// Whether the children of an object reach so far, and are moved so far.
@@ -318,32 +304,57 @@ fn holds_on(alloc: Global, limits: &Limits, case: Case) -> Result<bool, &'static
     }
 }
 
-#[test]
-fn children_that_grow_share_a_row(rt: HostRuntime) -> Result<(), Fail> {
-    assert!(rt; holds_on(rt.alloc(), &Limits::with_sizes(10, 2, 2), Case::Growing)?);
-    Ok(())
+/// All is as it should be in a case on a panel of this size.
+fn check(rt: &impl Abort, alloc: Global, limits: &Limits, case: Case) {
+    assert_eq!(rt; holds_on(alloc, limits, case), Ok(true));
 }
 
 #[test]
-fn hidden_children_take_no_part(rt: HostRuntime) -> Result<(), Fail> {
-    assert!(rt; holds_on(rt.alloc(), &Limits::with_sizes(64, 32, 8), Case::Hiding)?);
-    Ok(())
+fn children_that_grow_share_a_row(rt: HostRuntime) {
+    check(
+        &rt,
+        rt.alloc(),
+        &Limits::with_sizes(10, 2, 2),
+        Case::Growing,
+    );
 }
 
 #[test]
-fn removed_objects_have_no_place(rt: HostRuntime) -> Result<(), Fail> {
-    assert!(rt; holds_on(rt.alloc(), &Limits::with_sizes(16, 8, 8), Case::Removed)?);
-    Ok(())
+fn hidden_children_take_no_part(rt: HostRuntime) {
+    check(
+        &rt,
+        rt.alloc(),
+        &Limits::with_sizes(64, 32, 8),
+        Case::Hiding,
+    );
 }
 
 #[test]
-fn with_no_marks_all_places_stay(rt: HostRuntime) -> Result<(), Fail> {
-    assert!(rt; holds_on(rt.alloc(), &Limits::with_sizes(16, 8, 8), Case::Unmarked)?);
-    Ok(())
+fn removed_objects_have_no_place(rt: HostRuntime) {
+    check(
+        &rt,
+        rt.alloc(),
+        &Limits::with_sizes(16, 8, 8),
+        Case::Removed,
+    );
 }
 
 #[test]
-fn a_scrolled_parent_moves_its_children(rt: HostRuntime) -> Result<(), Fail> {
-    assert!(rt; holds_on(rt.alloc(), &Limits::with_sizes(20, 20, 8), Case::Scrolled)?);
-    Ok(())
+fn with_no_marks_all_places_stay(rt: HostRuntime) {
+    check(
+        &rt,
+        rt.alloc(),
+        &Limits::with_sizes(16, 8, 8),
+        Case::Unmarked,
+    );
+}
+
+#[test]
+fn a_scrolled_parent_moves_its_children(rt: HostRuntime) {
+    check(
+        &rt,
+        rt.alloc(),
+        &Limits::with_sizes(20, 20, 8),
+        Case::Scrolled,
+    );
 }

@@ -96,19 +96,35 @@ fn a_writer_takes_parts_and_fails(rt: HostRuntime) {
     assert_eq!(rt; device.moved, 9);
 }
 
+/// Reads at most three of five bytes at a time; the second read fails.
+fn five_bytes(alloc: Global) -> Result<MemSource, Fail> {
+    let bytes = Vec::from_slice(alloc, b"abcde")?;
+    Ok(MemSource::new(bytes, 3, vec![in alloc; 2]?))
+}
+
+/// Has room for eight bytes; the first put fails.
+fn eight_bytes(alloc: Global) -> Result<MemSink, Fail> {
+    let fails = vec![in alloc; 1]?;
+    Ok(MemSink::with_capacity(alloc, 8, fails)?)
+}
+
+/// What is read comes to the sink, and what fails leaves both as they were but for what fitted.
+fn give_and_take(rt: &impl Abort, source: &mut MemSource, sink: &mut MemSink) {
+    let mut buf = [0; 4];
+    check_read(rt, source.read(&mut buf), Ok(3));
+    check_done(rt, sink.put(&buf[..3]), Err(Failed));
+    check_done(rt, sink.put(&buf[..3]), Ok(()));
+    check_read(rt, source.read(&mut buf), Err(Failed));
+    check_read(rt, source.read(&mut buf), Ok(2));
+    check_done(rt, sink.put(b"123456"), Err(Failed));
+    assert_eq!(rt; sink.bytes(), &b"aabc1234"[..]);
+}
+
 #[test]
 fn memory_gives_and_takes(rt: HostRuntime) -> Result<(), Fail> {
-    let alloc = rt.alloc();
-    let mut source = MemSource::new(Vec::from_slice(alloc, b"abcde")?, 3, vec![in alloc; 2]?);
-    let mut sink = MemSink::with_capacity(alloc, 8, vec![in alloc; 1]?)?;
-    let mut buf = [0; 4];
-    check_read(&rt, source.read(&mut buf), Ok(3));
-    check_done(&rt, sink.put(&buf[..3]), Err(Failed));
-    check_done(&rt, sink.put(&buf[..3]), Ok(()));
-    check_read(&rt, source.read(&mut buf), Err(Failed));
-    check_read(&rt, source.read(&mut buf), Ok(2));
-    check_done(&rt, sink.put(b"123456"), Err(Failed));
-    assert_eq!(rt; sink.bytes(), &b"aabc1234"[..]);
+    let mut source = five_bytes(rt.alloc())?;
+    let mut sink = eight_bytes(rt.alloc())?;
+    give_and_take(&rt, &mut source, &mut sink);
     Ok(())
 }
 
@@ -137,21 +153,30 @@ fn black(alloc: Global, area: Area) -> Result<DrawBuf, Fail>
     black_buffer::<Brand>(alloc, area, Blank::new(1))
 }
 
-/// A panel of two by two pixels, of which the first opening, the second start and the second poll fail.
+/// A plan by which the first opening, the second start and the second poll fail.
+fn plan(alloc: Global) -> Result<SimPlan, Fail>
+    ensures { IfOk result (λ it. it.fail_open ≡ true) }
+{
+    let fail_flush = vec![in alloc; 2]?;
+    let fail_poll = vec![in alloc; 2]?;
+    Ok(SimPlan {
+        fail_open: true,
+        fail_flush,
+        fail_poll,
+        moves: Vec::new(alloc),
+    })
+}
+
+/// A panel of two by two pixels that follows this plan, and is opened at the second try.
 fn small_panel(alloc: Global) -> Result<SimPanel<MemSink>, Fail>
     ensures sizes { IfOk result (λ it. (it.width ≡ 2) × (it.height ≡ 2) × (it.limit ≡ 4)) }
     ensures blocks { IfOk result (λ it. it.block ≡ one_pixel) }
     ensures still { IfOk result (λ it. it.coming ≡ None) }
 {
-    let plan = SimPlan {
-        fail_open: true,
-        fail_flush: vec![in alloc; 2]?,
-        fail_poll: vec![in alloc; 2]?,
-        moves: Vec::new(alloc),
-    };
     let frames = MemSink::with_capacity(alloc, 64, Vec::new(alloc))?;
-    let mut panel = SimPanel::new(frames, plan);
-    match panel.open(alloc, 2, 2, 4, Block { w: 1, h: 1 }) {
+    let mut panel = SimPanel::new(frames, plan(alloc)?);
+    let first = panel.open(alloc, 2, 2, 4, Block { w: 1, h: 1 });
+    match first {
         Err(OpenFault::Failed) => {}
         _ => return Err(Fail::from("the first opening does not fail")),
     }

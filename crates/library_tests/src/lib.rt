@@ -8,5 +8,3 @@ mod color;
 mod covers;
 #[cfg(test)]
 mod edge;
-#[cfg(test)]
-mod machine;

@@ -4,6 +4,7 @@ use gui_base::{Kind, Limits};
 use gui_change::Canvas;
 use gui_store::{Change, RowTable};
 use scene_script::{Command, Line, Maker, limits_of};
+use std::alloc::Global;
 use std::test::Fail;
 
 #[test]
@@ -15,19 +16,30 @@ fn ample_memory_opens_what_a_machine_is_made_of(rt: HostRuntime) -> Result<(), F
     Ok(())
 }
 
+/// The limits that words have.
+fn limits_in(alloc: Global, words: &[&str]) -> Result<Limits, Fail> {
+    match limits_of(alloc, words) {
+        Ok(Some(limits)) => Ok(limits),
+        _ => Err(Fail::from("no limits")),
+    }
+}
+
+/// Whether words have no limits.
+fn have_none(alloc: Global, words: &[&str]) -> bool {
+    matches!(limits_of(alloc, words), Ok(None))
+}
+
 #[test]
 fn words_have_limits_or_none(rt: HostRuntime) -> Result<(), Fail> {
     let alloc = rt.alloc();
-    let Ok(Some(limits)) = limits_of(alloc, &["8", "4", "2", "objects=9", "make=7"]) else {
-        return Err(Fail::from("no limits"));
-    };
+    let limits = limits_in(alloc, &["8", "4", "2", "objects=9", "make=7"])?;
     assert_eq!(rt; (limits.width, limits.height, limits.lines), (8, 4, 2));
     assert_eq!(rt;
         (limits.objects, limits.styles, limits.make),
         (9, 64, Some(7))
     );
-    assert!(rt; matches!(limits_of(alloc, &["8", "4"]), Ok(None)));
-    assert!(rt; matches!(limits_of(alloc, &["8", "4", "2", "--help"]), Ok(None)));
+    assert!(rt; have_none(alloc, &["8", "4"]));
+    assert!(rt; have_none(alloc, &["8", "4", "2", "--help"]));
     Ok(())
 }
 

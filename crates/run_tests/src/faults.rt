@@ -1,7 +1,7 @@
 //! Runs in which calls on the outside fail. The bytes, statuses and counts that are expected come from a
 //! second implementation.
 
-use crate::running::{Ran, Setup};
+use crate::running::{Ran, Setup, check};
 use std::alloc::Global;
 use std::process::Abort;
 use std::test::Fail;
@@ -228,16 +228,20 @@ const PUMPS: &[Case] = &[
     ),
 ];
 
-/// Compares what a run came to.
-fn compare(rt: &impl Abort, ran: &Ran, case: &Case) {
-    let (_, _, faults, status, log, whole, part, sent) = *case;
-    assert_eq!(rt; ran.status as u8, status, "{faults:?}");
-    assert_eq!(rt; ran.log.bytes(), log.as_bytes(), "{faults:?}");
-    assert_eq!(rt; ran.sent, sent, "{faults:?}");
-    assert!(rt;
-        are_white_frames(ran.frames.bytes(), whole, part),
-        "{faults:?}"
-    );
+/// What a run came to otherwise than its case says, if anything.
+fn difference(ran: &Ran, case: &Case) -> Option<&'static str> {
+    let (_, _, _, status, log, whole, part, sent) = *case;
+    if ran.status as u8 != status {
+        Some("the status")
+    } else if ran.log.bytes() != log.as_bytes() {
+        Some("the log")
+    } else if ran.sent != sent {
+        Some("the count of pixels")
+    } else if !are_white_frames(ran.frames.bytes(), whole, part) {
+        Some("the frames")
+    } else {
+        None
+    }
 }
 
 /// Runs a case and compares.
@@ -250,7 +254,7 @@ fn try_case(rt: &impl Abort, alloc: Global, case: &Case) -> Result<(), Fail> {
         moves: &[],
     };
     let ran = setup.run(alloc)?;
-    compare(rt, &ran, case);
+    check(rt, difference(&ran, case), case.2);
     Ok(())
 }
 

@@ -101,21 +101,29 @@ fn a_text_or_a_value_sends_the_places_of_its_object(rt: HostRuntime) -> Result<(
     try_case(&rt, rt.alloc(), &VALUES)
 }
 
+/// Adds lines that make an object of a pixel.
+fn push_dot(alloc: Global, script: &mut String, h: i32, x: i32) -> Result<(), Fail> {
+    let lines = format!(in alloc;
+        "new {h} 3 obj\nsize {h} 1 1\npos {h} {x} 0\nlocal {h} main bg_opa 255\n"
+    )?;
+    Ok(script.push_str(lines.as_str())?)
+}
+
+/// Adds a line that turns an object black.
+fn push_black(alloc: Global, script: &mut String, h: i32) -> Result<(), Fail> {
+    let line = format!(in alloc; "local {h} main bg_color #000000\n")?;
+    Ok(script.push_str(line.as_str())?)
+}
+
 /// A script that makes 33 objects of a pixel, with a pixel between each two, asks for a frame, turns them black and asks again.
 fn black_dots(alloc: Global) -> Result<String, Fail> {
     let mut script = String::new(alloc);
     for i in 0_i32..33 {
-        let h = i.wrapping_add(10);
-        let x = i.wrapping_mul(2);
-        let lines = format!(in alloc;
-            "new {h} 3 obj\nsize {h} 1 1\npos {h} {x} 0\nlocal {h} main bg_opa 255\n"
-        )?;
-        script.push_str(lines.as_str())?;
+        push_dot(alloc, &mut script, i.wrapping_add(10), i.wrapping_mul(2))?;
     }
     script.push_str("frame\n")?;
     for h in 10..43 {
-        let line = format!(in alloc; "local {h} main bg_color #000000\n")?;
-        script.push_str(line.as_str())?;
+        push_black(alloc, &mut script, h)?;
     }
     script.push_str("frame\n")?;
     Ok(script)
@@ -135,7 +143,7 @@ fn a_list_that_overflows_sends_the_panel(rt: HostRuntime) -> Result<(), Fail> {
 fn a_slice_that_failed_is_sent_again(rt: HostRuntime) -> Result<(), Fail> {
     let ran = run(rt.alloc(), &["4", "2", "1"], b"frame\nframe\n", &[Start(2)])?;
     ran.check_counts(&rt, Status::Noted, &[12], "one frame is presented");
-    assert_eq!(rt; ran.sent, 12);
+    ran.check_sent(&rt, 12, "each slice is sent, and the second once more");
     Ok(())
 }
 

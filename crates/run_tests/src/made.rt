@@ -1,7 +1,7 @@
 //! Made scripts over calls on the outside that fail. The statuses, logs and sums that are expected come from
 //! a second implementation.
 
-use crate::running::{Ran, Setup};
+use crate::running::{Ran, Setup, check};
 use std::alloc::Global;
 use std::process::Abort;
 use std::test::Fail;
@@ -29,12 +29,18 @@ const CASES: &[Case] = &[
     (&[Log(1)], 4, "made 1 lines 1261 refused 0 ", 385),
 ];
 
-/// Compares what a run came to.
-fn compare(rt: &impl Abort, ran: &Ran, case: &Case) {
-    let (faults, status, log, frames) = *case;
-    assert_eq!(rt; ran.status as u8, status, "{faults:?}");
-    assert_eq!(rt; ran.log.bytes(), log.as_bytes(), "{faults:?}");
-    assert_eq!(rt; ran.frames.bytes().len(), frames, "{faults:?}");
+/// What a run came to otherwise than its case says, if anything.
+fn difference(ran: &Ran, case: &Case) -> Option<&'static str> {
+    let (_, status, log, frames) = *case;
+    if ran.status as u8 != status {
+        Some("the status")
+    } else if ran.log.bytes() != log.as_bytes() {
+        Some("the log")
+    } else if ran.frames.bytes().len() != frames {
+        Some("the count of bytes of frames")
+    } else {
+        None
+    }
 }
 
 /// Runs a case and compares.
@@ -47,7 +53,7 @@ fn try_case(rt: &impl Abort, alloc: Global, case: &Case) -> Result<(), Fail> {
         moves: &[],
     };
     let ran = setup.run(alloc)?;
-    compare(rt, &ran, case);
+    check(rt, difference(&ran, case), case.0);
     Ok(())
 }
 

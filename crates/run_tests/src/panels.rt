@@ -8,11 +8,13 @@ use std::test::Fail;
 use test_runs::Fault::{self, Start};
 use test_runs::{WHITE_FRAME, WORDS};
 
-/// Whether a run started these areas, has this log, and presented one white frame.
-fn compare(rt: &impl Abort, ran: &Ran, log: &str, corners: &[[i32; 4]]) {
-    assert_eq!(rt; ran.log.bytes(), log.as_bytes());
-    assert_eq!(rt; ran.starts.as_slice(), corners);
-    assert_eq!(rt; ran.frames.bytes(), WHITE_FRAME);
+/// Whether a run ended so, started these areas, has this log, and presented one white frame.
+fn compare(rt: &impl Abort, ran: &Ran, status: Status, log: &str, corners: &[[i32; 4]]) {
+    let name = "a white frame";
+    ran.check_status(rt, status, name);
+    ran.check_log(rt, log, name);
+    ran.check_starts(rt, corners, name);
+    ran.check_frames(rt, WHITE_FRAME, name);
 }
 
 /// Whether a script of which a frame is done starts these areas, has this log, and presents one white frame.
@@ -24,16 +26,13 @@ fn starts(
     log: &str,
     corners: &[[i32; 4]],
 ) -> Result<(), Fail> {
+    let status = if faults.is_empty() {
+        Status::Done
+    } else {
+        Status::Noted
+    };
     let ran = run(alloc, &WORDS, script, faults)?;
-    assert!(rt;
-        ran.status
-            == if faults.is_empty() {
-                Status::Done
-            } else {
-                Status::Noted
-            }
-    );
-    compare(rt, &ran, log, corners);
+    compare(rt, &ran, status, log, corners);
     Ok(())
 }
 
@@ -63,10 +62,11 @@ fn a_slice_whose_start_failed_is_started_again(rt: HostRuntime) -> Result<(), Fa
 
 /// Whether a run left a panel of eight pixels as it was opened, with an empty log.
 fn is_untouched(rt: &impl Abort, ran: &Ran) {
-    assert!(rt; ran.status == Status::Done);
-    assert_eq!(rt; ran.log.bytes(), b"".as_slice());
+    let name = "an empty script";
+    ran.check_status(rt, Status::Done, name);
+    ran.check_log(rt, "", name);
+    ran.check_frames(rt, b"", name);
     assert_eq!(rt; ran.shown.as_slice(), [0xA5A5; 8].as_slice());
-    assert_eq!(rt; ran.frames.bytes(), b"".as_slice());
 }
 
 #[test]
@@ -78,12 +78,10 @@ fn the_empty_script_leaves_the_panel_as_it_was_opened(rt: HostRuntime) -> Result
 
 /// Whether a run sent a whole panel of eight by four pixels, and then one block.
 fn sent_a_block(rt: &impl Abort, ran: &Ran) {
-    assert!(rt; ran.status == Status::Done);
-    assert_eq!(rt;
-        ran.starts.as_slice(),
-        [[0, 0, 7, 3], [4, 0, 7, 1]].as_slice()
-    );
-    assert_eq!(rt; ran.sent, 40);
+    let name = "a panel, and then a block";
+    ran.check_status(rt, Status::Done, name);
+    ran.check_starts(rt, &[[0, 0, 7, 3], [4, 0, 7, 1]], name);
+    ran.check_sent(rt, 40, name);
 }
 
 #[test]

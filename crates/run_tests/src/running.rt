@@ -22,7 +22,6 @@ pub(crate) struct Setup<'a> {
 }
 
 /// What a run came to.
-#[derive(Drop)]
 pub(crate) struct Ran {
     pub(crate) status: Status,
     pub(crate) log: MemSink,
@@ -38,6 +37,21 @@ pub(crate) struct Ran {
     pub(crate) shown: ArrayVec<u16, 8>,
 }
 
+impl Drop for Ran {
+    /// Lets go of all that it holds. Who owns one calls this, where each field by itself would be dear to prove.
+    fn drop(self) {
+        let Ran {
+            status: _,
+            log: _,
+            frames: _,
+            starts: _,
+            counts: _,
+            sent: _,
+            shown: _,
+        } = self;
+    }
+}
+
 /// The colours of the first pixels of a panel, as their bits.
 fn shown_by(panel: &ListingPanel<SimPanel<MemSink>>) -> ArrayVec<u16, 8> {
     let mut shown = ArrayVec::new();
@@ -50,9 +64,34 @@ fn shown_by(panel: &ListingPanel<SimPanel<MemSink>>) -> ArrayVec<u16, 8> {
 }
 
 impl Ran {
+    /// Fails where the run ended otherwise.
+    pub(crate) fn check_status(&self, rt: &impl Abort, status: Status, name: &str) {
+        assert_eq!(rt; self.status as u8, status as u8, "{name}");
+    }
+
+    /// Fails where the log is another one.
+    pub(crate) fn check_log(&self, rt: &impl Abort, log: &str, name: &str) {
+        assert_eq!(rt; self.log.bytes(), log.as_bytes(), "{name}");
+    }
+
+    /// Fails where the files of the presented frames are others.
+    pub(crate) fn check_frames(&self, rt: &impl Abort, frames: &[u8], name: &str) {
+        assert!(rt; self.frames.bytes() == frames, "{name}");
+    }
+
+    /// Fails where the panel was asked to start other areas.
+    pub(crate) fn check_starts(&self, rt: &impl Abort, corners: &[[i32; 4]], name: &str) {
+        assert_eq!(rt; self.starts.as_slice(), corners, "{name}");
+    }
+
+    /// Fails where another count of pixels was sent in all.
+    pub(crate) fn check_sent(&self, rt: &impl Abort, sent: u64, name: &str) {
+        assert_eq!(rt; self.sent, sent, "{name}");
+    }
+
     /// Fails where the run ended otherwise, or its frames were sent other counts of pixels.
     pub(crate) fn check_counts(&self, rt: &impl Abort, status: Status, counts: &[u64], name: &str) {
-        assert!(rt; self.status == status, "{name}");
+        self.check_status(rt, status, name);
         assert_eq!(rt; self.counts.as_slice(), counts, "{name}");
     }
 }
@@ -99,4 +138,9 @@ pub(crate) fn run(
         moves: &[],
     };
     setup.run(alloc)
+}
+
+/// Fails where something differs in a run in which these calls fail.
+pub(crate) fn check(rt: &impl Abort, difference: Option<&str>, faults: &[Fault]) {
+    assert_eq!(rt; difference, None, "{faults:?}");
 }

@@ -46,9 +46,9 @@ fn frame_bytes(alloc: Global, frames: &[&str]) -> Result<Vec<u8>, AllocError> {
 /// Compares what a run came to.
 fn compare(rt: &impl Abort, ran: &Ran, case: &Case, frames: &[u8]) {
     let name = case.name;
-    assert_eq!(rt; ran.log.bytes(), case.log.as_bytes(), "{name}");
-    assert!(rt; ran.frames.bytes() == frames, "{name}");
-    assert!(rt; ran.status == case.status, "{name}");
+    ran.check_log(rt, case.log, name);
+    ran.check_frames(rt, frames, name);
+    ran.check_status(rt, case.status, name);
 }
 
 /// Runs a case and compares.

@@ -1,5 +1,0 @@
-//! Tests over sessions with a viewer.
-#![tactic(auto)]
-
-#[cfg(test)]
-mod sessions;

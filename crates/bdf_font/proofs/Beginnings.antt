@@ -1,19 +1,20 @@
 -- The number of a bad line is that of the first at which lines begin no font.
-use Rattle.std.proofs.Common.{◌≡◌, ◌∙◌, refl, ap, ℕ, zero, suc, ◌+◌, ◌-◌, ◌≤◌, ◌<◌, true, ◌&&◌, List, [], ◌∷◌, ◌++◌, length, take, map, arith}
+use Rattle.std.proofs.Common.{◌≡◌, ◌∙◌, refl, ap, ℕ, zero, suc, ◌+◌, ◌-◌, ◌≤◌, ◌<◌, true, false, not, ◌&&◌, List, [], ◌∷◌, ◌++◌, length, take, map, arith}
 use Rattle.std.specs.Prelude.{ℤ, pos, unsigned_abs, unwrap_or, Some, None, Ok, Err, IsOk, IfSome, IfErr, is_some, codes}
-use Rattle.std.specs.List.{list_all}
+use Rattle.std.specs.List.{list_all, list_any}
 use Rattle.std.specs.Option.{option_and_then}
 use Rattle.std.specs.declared.option.Option.{Option}
 use Rattle.std.specs.declared.result.Result.{Result}
 use Rattle.std.proofs.lemmas.Bool.Decides.{nat_tests}
 use Rattle.gui_base.specs.Names.{named}
 use Rattle.hex.specs.Hex.{is_hex_digit}
+use Rattle.run_defs.specs.Script.{is_newline}
 use Rattle.bdf_font.specs.declared.characters.Character.{Character}
 use Rattle.bdf_font.specs.declared.characters.Extents.{Extents}
 use Rattle.bdf_font.specs.declared.keywords.Phase.{Phase}
 use Rattle.bdf_font.specs.declared.keywords.Phase.TheVariants.{Start, Head, Properties, Char, Rows, Between, Ended}
 use Rattle.bdf_font.specs.Bdf.{Font, nothing_read, in_phase, glyph_of, with_glyph, is_row, row_digits, upper, keyword_of, after_line, whole_font, goes_on, font_from, bdf}
-use Rattle.bdf_font.specs.Beginnings.{BeginsFont, IsFirstBad, BadLineIsFirst}
+use Rattle.bdf_font.specs.Beginnings.{IsFirstBad, BadLineIsFirst, is_line}
 use Rattle.bdf_font.specs.Lines.{file_lines, file_words, split_from, trimmed, to_end, integer}
 use Rattle.bdf_font.proofs.Sound.{Sound, HasBounds, HasCharacter, sound-line, sound-nothing}
 
@@ -21,43 +22,44 @@ use Rattle.bdf_font.proofs.Sound.{Sound, HasBounds, HasCharacter, sound-line, so
 
 record Completes (font : Font) : Type 0 where
   more : List (List ℕ)
+  each : list_all is_line more ≡ true
   ends : (number : ℕ) → IsOk (font_from font number more)
 
 completes-at : (font other : Font) → font ≡ other → Completes other → Completes font
-completes-at font other e h = record { more = h.more; ends = λ number. rw e (h.ends number) }
+completes-at font other e h = record { more = h.more; each = h.each; ends = λ number. rw e (h.ends number) }
 
 goes-on : (font : Font) (o : Option Font) (next : Font) (number : ℕ) (lines : List (List ℕ)) → o ≡ Some next → IsOk (font_from next (number + 1) lines) →
     IsOk (goes_on (λ next. font_from next (number + 1) lines) number o)
 goes-on font o next number lines e h = rw e h
 
 -- by a line more
-by_line : (font next : Font) (line : List ℕ) → after_line font line ≡ Some next → Completes next → Completes font
-by_line font next line e h =
-    record { more = line ∷ h.more; ends = λ number. goes-on font (after_line font line) next number h.more e (h.ends (number + 1)) }
+by_line : (font next : Font) (line : List ℕ) → is_line line ≡ true → after_line font line ≡ Some next → Completes next → Completes font
+by_line font next line one e h =
+    record { more = line ∷ h.more; each = rw one h.each; ends = λ number. goes-on font (after_line font line) next number h.more e (h.ends (number + 1)) }
 
 from-ended : (font : Font) → Completes (in_phase Ended font)
-from-ended font = record { more = []; ends = λ number. refl }
+from-ended font = record { more = []; each = refl; ends = λ number. refl }
 
 from-between : (font : Font) → Completes (in_phase Between font)
 unfolding after_line keyword_of named
-from-between font = by_line (in_phase Between font) (in_phase Ended font) (codes "ENDFONT") refl (from-ended font)
+from-between font = by_line (in_phase Between font) (in_phase Ended font) (codes "ENDFONT") refl refl (from-ended font)
 
 from-box : (font : Font) (e : Extents) → Completes (record font { phase = Head; bounds = Some e })
 unfolding after_line keyword_of named
 from-box font e =
-    by_line (record font { phase = Head; bounds = Some e }) (record font { phase = Ended; bounds = Some e }) (codes "ENDFONT") refl (from-ended (record font { bounds = Some e }))
+    by_line (record font { phase = Head; bounds = Some e }) (record font { phase = Ended; bounds = Some e }) (codes "ENDFONT") refl refl (from-ended (record font { bounds = Some e }))
 
 from-head : (font : Font) → Completes (in_phase Head font)
 unfolding after_line keyword_of named integer
-from-head font = by_line (in_phase Head font) _ (codes "FONTBOUNDINGBOX 1 1 0 0") refl (from-box font _)
+from-head font = by_line (in_phase Head font) _ (codes "FONTBOUNDINGBOX 1 1 0 0") refl refl (from-box font _)
 
 from-start : (font : Font) → Completes (in_phase Start font)
 unfolding after_line keyword_of named
-from-start font = by_line (in_phase Start font) (in_phase Head font) (codes "STARTFONT") refl (from-head font)
+from-start font = by_line (in_phase Start font) (in_phase Head font) (codes "STARTFONT") refl refl (from-head font)
 
 from-properties : (font : Font) → Completes (in_phase Properties font)
 unfolding after_line keyword_of named
-from-properties font = by_line (in_phase Properties font) (in_phase Head font) (codes "ENDPROPERTIES") refl (from-head font)
+from-properties font = by_line (in_phase Properties font) (in_phase Head font) (codes "ENDPROPERTIES") refl refl (from-head font)
 
 -- a character was read
 after_glyph : (font : Font) (l : Character) → (with_glyph font (glyph_of l)).phase ≡ Between
@@ -101,6 +103,13 @@ row-of w = 48 ∷ 48 ∷ zeros (row_digits w)
 is_row-of : (w : ℕ) → is_row w (row-of w) ≡ true
 is_row-of w = grind (arith, nat_tests, length-zeros (row_digits w), zeros-hex (row_digits w))
 
+zeros-line : (n : ℕ) → list_any is_newline (zeros n) ≡ false
+zeros-line zero = refl
+zeros-line (suc n) = zeros-line n
+
+row-line : (w : ℕ) → is_line (row-of w) ≡ true
+row-line w = ap not (zeros-line (row_digits w))
+
 -- a character whose rows begin
 abbrev in_rows : ℕ → Extents → ℤ → Extents → Font → Font
 in_rows n bounds code shape font = record font { phase = Rows n; bounds = Some bounds; code = Some code; shape = Some shape }
@@ -108,7 +117,7 @@ in_rows n bounds code shape font = record font { phase = Rows n; bounds = Some b
 from-last : (font : Font) (bounds : Extents) (code : ℤ) (shape : Extents) → Completes (in_rows 0 bounds code shape font)
 unfolding after_line keyword_of named
 from-last font bounds code shape =
-    by_line (in_rows 0 bounds code shape font) _ (codes "ENDCHAR") refl
+    by_line (in_rows 0 bounds code shape font) _ (codes "ENDCHAR") refl refl
     (from-glyph _ (after_glyph (in_rows 0 bounds code shape font) (record { bounds = bounds; code = code; advance = unwrap_or font.advance bounds.w; shape = shape })))
 
 abbrev with_row : ℕ → Font → Font
@@ -128,7 +137,7 @@ more_rows n bounds code shape font =
 from-rows : (n : ℕ) (font : Font) (bounds : Extents) (code : ℤ) (shape : Extents) → Completes (in_rows n bounds code shape font)
 from-rows zero font bounds code shape = from-last font bounds code shape
 from-rows (suc n) font bounds code shape =
-    by_line (in_rows (suc n) bounds code shape font) _ (row-of (unsigned_abs shape.w)) (more_rows n bounds code shape font)
+    by_line (in_rows (suc n) bounds code shape font) _ (row-of (unsigned_abs shape.w)) (row-line (unsigned_abs shape.w)) (more_rows n bounds code shape font)
     (from-rows n (with_row (unsigned_abs shape.w) font) bounds code shape)
 
 abbrev with_parts : Phase → Option Extents → Option ℤ → Option Extents → Font → Font
@@ -153,9 +162,9 @@ from-char font (Some bounds) h =
     let first : Font = record font { phase = Char; bounds = Some bounds } in
     let coded : Font = record first { code = Some (pos 65) } in
     let boxed : Font = record coded { shape = Some small_box } in
-    by_line first coded (codes "ENCODING 65") refl
-    (by_line coded boxed (codes "BBX 0 0 0 0") refl
-    (by_line boxed (in_rows 0 bounds (pos 65) small_box font) (codes "BITMAP") refl (from-last font bounds (pos 65) small_box)))
+    by_line first coded (codes "ENCODING 65") refl refl
+    (by_line coded boxed (codes "BBX 0 0 0 0") refl refl
+    (by_line boxed (in_rows 0 bounds (pos 65) small_box font) (codes "BITMAP") refl refl (from-last font bounds (pos 65) small_box)))
 
 completes : (phase : Phase) (font : Font) → font.phase ≡ phase → Sound font → Completes font
 completes Start font is h = completes-at font (in_phase Start font) (ap (λ (phase : Phase). in_phase phase font) is) (from-start font)
@@ -272,11 +281,11 @@ stopped lines bad s =
       last = omega (arith, place, within);
       before = rw count (record {
         more = rest.more;
+        each = rest.each;
         ends = rw (goes_past nothing_read s.last 1 (take s.count lines) rest.more s.before) (rest.ends (1 + length (take s.count lines)));
       });
-      here = λ few begins.
-          let h : BeginsFont (take (suc s.count) lines) = rw next at begins in
-          never nothing_read 1 (take (suc s.count) lines) h.more (s.here (omega (arith, place, few))) h.ends;
+      here = λ few more ends.
+          never nothing_read 1 (take (suc s.count) lines) more (s.here (omega (arith, place, few))) (rw next at ends);
     }
 
 first_bad : (lines : List (List ℕ)) (r : Result Font ℕ) → font_from nothing_read 1 lines ≡ r → IfErr r (λ bad. IsFirstBad lines bad)

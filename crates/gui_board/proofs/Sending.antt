@@ -10,8 +10,8 @@ use Rattle.gui_color.specs.Buffer.{color_at, place, distance}
 use Rattle.gui_edge.specs.Panel.{PanelState, area_of, TellsEach, HasSizes}
 use Rattle.gui_damage.specs.Pending.{Pending}
 use Rattle.gui_refresh.specs.Owing.{standing_of, flight_of}
-use Rattle.gui_refresh.specs.Refreshes.{Keeps, Counts, RefreshesAt, PumpsAt, failures_in}
-use Rattle.gui_refresh.specs.Slicing.{DrawsOne}
+use Rattle.gui_refresh.specs.Refreshes.{Keeps, Counts, RefreshesAt, PumpsAt, failures, failures_in}
+use Rattle.gui_refresh.specs.Slicing.{DrawsOne, DrawsSlices}
 use Rattle.gui_refresh.specs.Stages.{Sizes, Stage, CanRefresh, ShowsPicture, sizes_of, progress_of}
 use Rattle.gui_refresh.specs.declared.Refreshed.{Refreshed}
 use Rattle.gui_refresh.specs.declared.Refreshed.TheVariants.{Done, Fault}
@@ -26,7 +26,7 @@ use Rattle.scene_defs.specs.Scene.{Scene}
 use Rattle.scene_defs.specs.Place.{panel_of}
 use Rattle.scene_defs.specs.Picture.{paint, picture}
 use Rattle.scene_defs.proofs.Pictures.{picture_from_pixels}
-use Rattle.gui_board.specs.Panels.{ShowsScene, CanSend, SendsScene, Refreshes, Leaves, Pumps, DrawsPart}
+use Rattle.gui_board.specs.Panels.{ShowsScene, CanSend, SendsScene, Refreshes, Leaves, Pumps, DrawsPart, DrawsScene}
 
 pub panel_is : (scene : Scene) (p : PanelState) → HasSizes p scene.limits → area_of p ≡ panel_of scene
 panel_is scene p sizes = rw (sizes.width_is, sizes.height_is) refl
@@ -167,3 +167,9 @@ pub draws_part : (scene : Scene) (old new : Stage) (answer : Pumped) (from to : 
     DrawsOne (items_shown scene) (slice_extra scene) old new (failures_in answer) from to → DrawsPart (scened scene old) (scened scene new) scene answer from to
 draws_part scene old new answer from to has same panel k draws =
     of_scene (λ a b. DrawsOne (items_shown scene) (slice_extra scene) a b (failures_in answer) from to) scene old new panel (panel_on scene old new has k.can (k.sizes ∙ same)) draws
+
+pub draws_scene : (scene : Scene) (old new : Stage) (answer : Refreshed) (from to : ℕ) → HasSizes old.panel scene.limits → old.refresher.sizes ≡ sizes_of scene.limits → old.pending.panel ≡ panel_of scene → Keeps (paint scene) old new (failures answer) →
+    DrawsSlices old.refresher.sizes.limit (items_shown scene) (slice_extra scene) old new (failures answer) from to → DrawsScene (scened scene old) (scened scene new) scene answer from to
+draws_scene scene old new answer from to has same panel k draws =
+    of_scene (λ a b. DrawsSlices (sizes_of scene.limits).limit (items_shown scene) (slice_extra scene) a b (failures answer) from to) scene old new panel (panel_on scene old new has k.can (k.sizes ∙ same))
+    (subst (λ (limit : ℕ). DrawsSlices limit (items_shown scene) (slice_extra scene) old new (failures answer) from to) (ap (λ (s : Sizes). s.limit) same) draws)

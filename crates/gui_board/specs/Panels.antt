@@ -93,11 +93,11 @@ pub record Pumps (old new : Stage) (scene : Scene) (answer : Pumped) : Type 0 wh
   pub leaves : Leaves old new scene answer
 
 -- a refresh draws slices of this scene's picture: a pixel takes a step for each item that is shown, and a
--- slice those of looking at each object twice and at each character six times
-abbrev pub DrawsScene : PanelState → PanelState → Scene → ℕ → ℕ → Type 0
-DrawsScene before after scene from to =
+-- slice those of looking at each object three times and at each character six times
+abbrev pub DrawsScene : Stage → Stage → Scene → Refreshed → ℕ → ℕ → Type 0
+DrawsScene old new scene answer from to =
     DrawsSlices (sizes_of scene.limits).limit (items_shown scene) (slice_extra scene)
-    before.sent after.sent from to
+    old new (failures answer) from to
 
 -- a pump draws one of them at most
 abbrev pub DrawsPart : Stage → Stage → Scene → Pumped → ℕ → ℕ → Type 0

@@ -9,6 +9,7 @@ ghost use Rattle.gui_change.specs.Canvas.{scene_in, removed_in};
 ghost use Rattle.gui_damage.specs.Gridded.{listed_in};
 ghost use Rattle.gui_damage.specs.Pending.{IsPending};
 ghost use Rattle.gui_edge.specs.Sink.{SinkState};
+ghost use Rattle.gui_layout.specs.Naturals.{AreNatural};
 ghost use Rattle.gui_layout.specs.Solved.{AreReached, AreSolved};
 ghost use Rattle.gui_refresh.specs.Stages.{sizes_of, stage as sending};
 ghost use Rattle.gui_store.specs.Removed.{removed_by};
@@ -132,10 +133,11 @@ impl Board {
         self.canvas.store()
     }
 
-    /// The places of the scene's objects, and how far their children reach and are moved.
+    /// The places of the scene's objects, their natural sizes, and how far their children reach and are moved.
     pub fn places(&self) -> &Places
         ensures solved { AreSolved result.now (machine_of self.now).scene }
         ensures reached { AreReached result.now (machine_of self.now).scene }
+        ensures naturals { AreNatural result.now (machine_of self.now).scene }
     {
         self.canvas.places()
     }
@@ -191,8 +193,9 @@ impl Board {
             (sending refresher.new (P.state panel.new) (pending_of self.new))
             (machine_of self.old).scene result }
         ensures refresher { refresher.new.sizes ≡ refresher.old.sizes }
-        ensures draws { DrawsScene (P.state panel.old) (P.state panel.new) (machine_of self.old).scene
-            steps.old steps.new }
+        ensures draws { DrawsScene (sending refresher.old (P.state panel.old) (pending_of self.old))
+            (sending refresher.new (P.state panel.new) (pending_of self.new))
+            (machine_of self.old).scene result steps.old steps.new }
     {
         let view = View {
             canvas: &self.canvas,

@@ -164,6 +164,7 @@ pub fn mark_new(marks: &mut Marks, store: &Store, child: Handle, parent: Handle)
     requires above { is_there (scene_of store.now) parent.0 ≡ true }
     requires none { AreUnmarked marks.old (scene_of store.now).limits.objects }
     ensures own { is_changed marks.new child.0 ≡ true }
+    ensures changed { (k : ℕ) → (k == child.0) ≡ false → is_changed marks.new k ≡ false }
     ensures parent { is_marked marks.new parent.0 ≡ true }
     ensures others { (k : ℕ) → (k == child.0) ≡ false → (k == parent.0) ≡ false →
         is_marked marks.new k ≡ false }

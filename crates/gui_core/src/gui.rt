@@ -3,6 +3,7 @@ ghost use Rattle.std.specs.Prelude.{◌≡◌, ◌↔◌, ◌<◌, ◌∷◌, []
 ghost use Rattle.gui_base.specs.declared.refusal.Refusal.{Refusal};
 ghost use Rattle.gui_edge.specs.Panel.{PanelState, HasSizes};
 ghost use Rattle.gui_store.specs.Views.{scene_of};
+ghost use Rattle.gui_layout.specs.Naturals.{AreNatural};
 ghost use Rattle.gui_layout.specs.Solved.{AreReached, AreSolved};
 ghost use Rattle.gui_refresh.specs.Refreshes.{IsAtRest};
 ghost use Rattle.gui_refresh.specs.Stages.{sizes_of, progress_of};
@@ -13,6 +14,7 @@ ghost use Rattle.gui_play.specs.Steps.{Refuses};
 ghost use Rattle.owed_defs.specs.Happenings.{debt_of};
 ghost use Rattle.owed_defs.specs.Progress.{Changing};
 ghost use Rattle.owed_defs.specs.declared.Pumped.TheVariants.{Idle};
+ghost use Rattle.play_defs.specs.Focus.{focused_in, group_at};
 ghost use Rattle.run_defs.specs.declared.Reply.TheVariants.{Refused};
 ghost use Rattle.run_laws.specs.Members.{AreJoined};
 
@@ -117,10 +119,11 @@ impl Gui {
         self.board.store()
     }
 
-    /// The places of the scene's objects, and how far their children reach and are moved.
+    /// The places of the scene's objects, their natural sizes, and how far their children reach and are moved.
     pub fn places(&self) -> &Places
         ensures solved { AreSolved result.now (machine_of self.now).scene }
         ensures reached { AreReached result.now (machine_of self.now).scene }
+        ensures naturals { AreNatural result.now (machine_of self.now).scene }
     {
         self.board.places()
     }
@@ -131,6 +134,20 @@ impl Gui {
         ensures { result ≡ hit (machine_of self.now).scene x y }
     {
         self.board.hit(x, y)
+    }
+
+    /// The object of a focus group that has the focus: `None` exactly where there is no such group or none has it.
+    pub fn focused(&self, group: u8) -> Option<Handle>
+        ensures { result ≡ focused_in (group_at (machine_of self.now).groups group) }
+    {
+        self.board.focused(group)
+    }
+
+    /// The time in milliseconds.
+    pub fn time(&self) -> u64
+        ensures { result ≡ (machine_of self.now).time }
+    {
+        self.board.time()
     }
 
     /// The sum of the numbers of the colours of all pixels of the scene's picture, modulo 65536. The picture
@@ -156,8 +173,8 @@ impl Gui {
         ensures machine { machine_of self.new ≡ machine_of self.old }
         ensures refreshes { Refreshes (stage_of self.old (P.state panel.old))
             (stage_of self.new (P.state panel.new)) (machine_of self.old).scene result }
-        ensures draws { DrawsScene (P.state panel.old) (P.state panel.new) (machine_of self.old).scene
-            steps.old steps.new }
+        ensures draws { DrawsScene (stage_of self.old (P.state panel.old))
+            (stage_of self.new (P.state panel.new)) (machine_of self.old).scene result steps.old steps.new }
     {
         self.board.refresh(&mut self.refresher, panel, steps)
     }

@@ -201,8 +201,8 @@ fn paints_again(
     }
 }
 
-/// What is seen of an object that is there. No value of it is looked up where what is known may be kept, and
-/// it shows no bars.
+/// What is seen of an object that is there. Where what is known may be kept and it shows no bars, no value of it is
+/// looked up, which no clause says.
 pub fn see(store: &Store, places: &Places, sighting: &Sighting, known: Option<&Seen>) -> Seen
     requires solved { AreSolved places.now (scene_of store.now) }
     requires reached { AreReached places.now (scene_of store.now) }

@@ -23,6 +23,7 @@ use Rattle.gui_layout.proofs.Before.{settled_but_marks}
 use Rattle.gui_layout.proofs.Closing.{all-settled}
 use Rattle.gui_layout.proofs.Grades.{settled-raised, steady-but}
 use Rattle.gui_layout.proofs.Marking.{steady-is}
+use Rattle.gui_layout.proofs.NaturalSizes.{all-naturals}
 use Rattle.gui_layout.proofs.Overs.{kids-same}
 use Rattle.gui_layout.proofs.ReachSizes.{all-reached}
 use Rattle.gui_layout.proofs.Renewals.{some-box}
@@ -152,4 +153,5 @@ module _ (p : Places) (before scene : Scene) (q : ℕ) (settled : AreSettled p b
         solved = standing.solved;
         scrolled = scrolled;
         reached = record { reaches = λ h. (shown h).reaches; offsets = λ h. (shown h).offsets };
+        naturals = all-naturals scene valid p.entries standing.settled standing.there;
       }

@@ -2,8 +2,8 @@ pub mod Own
 pub mod Painted
 pub mod Scenes
 pub mod OwnHeights
-pub mod Solved
 pub mod Naturals
+pub mod Solved
 pub mod Scrolled
 pub mod Renewed
 pub mod Marked
@@ -11,3 +11,4 @@ pub mod Raised
 pub mod Settles
 pub mod Tops
 pub mod SettledBut
+pub mod Laws

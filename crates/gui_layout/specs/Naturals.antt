@@ -1,5 +1,5 @@
 -- The natural sizes of objects: those of the definition, and those that are kept beside places.
-use Rattle.std.specs.Prelude.{◌==◌, ℕ, Bool, option_map}
+use Rattle.std.specs.Prelude.{◌≡◌, ◌==◌, ℕ, Bool, option_map}
 use Rattle.std.specs.Prelude.{Some, None}
 use Rattle.std.specs.declared.option.Option.{Option}
 use Rattle.gui_base.specs.Forest.{Forest}
@@ -44,3 +44,7 @@ naturals_in e = record { width = e.natural_width.pixels; height = e.natural_heig
 -- those of h, if it has a place
 abbrev pub naturals_at : Places → ℕ → Option Sizes
 naturals_at p h = option_map naturals_in (value_at p.entries h)
+
+-- each object of a scene has the natural sizes of the definition, and nothing else has any
+abbrev pub AreNatural : Places → Scene → Type 0
+AreNatural p scene = (h : ℕ) → naturals_at p h ≡ naturals scene h

@@ -10,6 +10,7 @@ use Rattle.scene_defs.specs.Scene.{Scene, handles_of}
 use Rattle.gui_layout.specs.declared.places.Places.{Places}
 use Rattle.layout_defs.specs.Solving.{Span}
 use Rattle.scene_defs.specs.Place.{offset, place, reach}
+use Rattle.gui_layout.specs.Naturals.{AreNatural}
 use Rattle.gui_layout.specs.Scenes.{scene_box, HoldsBoxes}
 use Rattle.gui_boxes.specs.declared.entry.Entry.{Entry}
 use Rattle.gui_layout.specs.Scrolled.{IsScrolledIn}
@@ -58,7 +59,7 @@ pub record AreStanding (p : Places) (scene : Scene) : Type 0 where
   pub there : (h : ℕ) → is_some (value_at p.entries h) ≡ has (handles_of scene.trees) h
   pub solved : AreSolved p scene
 
--- and how far its children are scrolled
+-- and how far its children are scrolled, and its natural sizes are those of the definition
 pub record AreSettled (p : Places) (scene : Scene) : Type 0 where
   pub boxes : HoldsBoxes (layout_of p).boxes scene
   pub settled : IsSettled scene.limits.width scene.limits.height
@@ -68,3 +69,4 @@ pub record AreSettled (p : Places) (scene : Scene) : Type 0 where
   pub scrolled : (h : ℕ) → has (handles_of scene.trees) h ≡ true →
       IsScrolledIn (known_at (scene_box scene) (layout_of p)) (layout_of p).scrolls (handles_of scene.trees) h
   pub reached : AreReached p scene
+  pub naturals : AreNatural p scene

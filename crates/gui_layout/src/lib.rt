@@ -6,15 +6,17 @@
 //! loops. It reads what the passes before it found of each object, and writes one thing more into its entry.
 //!
 //! Where objects have changed, come or gone, or stand elsewhere among their siblings, they are marked (by
-//! [`Marks`](gui_boxes::marks::Marks)), and the places are settled for all of them at once. Each mark has one
-//! tree solved: that of the nearest object, from the marked one upward, that stands by itself in a parent whose
-//! place does not go by its children. A tree without marks stays as it is.
+//! [`Marks`]), and the places are settled for all of them at once. Each mark has one tree solved: that of the
+//! nearest object, from the marked one upward, that stands by itself in a parent whose place does not go by its
+//! children. The contracts promise the places and that a tree without marks stays as it is, and not how much is
+//! solved.
 //!
-//! All memory is taken at [`Places::open`] and [`Marks::open`](gui_boxes::marks::Marks::open).
+//! All memory is taken at [`Places::open`] and [`Marks::open`].
 #![tactic(auto)]
 
 mod all;
 mod around;
+pub mod laws;
 mod lone;
 mod looks;
 mod objects;
@@ -24,4 +26,5 @@ mod raising;
 mod renewal;
 mod tree;
 
+pub use gui_boxes::marks::Marks;
 pub use places::{Places, met};

@@ -185,7 +185,7 @@ fn shown_panel(store: &Store, root: Handle) -> Option<Area>
 impl Places {
     ghost use Rattle.gui_layout.specs.Solved.{limits_of, layout_of, offset_at, place_at, reach_at};
     ghost use Rattle.gui_layout.specs.Solved.{AreReached, AreSettled, AreSolved};
-    ghost use Rattle.gui_layout.specs.Naturals.{naturals, naturals_at};
+    ghost use Rattle.gui_layout.specs.Naturals.{AreNatural, naturals, naturals_at};
     ghost use Rattle.gui_boxes.specs.Marks.{is_changed, is_marked, is_parent, mark_count, most_marks, solved_in};
     ghost use Rattle.gui_layout.specs.SettledBut.{AreRightBut, AreRightButChanged, AreSettledButMarks, IsReordered};
     ghost use Rattle.gui_layout.specs.SettledBut.{SettlesChanged, SettlesMarks, WereSettled, in_marked, nobody};
@@ -230,10 +230,12 @@ impl Places {
     }
 
     /// Settles the places of a store in which marked objects alone may differ from what they were when the
-    /// places were settled: objects that have changed, come or gone, and those whose children are others. Of
-    /// a tree in which none is marked all places stay as they were. Where the list of children alone is
-    /// another, nothing is solved for an object whose sizes are not those of its content and whose children
-    /// stand by themselves. The marks are let go, and they tell at which objects trees were solved.
+    /// places were settled: objects that have changed, come or gone, and those whose children are others. From
+    /// what that follows is a law ([`crate::laws`]). Of a tree in which none is marked all places stay as they
+    /// were. The marks are let go, and they tell at which objects trees were solved.
+    ///
+    /// No contract says how little is solved: where the list of children alone is another, nothing is for an
+    /// object whose sizes are not those of its content and whose children stand by themselves.
     pub fn settle(&mut self, store: &Store, marks: &mut Marks)
         requires limits { limits_of self.old ≡ (scene_of store.now).limits }
         requires but { AreRightBut self.old (scene_of store.now)
@@ -288,13 +290,16 @@ impl Places {
     }
 
     /// Settles places that were settled for an earlier scene, from which this one differs in what is marked
-    /// alone, as [`Places::settle`] does. Where one object is marked alone, its parent moves no children and
-    /// these reach as far without it, no sibling is visited. The marks are let go, and they tell at which
-    /// objects trees were solved.
+    /// alone, as [`Places::settle`] does. The marks are let go, and they tell at which objects trees were
+    /// solved.
+    ///
+    /// No contract says what it saves: where one object is marked alone, its parent moves no children and these
+    /// reach as far without it, no sibling is visited.
     pub fn settle_again(&mut self, store: &Store, marks: &mut Marks)
         requires limits { limits_of self.old ≡ (scene_of store.now).limits }
         requires were { WereSettled self.old (scene_of store.now) (is_changed marks.old) (is_parent marks.old) }
         ensures settled { AreSettled self.new (scene_of store.now) }
+        ensures naturals { AreNatural self.new (scene_of store.now) }
         ensures tops { (u : ℕ) → 0 < times (solved_in marks.new) u → is_there (scene_of store.now) u ≡ true }
         ensures whole { (k : ℕ) → is_there (scene_of store.now) k ≡ true → is_changed marks.old k ≡ true →
             in_trees_at (handles_of (scene_of store.now).trees) (solved_in marks.new) k ≡ true }

@@ -137,7 +137,7 @@ module _ (color : ℤ → ℤ → Rgb565) (old : Stage) (h : IsSound old) where
           again = covers;
           free = omega arith;
         };
-        pumping = again;
+        pumping = (again, inr there);
         counts = record {
           asked = 0;
           sent = omega (arith, ap (λ (s : PanelState). s.sent) a.is);
@@ -200,7 +200,7 @@ module _ (color : ℤ → ℤ → Rgb565) (old : Stage) (h : IsSound old) where
           again = covers;
           free = omega arith;
         };
-        pumping = again;
+        pumping = (again, inl there);
         counts = record {
           asked = size_of step.buf.area;
           sent = omega (arith, ap (λ (t : PanelState). t.sent) s.is);

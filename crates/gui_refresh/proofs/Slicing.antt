@@ -119,12 +119,12 @@ module _ (per_pixel per_slice : ℕ) where
 
   -- what callers see of a refresh
   pub draws_slices : (old new : Stage) (failed from to : ℕ) → 0 < old.refresher.sizes.limit → length old.pending.areas ≤ most_areas → failed ≤ length new.pending.areas → drawn_size new.refresher.drawn ≤ old.refresher.sizes.limit →
-      Draws per_pixel per_slice old new failed from to → DrawsSlices old.refresher.sizes.limit per_pixel per_slice old.panel.sent new.panel.sent from to
+      Draws per_pixel per_slice old new failed from to → DrawsSlices old.refresher.sizes.limit per_pixel per_slice old new failed from to
   draws_slices old new failed from to some listed pending small d =
       let few = d.few in
       let most : d.wide ≤ 2 * d.pixels / old.refresher.sizes.limit = le-div d.wide (2 * d.pixels) old.refresher.sizes.limit some d.half in
       let sent = d.sent in
-      record { slices = d.slices; pixels = d.pixels; few = omega arith; sent = omega arith; steps = d.steps }
+      record { draws = d; few = omega arith; sent = omega arith }
 
   -- a pump in which nothing failed
   pub draws_on : (a b c : Stage) (answer : Pumped) (from mid to : ℕ) → (answer ≡ Moved) ⊎ (answer ≡ Waiting) → b.refresher.sizes ≡ a.refresher.sizes → Draws per_pixel per_slice a b 0 from mid → DrawsOne per_pixel per_slice b c (failures_in answer) mid to → Draws per_pixel per_slice a c 0 from to
@@ -134,7 +134,7 @@ module _ (per_pixel per_slice : ℕ) where
 
   -- what a refresh drew that ended with this pump
   pub draws_all : (a b c : Stage) (failed from mid to : ℕ) → IsSizes a.refresher.sizes → length a.pending.areas ≤ most_areas → failed ≤ length c.pending.areas → b.refresher.sizes ≡ a.refresher.sizes →
-      Draws per_pixel per_slice a b 0 from mid → DrawsOne per_pixel per_slice b c failed mid to → DrawsSlices a.refresher.sizes.limit per_pixel per_slice a.panel.sent c.panel.sent from to
+      Draws per_pixel per_slice a b 0 from mid → DrawsOne per_pixel per_slice b c failed mid to → DrawsSlices a.refresher.sizes.limit per_pixel per_slice a c failed from to
   draws_all a b c failed from mid to is listed pending same h k =
       let width = is.some_width in
       let line = is.least_limit in

@@ -11,7 +11,7 @@ ghost use Rattle.gui_damage.specs.Gridded.{listed_in};
 ghost use Rattle.gui_edge.specs.Panel.{CanStart};
 ghost use Rattle.gui_refresh.specs.Stages.{CanRefresh, IsRefreshing, panel_with, sizes_of, stage};
 ghost use Rattle.gui_refresh.specs.Steps.{DrawAnswer, StartAnswer, FlightAnswer};
-ghost use Rattle.gui_refresh.specs.Refreshes.{RefreshesAt, PumpsAt, failures_in};
+ghost use Rattle.gui_refresh.specs.Refreshes.{RefreshesAt, PumpsAt, failures, failures_in};
 ghost use Rattle.gui_refresh.specs.Slicing.{DrawsOne, DrawsSlices, slice_steps};
 ghost use Rattle.gui_refresh.specs.Sums.{color_sum};
 
@@ -129,7 +129,9 @@ impl Refresher {
             (stage self.old (P.state panel.old) (listed_in damage.old))
             (stage self.new (P.state panel.new) (listed_in damage.new)) result }
         ensures draws { DrawsSlices self.old.sizes.limit (Q.per_pixel picture.now) (Q.per_slice picture.now)
-            (P.state panel.old).sent (P.state panel.new).sent steps.old steps.new }
+            (stage self.old (P.state panel.old) (listed_in damage.old))
+            (stage self.new (P.state panel.new) (listed_in damage.new))
+            (failures result) steps.old steps.new }
     {
         // Looking at the refresher and at the list tells that both are sound.
         let _started = self.is_started();

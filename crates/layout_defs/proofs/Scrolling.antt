@@ -9,8 +9,9 @@ use Rattle.layout_defs.specs.declared.Course.TheVariants.{Free, Across, Down}
 use Rattle.layout_defs.specs.Flex.{TrackItem, Spot, shared, spots}
 use Rattle.layout_defs.specs.Boxes.{Box, course_of, is_reversed, wraps, inner}
 use Rattle.layout_defs.specs.Solving.{Wide, wide_box, Widened, Tall, tall_box, Slot, Room, Span, room_of, own_slot, dealt, taking_part, in_order, flow_slots, ordered_slots, flat_slots, far_end, end_across, end_down, kid_reach, offset_of, moved, paired, row_slot, column_slot, row_item, column_item}
+use Rattle.layout_defs.specs.Solving.{kid_slots, solved, with_slots}
 use Rattle.layout_defs.specs.Solving.{natural_width, natural_height, kids_width, kids_height, kid_widths, kid_widths_by, row_widths, width_in, width_item, with_natural_widths, with_widths, with_natural_heights}
-use Rattle.layout_defs.specs.Scrolling.{StillStandsFlat, slots_in, moved_room, MovedAsTheirRoom, ReachesAnywhere, but_scroll, but_scroll_wide, but_scroll_widened, but_scroll_tall, SizesAskNoScroll}
+use Rattle.layout_defs.specs.Scrolling.{StillStandsFlat, slots_in, moved_room, MovedAsTheirRoom, ReachesAnywhere, but_scroll, but_scroll_wide, but_scroll_widened, but_scroll_tall, slot_height, SizesAskNoScroll}
 use Rattle.layout_defs.proofs.OwnHeights.{roots-map, in_order-map, taking_part-map, dealt-map}
 
 abbrev slot_with : ℤ → ℤ → ℕ → Slot
@@ -178,5 +179,132 @@ natural_heights-but Empty = refl
 natural_heights-but (Tree w cs rest) =
     rw (natural_heights-but cs, natural_heights-but rest, roots-map but_scroll_tall (with_natural_heights cs), natural_height-but w.box w.width (roots (with_natural_heights cs))) refl
 
+-- Heights.
+abbrev heights : List Slot → List ℕ
+heights slots = map (λ (s : Slot). s.height) slots
+
+moved-heights : (offset : Span) (slots : List Slot) → heights (map (moved offset) slots) ≡ heights slots
+moved-heights offset [] = refl
+moved-heights offset (s ∷ slots) = rw (moved-heights offset slots) refl
+
+-- in content areas that are as large as each other, wherever they lie
+module _ (x y u v : ℤ) (width height : ℕ) where
+  abbrev here : Room
+  here = room_with x y width height
+
+  abbrev there : Room
+  there = room_with u v width height
+
+  rows-high : (items : List TrackItem) (at : List Spot) → heights (paired (row_slot here) items at) ≡ heights (paired (row_slot there) items at)
+  rows-high [] at = refl
+  rows-high (item ∷ items) [] = refl
+  rows-high (item ∷ items) (s ∷ at) = rw (rows-high items at) refl
+
+  columns-high : (items : List TrackItem) (at : List Spot) → heights (paired (column_slot here) items at) ≡ heights (paired (column_slot there) items at)
+  columns-high [] at = refl
+  columns-high (item ∷ items) [] = refl
+  columns-high (item ∷ items) (s ∷ at) = rw (columns-high items at) refl
+
+  ordered-high : (course : Course) (box : Box) (kids : List Tall) → heights (ordered_slots course box here kids) ≡ heights (ordered_slots course box there kids)
+  ordered-high Free box kids = refl
+  ordered-high Across box kids =
+      let items = map (row_item height) kids in
+      rows-high items (spots box.places (wraps box.flow) width height box.across.gap box.down.gap items)
+  ordered-high Down box kids =
+      let items = shared (wraps box.flow) height box.down.gap (map (column_item height) kids) in
+      columns-high items (spots box.places (wraps box.flow) height width box.down.gap box.across.gap items)
+
+  flow-high : (box : Box) (kids : List Tall) → heights (flow_slots box here kids) ≡ heights (flow_slots box there kids)
+  flow-high box kids =
+      let back = is_reversed box.flow in
+      let course = course_of box.flow in
+      sym (in_order-map (λ (s : Slot). s.height) back (ordered_slots course box here (in_order back kids)))
+      ∙ (ap (in_order back) (ordered-high course box (in_order back kids))
+      ∙ in_order-map (λ (s : Slot). s.height) back (ordered_slots course box there (in_order back kids)))
+
+  dealt-high : (kids : List Tall) (ys zs : List Slot) → heights ys ≡ heights zs → heights (dealt tall_box (own_slot here) kids ys) ≡ heights (dealt tall_box (own_slot there) kids zs)
+  dealt-high [] ys zs same = refl
+  dealt-high (kid ∷ kids) [] [] same = rw (dealt-high kids [] [] refl) refl
+  dealt-high (kid ∷ kids) [] (z ∷ zs) same = cc
+  dealt-high (kid ∷ kids) (y ∷ ys) [] same = cc
+  dealt-high (kid ∷ kids) (y ∷ ys) (z ∷ zs) same = elim (cases_Bool kid.box.hidden) [
+    | inl is ↦ rw (is, dealt-high kids (y ∷ ys) (z ∷ zs) same) refl
+    | inr isnt ↦
+        let first : y.height ≡ z.height = cc in
+        let later : heights ys ≡ heights zs = cc in
+        rw (isnt, first, dealt-high kids ys zs later) refl
+  ]
+
+  slots-high : (box : Box) (kids : List Tall) → heights (slots_in here box kids) ≡ heights (slots_in there box kids)
+  slots-high box kids = dealt-high kids (flow_slots box here (taking_part tall_box kids)) (flow_slots box there (taking_part tall_box kids)) (flow-high box (taking_part tall_box kids))
+
+-- and so it is with children that are not scrolled
+module _ (room : Room) where
+  ordered-but : (course : Course) (box : Box) (kids : List Tall) → ordered_slots course (but_scroll box) room (map but_scroll_tall kids) ≡ ordered_slots course box room kids
+  ordered-but Free box kids = refl
+  ordered-but Across box kids = rw (list-map-map (row_item room.height) but_scroll_tall kids) refl
+  ordered-but Down box kids = rw (list-map-map (column_item room.height) but_scroll_tall kids) refl
+
+  flow-but : (box : Box) (kids : List Tall) → flow_slots (but_scroll box) room (map but_scroll_tall kids) ≡ flow_slots box room kids
+  flow-but box kids =
+      let back = is_reversed box.flow in
+      ap (λ (ks : List Tall). in_order back (ordered_slots (course_of box.flow) (but_scroll box) room ks)) (in_order-map but_scroll_tall back kids)
+      ∙ ap (in_order back) (ordered-but (course_of box.flow) box (in_order back kids))
+
+  slots-but : (box : Box) (kids : List Tall) → slots_in room (but_scroll box) (map but_scroll_tall kids) ≡ slots_in room box kids
+  slots-but box kids =
+      rw (taking_part-map tall_box but_scroll_tall (λ k. refl) kids, flow-but box (taking_part tall_box kids))
+      (dealt-map tall_box but_scroll_tall (λ k. refl) (own_slot room) (λ k. refl) kids (flow_slots box room (taking_part tall_box kids)))
+
+-- of the children of an object in a slot that is as high
+kids-high : (tall : Tall) (s t : Slot) (kids : List Tall) → s.height ≡ t.height →
+    heights (kid_slots (but_scroll_tall tall) s (map but_scroll_tall kids)) ≡ heights (kid_slots tall t kids)
+kids-high tall s t kids same =
+    let box = tall.box in
+    let less = but_scroll_tall tall in
+    let none = map but_scroll_tall kids in
+    let room = room_of tall s in
+    let other = room_of tall t in
+    moved-heights (offset_of less.box (kid_reach less s none)) (flat_slots less s none)
+    ∙ (ap heights (slots-but room box kids)
+    ∙ (slots-high room.x room.y other.x other.y room.width room.height box kids
+    ∙ (ap (λ n. heights (slots_in (room_with other.x other.y room.width (inner box.down n)) box kids)) same
+    ∙ sym (moved-heights (offset_of box (kid_reach tall t kids)) (flat_slots tall t kids)))))
+
+heights-but : (ss ts : List Slot) (f : Forest Tall) → heights ss ≡ heights ts →
+    map_forest slot_height (with_slots ss (map_forest but_scroll_tall f)) ≡ map_forest slot_height (with_slots ts f)
+heights-but ss ts Empty same = refl
+heights-but [] [] (Tree tall cs rest) same = rw (heights-but [] [] cs refl, heights-but [] [] rest refl) refl
+heights-but [] (t ∷ ts) (Tree tall cs rest) same = cc
+heights-but (s ∷ ss) [] (Tree tall cs rest) same = cc
+heights-but (s ∷ ss) (t ∷ ts) (Tree tall cs rest) same =
+    let first : s.height ≡ t.height = cc in
+    let later : heights ss ≡ heights ts = cc in
+    let kids : heights (kid_slots (but_scroll_tall tall) s (roots (map_forest but_scroll_tall cs))) ≡ heights (kid_slots tall t (roots cs)) =
+    ap (λ (ks : List Tall). heights (kid_slots (but_scroll_tall tall) s ks)) (roots-map but_scroll_tall cs) ∙ kids-high tall s t (roots cs) first in
+    let below = heights-but (kid_slots (but_scroll_tall tall) s (roots (map_forest but_scroll_tall cs))) (kid_slots tall t (roots cs)) cs kids in
+    let beside = heights-but ss ts rest later in
+    λ i. Tree (first i) (below i) (beside i)
+
+-- as many slots of one height
+evenly : {A B : Type 0} (g : A → B) (slot : Slot) (xs : List A) → map (λ _. slot) (map g xs) ≡ map (λ _. slot) xs
+evenly g slot [] = refl
+evenly g slot (x ∷ xs) = rw (evenly g slot xs) refl
+
+even : {A B : Type 0} (g : A → B) (n : ℕ) (xs : List A) → map (λ _. n) (map g xs) ≡ map (λ _. n) xs
+even g n [] = refl
+even g n (x ∷ xs) = rw (even g n xs) refl
+
+solved_heights-but : (width height : ℕ) (f : Forest Box) → map_forest slot_height (solved width height (map_forest but_scroll f)) ≡ map_forest slot_height (solved width height f)
+solved_heights-but width height f =
+    let top = slot_with (pos 0) (pos 0) height in
+    let wide = with_natural_widths f in
+    let ws = map (λ _. width) (roots wide) in
+    let tall = with_natural_heights (with_widths ws wide) in
+    let widths : map (λ _. width) (roots (map_forest but_scroll_wide wide)) ≡ ws = ap (map (λ _. width)) (roots-map but_scroll_wide wide) ∙ even but_scroll_wide width (roots wide) in
+    let slots : map (λ _. top) (roots (map_forest but_scroll_tall tall)) ≡ map (λ _. top) (roots tall) = ap (map (λ _. top)) (roots-map but_scroll_tall tall) ∙ evenly but_scroll_tall top (roots tall) in
+    rw (natural_widths-but f, widths, widths-but ws wide, natural_heights-but (with_widths ws wide), slots)
+    (heights-but (map (λ _. top) (roots tall)) (map (λ _. top) (roots tall)) tall refl)
+
 pub sizes_ask_no_scroll : SizesAskNoScroll
-sizes_ask_no_scroll = record { natural_widths = natural_widths-but; widths = widths-but; natural_heights = natural_heights-but }
+sizes_ask_no_scroll = record { natural_widths = natural_widths-but; widths = widths-but; natural_heights = natural_heights-but; heights = solved_heights-but }

@@ -4,7 +4,7 @@ use Rattle.gui_base.specs.Forest.{Forest, map_forest}
 use Rattle.layout_defs.specs.Boxes.{Box}
 use Rattle.layout_defs.specs.Solving.{Tall, tall_box, Slot, Room, Span, Wide, Widened, room_of, own_slot, dealt}
 use Rattle.layout_defs.specs.Solving.{taking_part, flow_slots, flat_slots, kid_reach, offset_of, moved, kid_slots}
-use Rattle.layout_defs.specs.Solving.{with_natural_widths, with_widths, with_natural_heights}
+use Rattle.layout_defs.specs.Solving.{with_natural_widths, with_widths, with_natural_heights, Placed, solved}
 
 -- the children of an object that is not scrollable stand flat
 abbrev pub StillStandsFlat : Type 0
@@ -50,6 +50,10 @@ but_scroll_widened w = record w { box = but_scroll w.box }
 abbrev pub but_scroll_tall : Tall → Tall
 but_scroll_tall tall = record tall { box = but_scroll tall.box }
 
+-- how high an object is in its slot
+abbrev pub slot_height : Placed → ℕ
+slot_height p = p.slot.height
+
 -- sizes do not go by it
 pub record SizesAskNoScroll : Type 0 where
   pub natural_widths : (f : Forest Box) →
@@ -59,3 +63,6 @@ pub record SizesAskNoScroll : Type 0 where
   pub natural_heights : (f : Forest Widened) →
       with_natural_heights (map_forest but_scroll_widened f)
       ≡ map_forest but_scroll_tall (with_natural_heights f)
+  pub heights : (width height : ℕ) (f : Forest Box) →
+      map_forest slot_height (solved width height (map_forest but_scroll f))
+      ≡ map_forest slot_height (solved width height f)

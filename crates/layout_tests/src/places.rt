@@ -5,8 +5,7 @@ ghost use Rattle.gui_store.specs.Views.{scene_of};
 ghost use Rattle.gui_layout.specs.Solved.{AreSolved, limits_of};
 
 use gui_base::{Area, Flag, Flow, Handle, Kind, Length, Limits};
-use gui_boxes::marks::Marks;
-use gui_layout::Places;
+use gui_layout::{Marks, Places};
 use gui_store::Store;
 use scene_defs::Change;
 use std::alloc::Global;
@@ -219,6 +218,54 @@ fn unmarked_stay(
     Ok(is_nowhere(places, 13) && stand(places, &wanted))
 }
 
+/// Makes the three in another store, the first of them wider.
+fn make_wider(store: &mut Store) -> Result<(), &'static str>
+    ensures { (scene_of store.new).limits ≡ (scene_of store.old).limits }
+{
+    let changes = [
+        new(10, SCREEN),
+        size(10, 9, 4),
+        new(11, Handle(10)),
+        new(12, SCREEN),
+        size(12, 5, 5),
+    ];
+    make_all(store, &changes)
+}
+
+/// Whether all places stay where they are settled with no marks for that other store.
+fn unmarked_stay_for(
+    alloc: Global,
+    other: &mut Store,
+    places: &mut Places,
+) -> Result<bool, &'static str>
+    requires { limits_of places.old ≡ (scene_of other.old).limits }
+{
+    make_wider(other)?;
+    settle_unmarked(alloc, other, places)?;
+    let wanted = [
+        (3, [0, 0, 15, 7]),
+        (10, [0, 0, 3, 3]),
+        (11, [0, 0, 99, 49]),
+        (12, [0, 0, 4, 4]),
+    ];
+    Ok(stand(places, &wanted))
+}
+
+/// The same, where the places were solved for this store.
+fn unmarked_stay_for_another(
+    alloc: Global,
+    store: &mut Store,
+    places: &mut Places,
+) -> Result<bool, &'static str>
+    requires { limits_of places.old ≡ (scene_of store.old).limits }
+{
+    solve_three(store, places)?;
+    match Store::open(alloc, store.limits()) {
+        Ok(mut other) => unmarked_stay_for(alloc, &mut other, places),
+        Err(_) => Err("no memory"),
+    }
+}
+
 /// Makes a scrolled object with two children: the first has a child that is wider, and the second stands
 /// beside the object's corner.
 fn make_scrolled(store: &mut Store) -> Result<(), &'static str>
@@ -271,6 +318,7 @@ enum Case {
     Hiding,
     Removed,
     Unmarked,
+    Wider,
     Scrolled,
 }
 
@@ -288,12 +336,13 @@ fn holds(
         Case::Hiding => hidden_takes_no_part(store, places),
         Case::Removed => removed_have_no_place(store, places),
         Case::Unmarked => unmarked_stay(alloc, store, places),
+        Case::Wider => unmarked_stay_for_another(alloc, store, places),
         Case::Scrolled => scrolled_moves_children(store, places),
     }
 }
 
-/// The same on a panel of this size. No other function owns a store or places, and this one has one way out for
-/// both, since to let them go takes most of a proof's time.
+/// The same on a panel of this size. But for a second store no other function owns a store or places, and this one
+/// has one way out for both, since to let them go takes most of a proof's time.
 fn holds_on(alloc: Global, limits: &Limits, case: Case) -> Result<bool, &'static str> {
     match Store::open(alloc, limits) {
         Ok(mut store) => match Places::open(alloc, limits) {
@@ -347,6 +396,11 @@ fn with_no_marks_all_places_stay(rt: HostRuntime) {
         &Limits::with_sizes(16, 8, 8),
         Case::Unmarked,
     );
+}
+
+#[test]
+fn with_no_marks_all_places_stay_for_another_store(rt: HostRuntime) {
+    check(&rt, rt.alloc(), &Limits::with_sizes(16, 8, 8), Case::Wider);
 }
 
 #[test]

@@ -1,6 +1,6 @@
 //! What no clause says: what the adapters make of a reader's and a writer's answers, and the numbers of
 //! faults and colours from outside.
-ghost use Rattle.std.specs.Prelude.{◌≡◌, ◌≤◌, ◌<◌, None, true, false, pos, IfOk};
+ghost use Rattle.std.specs.Prelude.{◌≡◌, ◌≤◌, ◌<◌, None, true, false, pos, IfOk, OnOk};
 ghost use Rattle.gui_base.specs.Area.{area_at, is_empty, is_within, size_of};
 ghost use Rattle.gui_base.specs.Corners.{rect_of};
 ghost use Rattle.gui_base.specs.Grids.{one_pixel};
@@ -249,13 +249,22 @@ fn send_all(rt: &impl Abort, alloc: Global, panel: &mut SimPanel<MemSink>) -> Re
     Ok(())
 }
 
+/// Presents to a sink in memory. Where that is Ok no put failed, which its count of faults tells.
+fn present(panel: &mut SimPanel<MemSink>) -> Result<(), Failed>
+    requires opened { 0 < panel.old.limit }
+    requires still { panel.old.coming ≡ None }
+    ensures { OnOk result (panel.new.frames.faults ≡ panel.old.frames.faults) }
+{
+    panel.present()
+}
+
 #[test]
 fn a_panel_shows_and_presents(rt: HostRuntime) -> Result<(), Fail> {
     let alloc = rt.alloc();
     let mut panel = small_panel(alloc)?;
     send_all(&rt, alloc, &mut panel)?;
     assert_eq!(rt; panel.sent(), 8);
-    check_done(&rt, panel.present(), Ok(()));
+    check_done(&rt, present(&mut panel), Ok(()));
     let frames = panel.into_frames();
     assert_eq!(rt;
         frames.bytes(),

@@ -64,6 +64,9 @@ fn show_line<P: Panel>(text: &str, gui: &mut Gui, panel: &mut P) -> Result<(), F
     ensures refused { (refusal : Refusal) → SaysNumber text.now →
         refusal_of_all (machine_of gui.old) (number_commands (number_in text.now)) ≡ Some refusal →
         result ≡ Err (fault.Refused refusal) }
+    ensures refused_panel { (refusal : Refusal) → SaysNumber text.now →
+        refusal_of_all (machine_of gui.old) (number_commands (number_in text.now)) ≡ Some refusal →
+        panel.new ≡ panel.old }
     ensures hinders { SaysNumber text.now →
         refusal_of_all (machine_of gui.old) (number_commands (number_in text.now)) ≡ None →
         IfErr result (λ fault. Hinders fault (P.state panel.old) (P.state panel.new)) }

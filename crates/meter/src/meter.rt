@@ -160,6 +160,8 @@ pub fn show_number<P: Panel>(gui: &mut Gui, panel: &mut P, number: i32) -> Resul
     ensures writes { OnOk result (WritesPicture (P.state panel.old) (P.state panel.new) (machine_of gui.new).scene) }
     ensures refused { (refusal : Refusal) → refusal_of_all (machine_of gui.old) (number_commands number) ≡ Some refusal →
         result ≡ Err (fault.Refused refusal) }
+    ensures refused_panel { (refusal : Refusal) →
+        refusal_of_all (machine_of gui.old) (number_commands number) ≡ Some refusal → panel.new ≡ panel.old }
     ensures hinders { refusal_of_all (machine_of gui.old) (number_commands number) ≡ None →
         IfErr result (λ fault. Hinders fault (P.state panel.old) (P.state panel.new)) }
 {

@@ -81,7 +81,11 @@ pub stands_pumping : (s : PumpState) (old new : Progress) (answer : Pumped) → 
 stands_pumping s old new Idle p h = p.0 ∙ p.1
 stands_pumping s old new Moved p h = elim p [ inl d ↦ stands_draws s old new d h | inr q ↦ elim q [ inl d ↦ stands_starts s old new d h | inr d ↦ stands_arrives s old new d h ] ]
 stands_pumping s old new Waiting p h = subst (StandsAs s) (sym p.0) h
-stands_pumping s old new Fault p h = stands_fault new p
+stands_pumping s old new Fault p h = stands_fault new p.0
+
+-- a fault comes of a slice that was drawn or in flight
+none_faults : (old new : Progress) → old.drawn ≡ false → old.flying ≡ false → Pumping old new Fault → ⊥
+none_faults old new none still p = elim p.1 [ inl drawn ↦ true≢false (sym drawn ∙ none) | inr flying ↦ true≢false (sym flying ∙ still) ]
 
 -- and answers as it may
 pub may_answer : (s : PumpState) (old new : Progress) (answer : Pumped) → Pumping old new answer → StandsAs s old → MayAnswer s answer
@@ -91,11 +95,11 @@ may_answer Rest old new Moved p h = absurd (elim p [
   | inr q ↦ elim q [ inl d ↦ true≢false (sym d.was ∙ ap (λ (q : Progress). q.drawn) h) | inr d ↦ true≢false (sym d.was ∙ ap (λ (q : Progress). q.flying) h) ]
 ])
 may_answer Rest old new Waiting p h = absurd (true≢false (sym p.1 ∙ ap (λ (q : Progress). q.flying) h))
-may_answer Rest old new Fault p h = tt
+may_answer Rest old new Fault p h = absurd (none_faults old new (ap (λ (q : Progress). q.drawn) h) (ap (λ (q : Progress). q.flying) h) p)
 may_answer Fresh old new Idle p h = absurd (true≢false (ap (λ (q : Progress). q.pending) (sym h ∙ p.1)))
 may_answer Fresh old new Moved p h = refl
 may_answer Fresh old new Waiting p h = absurd (true≢false (sym p.1 ∙ ap (λ (q : Progress). q.flying) h))
-may_answer Fresh old new Fault p h = tt
+may_answer Fresh old new Fault p h = absurd (none_faults old new (ap (λ (q : Progress). q.drawn) h) (ap (λ (q : Progress). q.flying) h) p)
 may_answer (Busy zero) old new Idle p h = tt
 may_answer (Busy zero) old new Moved p h = tt
 may_answer (Busy zero) old new Waiting p h = tt

@@ -2,7 +2,7 @@
 use Rattle.std.specs.Prelude.{◌≡◌, ℕ, List, [], ◌∷◌, map, sum_by}
 use Rattle.owed_defs.specs.Happenings.{Happening, Owes, Finished, Faulted, Pumps}
 use Rattle.owed_defs.specs.Pumping.{PumpState, Rest, Fresh, Busy, Obeys, pump_after, moves_in, waits_in}
-use Rattle.owed_defs.specs.declared.Pumped.TheVariants.{Moved, Waiting}
+use Rattle.owed_defs.specs.declared.Pumped.TheVariants.{Moved, Waiting, Fault}
 use Rattle.owed_defs.specs.Windows.{windows, overflows, allowance}
 
 abbrev pub OverflowsAreWorked : Type 0
@@ -48,3 +48,7 @@ PumpsAreWorked = Obeys Fresh colors_in_flight
 
 abbrev pub MovesAreWorked : Type 0
 MovesAreWorked = sum_by moves_in colors_in_flight ∷ sum_by waits_in colors_in_flight ∷ [] ≡ 3 ∷ 1 ∷ []
+
+-- nothing is drawn or in flight at the opening and at rest, so no pump faults there
+abbrev pub NoFaultIsFirst : Type 0
+NoFaultIsFirst = (Obeys Fresh (Pumps Fault ∷ []) → ⊥) × (Obeys Rest (Pumps Fault ∷ []) → ⊥)

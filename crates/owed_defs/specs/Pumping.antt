@@ -35,15 +35,16 @@ pump_after state (Pumps Fault) = Busy 3
 abbrev pub pump_state : List Happening → PumpState
 pump_state happenings = fold pump_after Fresh happenings
 
--- what a pump may answer in a state. A fault may come in each; its cause is a flush that failed.
+-- What a pump may answer in a state. A fault is that of a slice that was drawn or in flight, so there is none
+-- at Rest and Fresh.
 abbrev pub MayAnswer : PumpState → Pumped → Type 0
-MayAnswer state Fault = ⊤
 MayAnswer Rest answer = answer ≡ Idle
 MayAnswer Fresh answer = answer ≡ Moved
 MayAnswer (Busy zero) answer = ⊤
 MayAnswer (Busy (suc n)) Idle = ⊥
 MayAnswer (Busy (suc n)) Moved = ⊤
 MayAnswer (Busy (suc n)) Waiting = ⊤
+MayAnswer (Busy (suc n)) Fault = ⊤
 
 -- what the happening may be in a state: a pump answers as it may
 abbrev pub MayHappen : PumpState → Happening → Type 0

@@ -8,7 +8,7 @@ ghost use Rattle.owed_defs.specs.Runs.{SendsAsOwed, LaterDebtsRaise};
 ghost use Rattle.owed_defs.specs.Flights.{FlightsGoOn, FlightsClaim, FlightsClaimOn};
 ghost use Rattle.owed_defs.specs.PumpLaws.{OpensObeyed, ChangeObeys, DoneObeys, FaultObeys, PumpObeys, FewMoves};
 ghost use Rattle.owed_defs.specs.Examples.{OverflowsAreWorked, WindowsAreWorked, AllowancesAreWorked};
-ghost use Rattle.owed_defs.specs.Examples.{PumpStatesAreWorked, PumpsAreWorked, MovesAreWorked};
+ghost use Rattle.owed_defs.specs.Examples.{PumpStatesAreWorked, PumpsAreWorked, MovesAreWorked, NoFaultIsFirst};
 
 /// What a pump came to.
 #[derive(Clone, Copy, Debug, PartialEq, Eq)]
@@ -52,6 +52,7 @@ pub fn worked_examples()
     ensures states { PumpStatesAreWorked }
     ensures pumps { PumpsAreWorked }
     ensures moves { MovesAreWorked }
+    ensures faults { NoFaultIsFirst }
 {}
 
 /// Each pump of a run answers as the pump state before it allows, and how the machine and its panel stand

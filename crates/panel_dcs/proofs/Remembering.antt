@@ -1,5 +1,5 @@
 -- What a panel shows tells what its controller's memory holds.
-use Rattle.std.proofs.Common.{◌≡◌, ◌∙◌, sym, ap, ℤ, true, if◌then◌else◌, Bool, List, length, arith}
+use Rattle.std.proofs.Common.{◌≡◌, ◌∙◌, sym, ap, ℤ, true, false, if◌then◌else◌, Bool, List, arith}
 use Rattle.std.proofs.lemmas.Bool.Decides.{nat_tests}
 use Rattle.std.proofs.lemmas.Int.{ints}
 use Rattle.gui_base.specs.declared.color.Rgb565.{Rgb565}
@@ -35,21 +35,17 @@ area_back t area c p =
     ∙ ap (λ (z : ℤ). has (turned_area t area) z (page_at t (x_by t.turn t c p) (y_by t.turn t c p))) (column_back t.turn t c p)
     ∙ ap (λ (z : ℤ). has (turned_area t area) c z) (page_back t.turn t c p)
 
-pub memory_shows : (t : Turned) (area : Rect) (color : ℤ → ℤ → Rgb565) (old new : List Rgb565) → length new ≡ length old → Shows (panel_of t) area color (shown t old) (shown t new) → Shows (device t) (turned_area t area) (color_on t color) old new
-memory_shows t area color old new len h = record {
-  len = len;
-  each = λ c p i.
-      remembers t new c p i
-      ∙ h.each (x_by t.turn t c p) (y_by t.turn t c p) (device_back t.turn t c p i)
-      ∙ ap (λ (b : Bool). if b then color (x_by t.turn t c p) (y_by t.turn t c p) else color_at (panel_of t) (shown t old) (x_by t.turn t c p) (y_by t.turn t c p)) (area_back t area c p)
-      ∙ ap (λ (k : Rgb565). if has (turned_area t area) c p then color (x_by t.turn t c p) (y_by t.turn t c p) else k) (sym (remembers t old c p i));
-}
+pub memory_shows : (t : Turned) (area : Rect) (color : ℤ → ℤ → Rgb565) (old new : List Rgb565) → Shows (panel_of t) area color (shown t old) (shown t new) →
+    (c p : ℤ) → has (device t) c p ≡ true → color_at (device t) new c p ≡ (if has (turned_area t area) c p then color_on t color c p else color_at (device t) old c p)
+memory_shows t area color old new h c p i =
+    remembers t new c p i
+    ∙ h.each (x_by t.turn t c p) (y_by t.turn t c p) (device_back t.turn t c p i)
+    ∙ ap (λ (b : Bool). if b then color (x_by t.turn t c p) (y_by t.turn t c p) else color_at (panel_of t) (shown t old) (x_by t.turn t c p) (y_by t.turn t c p)) (area_back t area c p)
+    ∙ ap (λ (k : Rgb565). if has (turned_area t area) c p then color (x_by t.turn t c p) (y_by t.turn t c p) else k) (sym (remembers t old c p i))
 
-pub memory_stays : (t : Turned) (area : Rect) (old new : List Rgb565) → length new ≡ length old → SameOutside (panel_of t) area (shown t old) (shown t new) → SameOutside (device t) (turned_area t area) old new
-memory_stays t area old new len h = record {
-  len = len;
-  outside = λ c p i o.
-      remembers t new c p i
-      ∙ h.outside (x_by t.turn t c p) (y_by t.turn t c p) (device_back t.turn t c p i) (area_back t area c p ∙ o)
-      ∙ sym (remembers t old c p i);
-}
+pub memory_stays : (t : Turned) (area : Rect) (old new : List Rgb565) → SameOutside (panel_of t) area (shown t old) (shown t new) →
+    (c p : ℤ) → has (device t) c p ≡ true → has (turned_area t area) c p ≡ false → color_at (device t) new c p ≡ color_at (device t) old c p
+memory_stays t area old new h c p i o =
+    remembers t new c p i
+    ∙ h.outside (x_by t.turn t c p) (y_by t.turn t c p) (device_back t.turn t c p i) (area_back t area c p ∙ o)
+    ∙ sym (remembers t old c p i)

@@ -1,5 +1,5 @@
 -- How a run ends.
-use Rattle.std.specs.Prelude.{◌≡◌, ℕ, Bool, true, false, ◌&&◌, if◌then◌else◌, List, ◌++◌, Some, None, ⊤}
+use Rattle.std.specs.Prelude.{◌≡◌, ℕ, ◌≤◌, Bool, true, false, ◌&&◌, if◌then◌else◌, List, [], ◌++◌, length, Some, None, ⊤}
 use Rattle.std.specs.Io.KnownBytes.{Appends, Consumes, IsAtEnd}
 use Rattle.gui_edge.specs.Sink.{AppendsPrefix}
 use Rattle.gui_edge.specs.Source.{SourceState}
@@ -20,6 +20,25 @@ stopped (Finished false) = Done
 stopped (Finished true) = Noted
 stopped Overlong = TooLong
 stopped (Faulty why) = Bad why
+
+-- the most bytes that one read takes
+abbrev pub max_read : ℕ
+max_read = 4096
+
+-- Bytes that were read in pieces of at most so many: after each of the pieces the run went on.
+pub data InPieces (ms : ℕ) (first : Machine) : List ℕ → Type 0 where
+  Nothing : InPieces ms first []
+  Further : (read piece : List ℕ) → InPieces ms first read → length piece ≤ max_read →
+      stop first false (read ++ piece) (outcome ms first false (read ++ piece)) ≡ None →
+      InPieces ms first (read ++ piece)
+
+-- So that what ended the run came with the last piece, or after it.
+pub record ReadSo (ms : ℕ) (first : Machine) (taken : List ℕ) : Type 0 where
+  pub read : List ℕ
+  pub last : List ℕ
+  pub taken_is : read ++ last ≡ taken
+  pub few : length last ≤ max_read
+  pub pieces : InPieces ms first read
 
 -- how a session stops at the end of the bytes, where this is heard of the part that is due
 abbrev pub end_of : Talk → List ℕ → Stop
@@ -63,6 +82,8 @@ pub record Stopped (ms : ℕ) (first : Machine) (old new : Outside) (taken : Lis
   pub how : Stop
   pub stop_is : stop first whole taken (outcome ms first whole taken) ≡ Some how
   pub status_is : status ≡ stopped how
+  -- it is too long by what was read, and not by how the source ended
+  pub long : status ≡ TooLong → whole ≡ false
   pub writes : Writes ms first whole old.outs new.outs taken
 
 -- A read failed: the bytes so far do not stop the run, and all that they come to was written.
@@ -72,10 +93,13 @@ pub record Unread (ms : ℕ) (first : Machine) (old new : Outside) (taken : List
 
 -- A write failed: of what the bytes up to one of those taken come to, prefixes were written.
 pub record Unwritten (ms : ℕ) (first : Machine) (old new : Outside) (taken : List ℕ) : Type 0 where
+  -- whether the source ended after them, and that was what could not be answered
   pub whole : Bool
+  pub end : EndsIf whole new.source
   pub read : List ℕ
   pub unread : List ℕ
   pub taken_is : read ++ unread ≡ taken
+  pub last : whole ≡ true → unread ≡ []
   pub broke : BrokeAt ms first whole old.outs new.outs read
 
 -- what the bytes that were taken come to, by how the run ended
@@ -93,6 +117,7 @@ pub record Serves (ms : ℕ) (first : Machine) (old new : Outside) (status : Rfb
   -- the bytes that were taken from the source
   pub taken : List ℕ
   pub source : Consumes old.source.left new.source.left taken
+  pub so : ReadSo ms first taken
   pub ended : Ended ms first old new taken status
 
 -- P where the run ended before a byte was read

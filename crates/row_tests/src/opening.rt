@@ -3,7 +3,7 @@
 use gui_base::{Kind, Limits};
 use gui_change::Canvas;
 use gui_store::{Change, RowTable};
-use scene_script::{Command, Line, Maker, limits_of};
+use scene_script::{Command, Line, MadeSays, Maker, limits_of};
 use std::alloc::Global;
 use std::test::Fail;
 
@@ -53,19 +53,25 @@ fn is_first_object(line: &Line) -> bool {
 
 #[test]
 fn a_made_script_has_1261_lines(rt: HostRuntime) -> Result<(), Fail> {
-    let mut maker = Maker::new(1, &Limits::with_sizes(64, 48, 8));
+    let limits = Limits::with_sizes(64, 48, 8);
+    let mut maker = Maker::new(1, &limits);
+    let mut says = MadeSays::new(1, &limits);
     for number in 0..1261 {
-        let Some(line) = maker.next_line() else {
+        let (Some(text), Some(line)) = (maker.next_line(), says.next_said()) else {
             return Err(Fail::from("too few lines"));
         };
         if number == 0 {
+            assert_eq!(rt; text.as_str(), "new 10 3 obj");
             assert!(rt; is_first_object(&line));
         }
         if number == 250 || number == 1260 {
+            assert_eq!(rt; text.as_str(), "frame");
             assert!(rt; matches!(line, Line::Frame));
         }
     }
     assert!(rt; maker.next_line().is_none());
     assert!(rt; maker.next_line().is_none());
+    assert!(rt; says.next_said().is_none());
+    assert!(rt; says.next_said().is_none());
     Ok(())
 }

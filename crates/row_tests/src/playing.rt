@@ -99,6 +99,14 @@ fn is_in(gui: &Gui, h: u16, wanted: u16) -> bool {
     numbers(gui, h).is_some_and(|(_, _, states)| states == wanted)
 }
 
+/// Whether the children of an object are to be scrolled so far.
+fn has_scroll(gui: &Gui, h: u16, across: i32, down: i32) -> bool {
+    match gui.store().row(Handle(h)) {
+        Some(row) => row.scroll_x == across && row.scroll_y == down,
+        None => false,
+    }
+}
+
 /// Whether the text of an object, as its items show it, is so many bytes long.
 fn shows_text(gui: &Gui, h: u16, len: usize) -> bool {
     if !gui.store().tree().has(Handle(h)) {
@@ -154,6 +162,8 @@ pub(crate) enum Want {
     Value(u16, i32),
     /// The states that it is in.
     States(u16, u16),
+    /// How far its children are to be scrolled, across and down.
+    Scroll(u16, i32, i32),
     /// How many bytes the text has that it shows.
     Text(u16, usize),
     /// The object that a point hits.
@@ -173,6 +183,7 @@ fn is_so(gui: &mut Gui, want: Want) -> bool
         Want::X(h, wanted) => has_x(gui, h, wanted),
         Want::Value(h, wanted) => has_value(gui, h, wanted),
         Want::States(h, wanted) => is_in(gui, h, wanted),
+        Want::Scroll(h, across, down) => has_scroll(gui, h, across, down),
         Want::Text(h, len) => shows_text(gui, h, len),
         Want::Hit(x, y, wanted) => hits(gui, x, y, wanted),
         Want::Sum(wanted) => has_sum(gui, wanted),

@@ -58,6 +58,34 @@ fn a_percentage_counts_nothing_in_a_content(rt: HostRuntime) -> Result<(), Fail>
     Ok(())
 }
 
+/// Two objects that are as large as their content follow what the lowest one is set to.
+#[test]
+fn contents_follow_a_grandchild(rt: HostRuntime) -> Result<(), Fail> {
+    let script = "new 10 3 obj\nnew 11 10 obj\nnew 12 11 obj\nsize 10 content content\n\
+         size 11 content content\nsize 12 10 10\nsize 12 20 10\n";
+    let wanted = [
+        Want::Place(10, [0, 0, 19, 9]),
+        Want::Place(11, [0, 0, 19, 9]),
+        Want::Place(12, [0, 0, 19, 9]),
+    ];
+    assert!(rt; is_so_after(rt.alloc(), &Limits::with_sizes(40, 20, 20), script, &wanted)?);
+    Ok(())
+}
+
+/// What is to be scrolled farther than it reaches stands at its end.
+#[test]
+fn a_child_is_scrolled_to_its_end(rt: HostRuntime) -> Result<(), Fail> {
+    let script =
+        "new 10 3 obj\nsize 10 20 20\nflag 10 scrollable on\nnew 11 10 obj\nsize 11 10 60\nscroll 10 0 100\n";
+    let wanted = [
+        Want::Place(10, [0, 0, 19, 19]),
+        Want::Place(11, [0, -40, 9, 19]),
+        Want::Scroll(10, 0, 100),
+    ];
+    assert!(rt; is_so_after(rt.alloc(), &Limits::with_sizes(20, 20, 20), script, &wanted)?);
+    Ok(())
+}
+
 /// A pointer that goes eleven pixels scrolls by its last step, and a tap scrolls nothing.
 #[test]
 fn a_drag_scrolls_by_its_last_step(rt: HostRuntime) -> Result<(), Fail> {
@@ -66,6 +94,7 @@ fn a_drag_scrolls_by_its_last_step(rt: HostRuntime) -> Result<(), Fail> {
          touch 5 15\nrelease\ntouch 5 15\ntouch 5 10\ntouch 5 4\n";
     let wanted = [
         Want::Place(11, [0, -6, 9, 53]),
+        Want::Scroll(10, 0, 6),
         Want::States(10, 1 << State::Scrolled.bit()),
         Want::States(11, 1 << State::Pressed.bit()),
     ];

@@ -34,7 +34,8 @@ use Rattle.run_defs.specs.Machine.{Machine}
 use Rattle.run_defs.specs.Making.{make, make_by, put_state, with_groups, leave_group, without_handlers, without_targets, without_anims, forget, removed, made, note, attempt, attempt_by}
 use Rattle.run_defs.specs.Play.{Rule, nothing, with, ◌⊳◌, ◌▷◌, each}
 use Rattle.run_defs.specs.Step.{answer, tests_of, full_by, full_for, anims_full, is_command_in_range, rule_of, unless, step}
-use Rattle.run_defs.proofs.Inputs.{IsAside, IsClosed, length-filtered, forgotten-aside, untargeted-aside, unmoved-aside, good_each, good_put, good_leave_group, good_join, good_rule}
+use Rattle.run_defs.proofs.Inputs.{IsAside, IsClosed, length-filtered, forgotten-aside, untargeted-aside, unmoved-aside, good_leave_group, good_join, good_rule}
+use Rattle.run_defs.proofs.Playing.{good_each, good_put}
 use Rattle.run_laws.specs.Pools.{FitsPools, FirstFitsPools, StepsKeepPools}
 
 abbrev Keeps : Rule → Type 0

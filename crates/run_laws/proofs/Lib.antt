@@ -3,8 +3,11 @@ pub mod Commands
 pub mod Counting
 pub mod Fitting
 pub mod Flying
+pub mod Focusing
+pub mod Held
 pub mod Keeps
 pub mod Members
 pub mod Moving
 pub mod Runs
 pub mod Scenes
+pub mod Telling

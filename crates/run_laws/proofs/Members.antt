@@ -34,7 +34,8 @@ use Rattle.run_defs.specs.Machine.{Machine}
 use Rattle.run_defs.specs.Making.{make, make_by, put_state, with_groups, heir, pass_on, leave_from, leave_group, without_handlers, without_targets, without_anims, forget, handles, not_there, made, note, attempt, attempt_by}
 use Rattle.run_defs.specs.Play.{Rule, nothing, with, ◌⊳◌, ◌▷◌, each}
 use Rattle.run_defs.specs.Step.{answer, tests_of, is_command_in_range, rule_of, unless, step, IsCommand}
-use Rattle.run_defs.proofs.Inputs.{put-members, IsAside, IsClosed, good_put, good_first, good_rule}
+use Rattle.run_defs.proofs.Inputs.{put-members, IsAside, IsClosed, good_first, good_rule}
+use Rattle.run_defs.proofs.Playing.{good_put}
 use Rattle.run_laws.specs.Members.{member_handles, AreJoined, FirstAreJoined, StepsKeepMembers, OneMoreFits}
 use Rattle.run_laws.proofs.Counting.{among-append, among-filter, once-filter, no_more, preorder-length, preorder-has}
 use Rattle.run_laws.proofs.Scenes.{none-goes, others-stay}
@@ -46,17 +47,17 @@ no_member : (members : List Member) (h : Handle) → find (is_object h) members 
 no_member [] h none = refl
 no_member (member ∷ members) h none = grind (arith, nat_tests, none, no_member members h)
 
-in_none : (groups : Groups) (h : Handle) → group_of groups h ≡ None → is_among (member_handles groups) h.0 ≡ false
+pub in_none : (groups : Groups) (h : Handle) → group_of groups h ≡ None → is_among (member_handles groups) h.0 ≡ false
 in_none groups h none = no_member groups.members h (by (find (is_object h) groups.members) none) where
   by : (found : Option Member) → option_map (λ (member : Member). member.group) found ≡ None → found ≡ None
   by None e = refl
   by (Some member) e = cc
 
-focused-members : (groups : Groups) (id : ℕ) (h : Option Handle) → (with_focused groups id h).members ≡ groups.members
+pub focused-members : (groups : Groups) (id : ℕ) (h : Option Handle) → (with_focused groups id h).members ≡ groups.members
 focused-members groups id h = put-members groups (option_map (λ (group : Group). record group { focused = h }) (group_at groups id))
 
 -- whether a handle is not h
-abbrev other_than : Handle → ℕ → Bool
+abbrev pub other_than : Handle → ℕ → Bool
 other_than h k = not (k == h.0)
 
 -- a member that leaves
@@ -65,7 +66,7 @@ filtered : (members : List Member) (h : Handle) →
 filtered [] h = refl
 filtered (member ∷ members) h = grind (arith, filtered members h)
 
-left-handles : (groups : Groups) (id : ℕ) (h : Handle) → member_handles (left groups id h) ≡ filter (other_than h) (member_handles groups)
+pub left-handles : (groups : Groups) (id : ℕ) (h : Handle) → member_handles (left groups id h) ≡ filter (other_than h) (member_handles groups)
 left-handles groups id h =
     filtered (with_released groups id h).members h
     ∙ ap (λ (members : List Member). filter (other_than h) (map (λ (member : Member). member.h.0) members)) (put-members groups (option_map (released_by h) (group_at groups id)))
@@ -182,7 +183,7 @@ keeps_attempt change c m s = by (answer_of m.scene change) where
   by (Some refusal) = s
 
 -- Events.
-asked_is : (target : Handle) (a : Action) → IfSome (asked target a) IsChange
+pub asked_is : (target : Handle) (a : Action) → IfSome (asked target a) IsChange
 asked_is target action.Say = tt
 asked_is target a = tt
 
@@ -211,7 +212,7 @@ keeps_closed = record {
 }
 
 -- an object that is there and in no group joins one
-joined-handles : (groups : Groups) (id : ℕ) (h : Handle) → member_handles (joined groups id h) ≡ member_handles groups ++ h.0 ∷ []
+pub joined-handles : (groups : Groups) (id : ℕ) (h : Handle) → member_handles (joined groups id h) ≡ member_handles groups ++ h.0 ∷ []
 joined-handles groups id h = map-append (λ (member : Member). member.h.0) groups.members (record { group = id; h = h } ∷ [])
 
 join_stands : (id : ℕ) (h : Handle) (m : Machine) → is_there m.scene h.0 ≡ true → group_of m.groups h ≡ None → Stand [] m → Stand [] (join id h m).machine
@@ -228,7 +229,7 @@ join_stands id h m on none s =
 -- Commands.
 
 -- an option that has no value
-is_none : {A : Type 0} (o : Option A) → is_some o ≡ false → o ≡ None
+pub is_none : {A : Type 0} (o : Option A) → is_some o ≡ false → o ≡ None
 is_none None i = refl
 is_none (Some a) i = cc
 

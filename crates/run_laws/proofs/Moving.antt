@@ -31,7 +31,8 @@ use Rattle.run_defs.specs.Machine.{Machine}
 use Rattle.run_defs.specs.Making.{make, make_by, put_state, with_groups, leave_group, without_handlers, without_targets, without_anims, forget, handles, not_there, made, note, attempt, attempt_by}
 use Rattle.run_defs.specs.Play.{Rule, nothing, with, ◌⊳◌, ◌▷◌, each}
 use Rattle.run_defs.specs.Step.{answer, gone, var_tests, full_for, is_command_in_range, rule_of, unless, step, IsCommand}
-use Rattle.run_defs.proofs.Inputs.{any-filter, IsClosed, good_put, good_leave_group, good_join, good_rule}
+use Rattle.run_defs.proofs.Inputs.{any-filter, IsClosed, good_leave_group, good_join, good_rule}
+use Rattle.run_defs.proofs.Playing.{good_put}
 use Rattle.run_laws.specs.Animated.{AnimatedAreThere, FirstAnimatedAreThere, StepsKeepAnimated}
 use Rattle.run_laws.proofs.Counting.{among-filter}
 use Rattle.run_laws.proofs.Scenes.{none-goes, others-stay}

@@ -2,8 +2,10 @@ pub mod Accounts
 pub mod Animated
 pub mod Debts
 pub mod Examples
+pub mod Held
 pub mod Keeping
 pub mod Members
 pub mod Owing
 pub mod Pools
 pub mod Pumping
+pub mod Telling

@@ -7,16 +7,25 @@ ghost use Rattle.run_laws.specs.Accounts.{RunOpens, LineKeepsAccount, AccountBou
 ghost use Rattle.run_laws.specs.Animated.{FirstAnimatedAreThere, StepsKeepAnimated};
 ghost use Rattle.run_laws.specs.Debts.{CommandWithinPanel, RefusedOwesNothing, OwedHoldsAllThatChanges};
 ghost use Rattle.run_laws.specs.Examples.{WindowsAreWorked, PumpsAreWorked};
+ghost use Rattle.run_laws.specs.Held.{FirstAreHeld, StepsKeepHeld};
 ghost use Rattle.run_laws.specs.Keeping.{ActKeepsHandlers, DeleteRemovesAllBelow, StepsKeepScenesValid};
 ghost use Rattle.run_laws.specs.Keeping.{AnimatingRunsOn};
 ghost use Rattle.run_laws.specs.Members.{FirstAreJoined, StepsKeepMembers, OneMoreFits};
 ghost use Rattle.run_laws.specs.Pools.{FirstFitsPools, StepsKeepPools};
 ghost use Rattle.run_laws.specs.Pumping.{LineKeepsFlight, FlightsBound};
+ghost use Rattle.run_laws.specs.Telling.{EventsTellOfTheirPaths};
 
 /// An object that is still there after an action of its own has its handlers, so that the next of them runs.
 #[tactic(auto, using(crate::proofs::Keeps::act_keeps))]
 pub fn actions_keep_handlers()
     ensures { ActKeepsHandlers }
+{}
+
+/// What an event writes into the log: lines that tell of it and of an object on its path, and of actions that
+/// were refused.
+#[tactic(auto, using(crate::proofs::Telling::events_tell))]
+pub fn events_tell_of_their_paths()
+    ensures { EventsTellOfTheirPaths }
 {}
 
 /// What a delete removes, in a scene that is in order.
@@ -35,6 +44,13 @@ pub fn members_are_there()
     ensures first { FirstAreJoined }
     ensures step { StepsKeepMembers }
     ensures room { OneMoreFits }
+{}
+
+/// The object that has the focus of a group is a member of it. What is held on a device, what a drag scrolls, and
+/// each object with handlers is there: a deletion lets go of all that it removes.
+pub fn held_objects_are_there()
+    ensures first { FirstAreHeld }
+    ensures step { StepsKeepHeld }
 {}
 
 /// What animations give their objects leaves the animations and the time as they are.

@@ -1,7 +1,9 @@
-//! Tests of whole runs: over a panel that lists what it is asked to start, with calls on the outside that fail, of
-//! what is sent by each frame, and of the laws of the language.
+//! Tests of whole runs: over a panel that lists what it is asked to start, with calls on the outside and on a bus that
+//! fail, of what is sent by each frame and in pieces to a viewer, and of the laws of the language.
 #![tactic(auto)]
 
+#[cfg(test)]
+mod buses;
 #[cfg(test)]
 mod faults;
 #[cfg(test)]
@@ -18,3 +20,5 @@ mod panels;
 mod running;
 #[cfg(test)]
 mod scenes;
+#[cfg(test)]
+mod sessions;

@@ -3,7 +3,7 @@ ghost use Rattle.std.specs.Prelude.{◌≡◌, None, map};
 ghost use Rattle.panel_dcs.specs.DcsPanel.{dcs_state, unopened};
 ghost use Rattle.panel_dcs.specs.Turning.{quarters};
 ghost use Rattle.scene_dcs.specs.Words.{turn_in, limits_behind, quarters_or_none};
-ghost use Rattle.scene_run.specs.Headline.{outside, IfUnstarted};
+ghost use Rattle.scene_run.specs.Headline.{outside, IfUnstarted, AsksMade};
 ghost use Rattle.scene_run.specs.Top.{RunsScene};
 
 use gui_edge::{Sink, Source};
@@ -43,6 +43,9 @@ pub fn run_dcs<S: Source, L: Sink, F: Sink, B: Bus>(
     ensures unwritten { IfUnstarted result.0 (log.new ≡ log.old) }
     ensures unopened { result.0 ≡ Status.Usage → result.1.state
         ≡ unopened frames bus (quarters (quarters_or_none (turn_in (map (λ w. w.now) words.now)))) }
+
+    // Where a made script is asked for, the source stays as it is too, also where it tells nothing.
+    ensures made { AsksMade (limits_behind (map (λ w. w.now) words.now)) → source.new ≡ source.old }
 {
     match words {
         [] => (Status::Usage, DcsPanel::new(frames, bus, 0)),

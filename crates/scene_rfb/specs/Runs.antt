@@ -1,10 +1,12 @@
 -- What the top call comes to, by how it ended.
-use Rattle.std.specs.Prelude.{◌≡◌, ◌⊎◌, Some, None, ⊤}
+use Rattle.std.specs.Prelude.{◌≡◌, ◌⊎◌, ℕ, Bool, List, Some, None, ⊤}
 use Rattle.std.specs.declared.option.Option.{Option}
+use Rattle.std.specs.Io.KnownBytes.{Appends, Consumes}
 use Rattle.gui_edge.specs.Causes.{Rose}
-use Rattle.run_defs.specs.Machine.{first_machine}
-use Rattle.session_defs.specs.Watching.{SessionsAreSeen, MessagesAreSeen}
-use Rattle.rfb_view.specs.Endings.{Outside, Serves, IfUnstarted}
+use Rattle.run_defs.specs.Machine.{Machine, first_machine}
+use Rattle.session_defs.specs.Runs.{SeesRun}
+use Rattle.session_defs.specs.Sessions.{outcome, output_of}
+use Rattle.rfb_view.specs.Endings.{Outside, Serves, IfUnstarted, EndsIf}
 use Rattle.rfb_view.specs.Words.{Wanted}
 use Rattle.rfb_view.specs.declared.status.RfbStatus.{RfbStatus}
 use Rattle.rfb_view.specs.declared.status.RfbStatus.TheVariants.{Usage, NoMemory, ReadFault, WriteFault}
@@ -30,6 +32,20 @@ pub record RunsSession (settings : Option Wanted) (old new : Outside) (status : 
   -- a write fault is answered only where the count of the output or of the log rose
   pub write_fault : status ≡ WriteFault → Rose old.outs.out.faults new.outs.out.faults ⊎ Rose old.outs.log.faults new.outs.log.faults
 
--- after each answer of a session the viewer has, in the area that it asked for, the numbers of the machine's picture
-abbrev pub AnswersAreTrue : Type 0
-AnswersAreTrue = SessionsAreSeen × MessagesAreSeen
+-- What a run sends its viewer, by the bytes that were taken: the viewer sees the answer to each message.
+pub record Shows (ms : ℕ) (first : Machine) (old new : Outside) : Type 0 where
+  pub taken : List ℕ
+  pub source : Consumes old.source.left new.source.left taken
+  -- whether the source ended after them
+  pub whole : Bool
+  pub end : EndsIf whole new.source
+  pub out : Appends old.outs.out.held new.outs.out.held (output_of (outcome ms first whole taken))
+  pub sees : SeesRun ms first whole taken
+
+-- where a session was run and no write failed
+abbrev pub ShowsAs : Option Wanted → Outside → Outside → RfbStatus → Type 0
+ShowsAs settings old new Usage = ⊤
+ShowsAs settings old new NoMemory = ⊤
+ShowsAs settings old new WriteFault = ⊤
+ShowsAs None old new status = ⊤
+ShowsAs (Some settings) old new status = Shows settings.ms (first_machine settings.limits) old new

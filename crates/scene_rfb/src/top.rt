@@ -6,7 +6,7 @@ ghost use Rattle.rfb_view.specs.Running.{IsFresh};
 ghost use Rattle.rfb_view.specs.Talking.{outs, IsOver};
 ghost use Rattle.rfb_view.specs.Words.{settings_of};
 ghost use Rattle.run_defs.specs.Machine.{first_machine};
-ghost use Rattle.scene_rfb.specs.Runs.{RunsSession, AnswersAreTrue};
+ghost use Rattle.scene_rfb.specs.Runs.{RunsSession, ShowsAs};
 
 use crate::screen::Screen;
 use gui_base::NoMemory;
@@ -37,7 +37,7 @@ fn open(alloc: Global, settings: &Settings) -> Result<(Screen, Talk), NoMemory>
 /// Reads the words, opens the machine, and runs a session with a viewer: the source has the lines of a script
 /// up to the line `rfb`, and from then on what the viewer sends. The output gets what is sent to it, and the
 /// log the replies to the lines and what events write. Memory is taken before the first byte is read.
-#[tactic(auto, using(crate::proofs::Tops::answers_are_true, crate::proofs::Tops::runs_unusable, crate::proofs::Tops::runs_short))]
+#[tactic(auto, using(crate::proofs::Tops::runs_unusable, crate::proofs::Tops::runs_short))]
 pub fn run_rfb<S: Source, O: Sink, L: Sink>(
     alloc: Global,
     words: &[&str],
@@ -50,8 +50,10 @@ pub fn run_rfb<S: Source, O: Sink, L: Sink>(
         (outside (S.state source.old) (outs (O.state out.old) (L.state log.old)))
         (outside (S.state source.new) (outs (O.state out.new) (L.state log.new))) result }
 
-    // What the output makes of the viewer's screen.
-    ensures seen { AnswersAreTrue }
+    // What the viewer reads of the output.
+    ensures seen { ShowsAs (settings_of (map (λ w. w.now) words.now))
+        (outside (S.state source.old) (outs (O.state out.old) (L.state log.old)))
+        (outside (S.state source.new) (outs (O.state out.new) (L.state log.new))) result }
 
     // Where no byte is read, what was handed in stays as it is, and not only what is told of it.
     ensures unread { IfUnstarted result (source.new ≡ source.old) }

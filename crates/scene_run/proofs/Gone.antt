@@ -60,7 +60,7 @@ can_begin gui panel sizes unstarted still = record {
 }
 
 -- nothing is read yet
-pub gone_start : (first : Machine) (source : SourceState) (log : SinkState) (before panel : PanelState) (runner : Runner) → machine_of runner.gui ≡ first → HasTaken runner.cutter [] → runner.number ≡ 1 → runner.frame ≡ 1 → runner.noted ≡ false →
+unfoldable pub gone_start : (first : Machine) (source : SourceState) (log : SinkState) (before panel : PanelState) (runner : Runner) → machine_of runner.gui ≡ first → HasTaken runner.cutter [] → runner.number ≡ 1 → runner.frame ≡ 1 → runner.noted ≡ false →
     (pending_in runner.gui).areas ≡ panel_of first.scene ∷ [] → IsStill (refresher_in runner.gui) → CanSend (stage_of runner.gui panel) first.scene → SinceOpening before panel → Gone first (outside source log before) source (reading runner log panel) 16777216
 gone_start first source log before panel runner is line number frame noted whole still can since = record {
   taken = [];
@@ -74,18 +74,18 @@ longer first start now taken None h = halted_on first start now _ (open_says (re
 longer first start now taken (Some []) h = halted_on first start now _ (open_says (rest_of taken)) _ refl h
 longer first start now taken (Some (b ∷ bytes)) h = h
 
-halted_by : (first : Machine) (start now : Output) (taken : List ℕ) (left : Option (List ℕ)) (long : Bool) → nat_lt max_script (length taken) ≡ long → Halted first start now (says_cut (take max_script taken)) →
+pub halted_by : (first : Machine) (start now : Output) (taken : List ℕ) (left : Option (List ℕ)) (long : Bool) → nat_lt max_script (length taken) ≡ long → Halted first start now (says_cut (take max_script taken)) →
     Halted first start now (says (end_reached left taken) taken)
 halted_by first start now taken left true e h = rw e h
 halted_by first start now taken left false e h =
     let few : length taken ≤ max_script = grind (arith, nat_tests) in
     rw e (longer first start now taken left (rw (take_all max_script taken few) at h))
 
-end_is : (left : Option (List ℕ)) → IsAtEnd left → end_of left ≡ Whole
+pub end_is : (left : Option (List ℕ)) → IsAtEnd left → end_of left ≡ Whole
 end_is None e = refl
 end_is (Some bs) e = rw e refl
 
-ended_noting : (first : Machine) (old new : Outside) (taken : List ℕ) (notes : Bool) → AnswersScript first old new taken notes → Ended first old new taken (if notes then Noted else Done)
+pub ended_noting : (first : Machine) (old new : Outside) (taken : List ℕ) (notes : Bool) → AnswersScript first old new taken notes → Ended first old new taken (if notes then Noted else Done)
 ended_noting first old new taken true h = h
 ended_noting first old new taken false h = h
 
@@ -95,7 +95,7 @@ within_longest taken buffer count room most is = same_lists _ _ (grind (arith, p
 
 module _ (first : Machine) (old : Outside) (mid source : SourceState) (a : Reading) (room : ℕ) (h : Gone first old mid a room) where
   -- a read failed
-  pub runs_unread : Keeps mid.left source.left → Runs first old (at source a.run.output) ReadFault
+  unfoldable pub runs_unread : Keeps mid.left source.left → Runs first old (at source a.run.output) ReadFault
   runs_unread keeps = record {
     taken = h.taken;
     source = Consumes-kept old.source.left mid.left source.left h.taken h.source_is keeps;
@@ -104,11 +104,11 @@ module _ (first : Machine) (old : Outside) (mid source : SourceState) (a : Readi
 
   -- nothing more was read
   module _ (consumes : Consumes mid.left source.left []) (end : IsAtEnd source.left) where
-    source_done : Consumes old.source.left source.left h.taken
+    pub source_done : Consumes old.source.left source.left h.taken
     source_done = rw (append-nil h.taken) at (Consumes-trans old.source.left mid.left source.left h.taken [] h.source_is consumes)
 
     -- the script was answered to its end
-    pub runs_whole : (b : Running) (noted : Bool) → Ends a b → b.noted ≡ Some noted → Runs first old (at source b.output) (if noted then Noted else Done)
+    unfoldable pub runs_whole : (b : Running) (noted : Bool) → Ends a b → b.noted ≡ Some noted → Runs first old (at source b.output) (if noted then Noted else Done)
     runs_whole b noted ends is =
         let whole = ends.from first old.output h.taken h.read in record {
           taken = h.taken;
@@ -117,7 +117,7 @@ module _ (first : Machine) (old : Outside) (mid source : SourceState) (a : Readi
         }
 
     -- a write failed at the last line
-    pub runs_broken_last : (output : Output) → StopsAtEnd a output → Runs first old (at source output) WriteFault
+    unfoldable pub runs_broken_last : (output : Output) → StopsAtEnd a output → Runs first old (at source output) WriteFault
     runs_broken_last output stops =
         let short : nat_lt max_script (length h.taken) ≡ false = grind (arith, nat_tests, h.many) in record {
           taken = h.taken;
@@ -127,16 +127,16 @@ module _ (first : Machine) (old : Outside) (mid source : SourceState) (a : Readi
 
   -- bytes were read, and those that there was room for were taken
   module _ (buffer within : List ℕ) (count : ℕ) (fits : count ≤ length buffer) (is : within ≡ take (min count room) buffer) (consumes : Consumes mid.left source.left (take count buffer)) where
-    more_taken : Consumes old.source.left source.left (h.taken ++ take count buffer)
+    pub more_taken : Consumes old.source.left source.left (h.taken ++ take count buffer)
     more_taken = Consumes-trans old.source.left mid.left source.left h.taken (take count buffer) h.source_is consumes
 
-    many : length (h.taken ++ take count buffer) ≡ length h.taken + count
+    pub many : length (h.taken ++ take count buffer) ≡ length h.taken + count
     many = omega (arith, length-append h.taken (take count buffer), length-take count buffer)
 
-    begun_is : h.taken ++ within ≡ take max_script (h.taken ++ take count buffer)
+    pub begun_is : h.taken ++ within ≡ take max_script (h.taken ++ take count buffer)
     begun_is = rw is (within_longest h.taken buffer count room max_script h.many)
 
-    pub gone_more : (b : Reading) → count ≤ room → Reads a b within → Gone first old source b (room - count)
+    unfoldable pub gone_more : (b : Reading) → count ≤ room → Reads a b within → Gone first old source b (room - count)
     gone_more b few reads = record {
       taken = h.taken ++ take count buffer;
       source_is = more_taken;
@@ -145,7 +145,7 @@ module _ (first : Machine) (old : Outside) (mid source : SourceState) (a : Readi
     }
 
     -- more was read than may be taken
-    pub runs_long : (b : Reading) → room < count → Reads a b within → Runs first old (at source b.run.output) TooLong
+    unfoldable pub runs_long : (b : Reading) → room < count → Reads a b within → Runs first old (at source b.run.output) TooLong
     runs_long b long reads = record {
       taken = h.taken ++ take count buffer;
       source = more_taken;
@@ -153,7 +153,7 @@ module _ (first : Machine) (old : Outside) (mid source : SourceState) (a : Readi
     }
 
     -- a write failed
-    pub runs_broken : (output : Output) → Stops a output within → Runs first old (at source output) WriteFault
+    unfoldable pub runs_broken : (output : Output) → Stops a output within → Runs first old (at source output) WriteFault
     runs_broken output stops = record {
       taken = h.taken ++ take count buffer;
       source = more_taken;

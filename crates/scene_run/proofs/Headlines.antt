@@ -1,6 +1,7 @@
 -- The headline from the reading.
 use Rattle.std.proofs.Common.{◌≡◌, ◌∙◌, ◌<◌, ◌*◌, ◌⊎◌, ap, subst, sym, false, rules, arith, refl, inl, inr, Option, Some, None, ℕ}
 use Rattle.std.specs.Option.{ForSome}
+use Rattle.std.specs.Prelude.{is_some}
 use Rattle.std.proofs.KnownBytes.{Appends-nil}
 use Rattle.std.proofs.Math.Nat.{mul-pos}
 use Rattle.gui_base.specs.Grids.{BlockSize}
@@ -15,7 +16,7 @@ use Rattle.gui_edge.specs.Sink.{SinkState}
 use Rattle.gui_edge.specs.Source.{SourceState}
 use Rattle.gui_edge.proofs.Telling.{keeps_telling-some}
 use Rattle.scene_run.specs.Effects.{SinceOpening, WriteFailed}
-use Rattle.scene_run.specs.Headline.{Outside, outside, RunsAs, Headline, IfUnstarted}
+use Rattle.scene_run.specs.Headline.{Outside, outside, RunsAs, Headline, IfUnstarted, AsksMade}
 use Rattle.scene_run.specs.Running.{IsStill}
 use Rattle.scene_run.specs.Top.{RunsScene}
 use Rattle.scene_run.proofs.Turned.{runs_turn}
@@ -142,3 +143,7 @@ runs_started words limits first old new status some begins runs started read_fau
   write_fault = write_fault;
   panel_fault = λ e. absurd (rw e at started);
 }
+
+-- words without `make` ask for no made script
+pub asks_none : (words : Option Bounds) (limits : Bounds) → Some limits ≡ words → limits.make ≡ None → AsksMade words → ⊥
+asks_none words limits some none asks = let made = subst AsksMade (sym some) asks in let not_made = ap is_some none in cc

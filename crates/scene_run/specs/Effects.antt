@@ -110,8 +110,8 @@ SendsAsOwed first old new lines outcomes =
     new.sent ≤ old.sent + may_send first lines outcomes (new.flush_faults - old.flush_faults)
 
 -- The pump lines answer as what is pending, drawn and in flight allows: at rest a pump is idle, and where
--- something is pending and nothing drawn or in flight it moves. There are at most three moved ones for each
--- pixel asked for, and one, and at most as many waiting ones as polls that told so.
+-- something is pending and nothing drawn or in flight it moves, so none faults in these two. There are at most
+-- three moved ones for each pixel asked for, and one, and at most as many waiting ones as polls that told so.
 abbrev pub PumpsAsAllowed : Machine → PanelState → PanelState → List Said → List Outcome → Type 0
 PumpsAsAllowed first old new lines outcomes =
     PumpsAsOwed first lines outcomes old.sent old.waits new.sent new.waits

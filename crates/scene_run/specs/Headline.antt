@@ -1,6 +1,6 @@
 -- What a run of a script comes to.
 use Rattle.std.specs.Prelude.{◌≡◌, ℕ, Bool, true, false, ◌≤◌, ◌<◌, List, [], ◌∷◌, length}
-use Rattle.std.specs.Prelude.{Some, None, nat_lt, if◌then◌else◌, ⊤}
+use Rattle.std.specs.Prelude.{Some, None, IsSome, nat_lt, if◌then◌else◌, ⊤}
 use Rattle.std.specs.declared.option.Option.{Option}
 use Rattle.std.specs.Io.KnownBytes.{Consumes, IsAtEnd}
 use Rattle.gui_base.specs.Limits.{Bounds}
@@ -92,3 +92,8 @@ IfUnstarted Usage P = P
 IfUnstarted PanelFault P = P
 IfUnstarted NoMemory P = P
 IfUnstarted status P = ⊤
+
+-- the words ask for a made script
+abbrev pub AsksMade : Option Bounds → Type 0
+AsksMade None = ⊥
+AsksMade (Some limits) = IsSome limits.make

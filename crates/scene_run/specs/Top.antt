@@ -17,8 +17,10 @@ pub record RunsScene (words : Option Bounds) (old new : Outside) (status : Statu
   pub usage : status ≡ Usage → words ≡ None
   -- and where they have none, nothing else is answered, but for want of memory
   pub no_limits : words ≡ None → (status ≡ Usage) ⊎ (status ≡ NoMemory)
-  -- where the machine and the panel could be opened, the script is answered: the log and the frames hold its
-  -- run, the panel shows the last frame that was done, no more was sent than is owed, and the status is right
+  -- Where the machine and the panel could be opened, the script is answered. The log and the frames hold its
+  -- run, and the panel shows the last frame that was done. Slices have at most the draw buffer's pixels, and no
+  -- more was sent than is owed. No more frames and pumps faulted than starts and transfers failed, and each pump
+  -- answers as what is pending, drawn and in flight allows. The status is right.
   pub headline : Headline words old new status
   -- before that no byte is read, nothing is written, and the panel stays closed
   pub unread : IfUnstarted status (new.source ≡ old.source)

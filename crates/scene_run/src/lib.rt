@@ -10,5 +10,7 @@ mod status;
 mod top;
 
 pub use answer::{LogLine, is_noted, make, refresh_counted, reply_text};
+pub use made::run_made;
+pub use runner::Runner;
 pub use status::Status;
 pub use top::run_scene;

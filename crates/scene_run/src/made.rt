@@ -32,7 +32,7 @@ use gui_core::Gui;
 use gui_edge::text::{push_bytes, push_number};
 use gui_edge::{Failed, Panel, Sink, Unheard};
 use run_defs::{FrameEnd, Outcome};
-use scene_script::{Line, LineFault, Maker};
+use scene_script::{Line, LineFault, MadeSays};
 use std::marker::Brand;
 use std::sync::ledger::{Blank, Ledger};
 
@@ -171,7 +171,7 @@ impl Making {
 }
 
 /// Answers the lines that a maker gives, of which none is a pump.
-fn take_lines<P: Panel>(run: &mut Making, maker: &mut Maker, panel: &mut P) -> Result<(), Failed>
+fn take_lines<P: Panel>(run: &mut Making, maker: &mut MadeSays, panel: &mut P) -> Result<(), Failed>
     requires ready { IsReady (making run.old (P.state panel.old)) (length maker.old) }
     requires refused { run.old.refused + length maker.old < 2 ^ 32 }
     requires in_range { All IsInRange maker.old }
@@ -184,7 +184,7 @@ fn take_lines<P: Panel>(run: &mut Making, maker: &mut Maker, panel: &mut P) -> R
         Halted first (panel_alone start) (panel_alone (P.state panel.new))
         (lines ++ maker.old)) }
 {
-    while let Some(line) = maker.next_line() {
+    while let Some(line) = maker.next_said() {
         run.take_line(&Ok(line), panel)?;
     }
     Ok(())
@@ -227,7 +227,7 @@ fn finish<L: Sink>(run: &mut Making, k: u16, log: &mut L) -> Status
 /// Answers the lines of the made script of a number, none of which was answered yet, and writes its summary.
 fn make_all<L: Sink, P: Panel>(
     run: &mut Making,
-    maker: &mut Maker,
+    maker: &mut MadeSays,
     k: u16,
     log: &mut L,
     panel: &mut P,
@@ -252,7 +252,7 @@ fn make_all<L: Sink, P: Panel>(
 
 /// Runs the made script of a number, and writes its summary. What it writes is counted from any moment
 /// `before` on, since which nothing came to the panel.
-pub(crate) fn run_made<L: Sink, P: Panel>(
+pub fn run_made<L: Sink, P: Panel>(
     gui: Gui,
     k: u16,
     limits: &Limits,
@@ -275,6 +275,6 @@ pub(crate) fn run_made<L: Sink, P: Panel>(
         ⊎ Rose (P.state panel.old).present_faults (P.state panel.new).present_faults }
 {
     let mut run = Making::new(gui);
-    let mut maker = Maker::new(k, limits);
+    let mut maker = MadeSays::new(k, limits);
     make_all(&mut run, &mut maker, k, log, panel)
 }

@@ -1,7 +1,7 @@
 //! The top call.
 ghost use Rattle.std.specs.Prelude.{◌≡◌, map};
 ghost use Rattle.run_defs.specs.Words.{limits_of};
-ghost use Rattle.scene_run.specs.Headline.{outside, IfUnstarted};
+ghost use Rattle.scene_run.specs.Headline.{outside, IfUnstarted, AsksMade};
 ghost use Rattle.scene_run.specs.Top.{RunsScene};
 
 use crate::made::run_made;
@@ -17,9 +17,12 @@ use std::alloc::Global;
 /// log and presents each finished frame. Where the words ask for a made script nothing is read: its lines are
 /// answered in the same way, and the log gets one line that counts them.
 ///
-/// For every script, and however the panel fails, each frame written is the picture that painting afresh,
-/// back to front, gives of the scene that the script has made; the panel shows it too; a fault line replaces
-/// it only for a failed flush. Memory is taken at the opening alone.
+/// For every script and however the panel fails, each frame written is the picture that painting afresh, back
+/// to front, gives of all objects shown in the scene which the script's commands, inputs and ticks have made;
+/// the panel shows it too, sent in slices no larger than the draw buffer and within the pixels its touched
+/// places owe; a fault line replaces it only for a failed flush.
+///
+/// Memory is taken at the opening alone.
 pub fn run_scene<S: Source, L: Sink, P: Panel>(
     alloc: Global,
     words: &[&str],
@@ -37,6 +40,9 @@ pub fn run_scene<S: Source, L: Sink, P: Panel>(
     ensures unread { IfUnstarted result (source.new ≡ source.old) }
     ensures unwritten { IfUnstarted result (log.new ≡ log.old) }
     ensures unopened { result ≡ Status.Usage → panel.new ≡ panel.old }
+
+    // Where a made script is asked for, the source stays as it is too, also where it tells nothing.
+    ensures made { AsksMade (limits_of (map (λ w. w.now) words.now)) → source.new ≡ source.old }
 {
     let limits = match limits_of(alloc, words) {
         Ok(Some(limits)) => limits,

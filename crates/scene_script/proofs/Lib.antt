@@ -1,8 +1,10 @@
 pub mod ControlLemmas
 pub mod Cuts
+pub mod HexLemmas
 pub mod LimitLemmas
 pub mod MadeLemmas
 pub mod NumberLemmas
+pub mod QuestionLemmas
 pub mod ShortcutLemmas
 pub mod SplitLemmas
 pub mod WordLemmas

@@ -2,13 +2,12 @@
 use Rattle.std.proofs.Common.{◌≡◌, ◌∙◌, refl, ap, zero, suc, ◌+◌, ◌<◌, ℕ, List, [], ◌∷◌, drop, map, arith}
 use Rattle.std.specs.Prelude.{codes, Ok}
 use Rattle.std.specs.List.{range_with_len}
-use Rattle.run_defs.specs.Made.{made_lines, texts_drawn, line_drawn}
+use Rattle.run_defs.specs.Made.{made_lines}
 use Rattle.gui_base.specs.Names.{named}
 use Rattle.run_defs.specs.Commands.{command_says}
 use Rattle.run_defs.specs.Script.{line_says, parse}
 use Rattle.run_defs.specs.declared.Line.TheVariants.{Frame}
-use Rattle.run_defs.specs.declared.made.MadeLine.{MadeLine}
-use Rattle.scene_script.specs.MadeLines.{made_line_at, says_left}
+use Rattle.scene_script.specs.MadeLines.{made_line_at}
 
 drop_places : {X : Type 0} (f : ℕ → X) (a n i : ℕ) → i < n →
     drop i (map f (range_with_len a n)) ≡ f (a + i) ∷ drop (i + 1) (map f (range_with_len a n))
@@ -32,15 +31,6 @@ line_left place lt =
 pub none_left : drop 1261 made_lines ≡ []
 unfolding made_lines
 none_left = refl
-
--- what is left to say, where a line is left
-pub next_left : (width height place x : ℕ) → place < 1261 →
-    says_left width height place x
-    ≡ parse (line_drawn width height (made_line_at place) x).text ∷ says_left width height (place + 1) (line_drawn width height (made_line_at place) x).x
-next_left width height place x lt = ap (λ (lines : List MadeLine). map (λ line. parse line) (texts_drawn width height lines x)) (line_left place lt)
-
-pub all_made : (width height x : ℕ) → says_left width height 1261 x ≡ []
-all_made width height x = ap (λ (lines : List MadeLine). map (λ line. parse line) (texts_drawn width height lines x)) none_left
 
 -- the line of a frame
 pub frame_says : parse (codes "frame") ≡ Ok Frame

@@ -2,3 +2,4 @@ pub mod CommandLine
 pub mod Cutting
 pub mod MadeLines
 pub mod Numbers
+pub mod Questions

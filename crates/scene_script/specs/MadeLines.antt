@@ -1,6 +1,6 @@
 -- The lines of the made script by their places.
-use Rattle.std.specs.Prelude.{◌≤◌, ℕ, ◌+◌, ◌-◌, ◌/◌, ◌%◌, ◌==◌, nat_lt, if◌then◌else◌, List, drop, map, ⊤}
-use Rattle.run_defs.specs.Made.{made_lines, texts_drawn}
+use Rattle.std.specs.Prelude.{◌≤◌, ℕ, ◌+◌, ◌-◌, ◌/◌, ◌%◌, ◌==◌, nat_lt, if◌then◌else◌, List, map, ⊤}
+use Rattle.run_defs.specs.Made.{texts_drawn}
 use Rattle.run_defs.specs.Script.{Said, parse}
 use Rattle.run_defs.specs.declared.made.MadeCommand.{MadeCommand}
 use Rattle.run_defs.specs.declared.made.MadeCommand.TheVariants.{New, Size, Pos, Color, Opacity}
@@ -14,15 +14,9 @@ pub record IsSized (width height : ℕ) : Type 0 where
   pub some_height : 1 ≤ height
   pub most_height : height ≤ 1024
 
--- what a maker keeps: the sizes of the panel, and the place of the next line
-pub record IsMaking (width height place : ℕ) : Type 0 where
-  pub sized : IsSized width height
-  pub last_place : place ≤ 1261
-
--- what the lines say from a place on
-abbrev pub says_left : ℕ → ℕ → ℕ → ℕ → List Said
-says_left width height place x =
-    map (λ line. parse line) (texts_drawn width height (drop place made_lines) x)
+-- what the texts of lines in a row say
+abbrev pub says_drawn : ℕ → ℕ → List MadeLine → ℕ → List Said
+says_drawn width height lines x = map (λ line. parse line) (texts_drawn width height lines x)
 
 -- a line that names an object names one that may be made
 abbrev pub IsOnMade : MadeLine → Type 0

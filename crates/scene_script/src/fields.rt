@@ -9,6 +9,7 @@ ghost use Rattle.run_defs.specs.Commands.{color_value, align_value, value_for};
 ghost use Rattle.run_defs.specs.Fields.{number_in, count_in, name_in, value, past, value_or, with_fault};
 ghost use Rattle.run_defs.specs.Fields.{next_of, after_next, fields, start, ended};
 ghost use Rattle.run_defs.specs.Language.{first_fault, words_of};
+ghost use Rattle.scene_script.specs.Questions.{said_or_none};
 
 use crate::aims::aim;
 use crate::lengths::length;
@@ -366,6 +367,16 @@ impl<'a> Fields<'a> {
             None => Ok(made),
             Some(fault) => Err(fault),
         }
+    }
+
+    /// What a question asks, where this was its last field: None where it is at fault.
+    pub(crate) fn whole<T: Copy>(&self, made: T) -> Option<T>
+        ensures { result ≡ said_or_none (ended (fields made self.now)) }
+    {
+        if next_word(self.rest).is_some() || self.fault.is_some() {
+            return None;
+        }
+        Some(made)
     }
 
     /// The next word, or the empty one where there is none.

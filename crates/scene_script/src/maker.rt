@@ -1,167 +1,157 @@
-//! What the made script says, line by line.
-ghost use Rattle.std.specs.Prelude.{◌≡◌, ◌≤◌, ◌<◌, ◌+◌, ◌*◌, ◌∷◌, [], pos, IfNone, IfSome, Ok};
+//! The made script, line by line.
+ghost use Rattle.std.specs.Prelude.{◌≡◌, ◌≤◌, ◌<◌, ◌+◌, ◌++◌, ◌∷◌, [], length, slice_index, decimal, IfNone, IfSome};
+ghost use Rattle.arrayvec.specs.ArrayString.{array_string_len};
+ghost use Rattle.hex.specs.Hex.{encode_upper, upper_digits};
 ghost use Rattle.gui_base.specs.Bounded.{bounds_of};
-ghost use Rattle.line_texts.specs.MadeLines.{change_drawn};
-ghost use Rattle.run_defs.specs.Made.{draw, drawn, command_drawn, command_at, line_drawn, made_says};
-ghost use Rattle.run_defs.specs.Script.{parse};
-ghost use Rattle.scene_script.specs.MadeLines.{IsOnMade, IsSized, making_at, made_line_at};
+ghost use Rattle.run_defs.specs.Made.{number_text, pair_text, command_drawn, line_drawn, made_script};
+ghost use Rattle.scene_script.specs.MadeLines.{IsSized};
 
-use gui_base::{Handle, Kind, Length, Limits, Part, Prop, Selector};
-use run_defs::{Command, Line, MadeCommand, MadeLine};
-use scene_defs::Change;
+use crate::made::{Draws, LinesLeft, command_at};
+use arrayvec::ArrayString;
+use gui_base::Limits;
+use itoa::Buffer;
+use run_defs::{MadeCommand, MadeLine};
 use std::marker::Model;
 
-/// The first screen, below which each object of the script is made.
-const FIRST_SCREEN: Handle = Handle(3);
+/// The text of a line of the made script.
+type MadeText = ArrayString<64>;
 
-/// The main part in every state.
-const MAIN: Selector = Selector {
-    part: Part::Main,
-    states: 0,
-};
-
-/// How many lines the made script has.
-const LINES: u32 = 1261;
-
-/// A stream of draws.
-#[derive(Clone, Copy)]
-struct Draws {
-    x: u32,
+/// Adds the digits of a number, at most ten.
+fn push_number(text: &mut MadeText, number: u32)
+    requires { array_string_len text.old + 10 ≤ 64 }
+    ensures bytes { text.new.bytes ≡ text.old.bytes ++ decimal number }
+    ensures len { array_string_len text.new ≤ array_string_len text.old + 10 }
+{
+    let mut buffer = Buffer::new();
+    text.push_str(buffer.format(number));
 }
 
-impl Draws {
-    /// A number below n.
-    #[tactic(auto, unfolding(run_defs::specs::Made::draw, run_defs::specs::Made::drawn))]
-    fn draw(&mut self, n: u32) -> u32
-        requires { 1 ≤ n }
-        ensures value { result ≡ draw n self.old.x }
-        ensures state { self.new.x ≡ drawn self.old.x }
-        ensures below { result < n }
-    {
-        self.x = ((1_103_515_245 * u64::from(self.x) + 12_345) % 2_147_483_648) as u32;
-        self.x / 65_536 % n
-    }
-
-    /// A colour: 65536 * red + 256 * green + blue, each of them drawn.
-    fn draw_color(&mut self) -> i32
-        ensures value { result ≡ pos (65536 * draw 256 self.old.x
-            + 256 * draw 256 (drawn self.old.x) + draw 256 (drawn (drawn self.old.x))) }
-        ensures state { self.new.x ≡ drawn (drawn (drawn self.old.x)) }
-    {
-        let red = self.draw(256);
-        let green = self.draw(256);
-        (65_536 * red + 256 * green + self.draw(256)) as i32
-    }
+/// The digit of a number below 16.
+#[tactic(auto, using(crate::proofs::HexLemmas::digit_is_ascii))]
+fn hex_digit(n: u32) -> char
+    requires { n < 16 }
+    ensures value { result ≡ slice_index upper_digits n }
+    ensures ascii { result < 128 }
+{
+    char::from(b"0123456789ABCDEF"[n as usize])
 }
 
-/// The change that a command asks for on this object of a panel of this width and height.
-fn change_of(
+/// Adds a number below 256 as two hexadecimal digits.
+#[tactic(auto, using(std::proofs::lemmas::Str::encode_ascii))]
+fn push_hex(text: &mut MadeText, byte: u32)
+    requires byte { byte < 256 }
+    requires room { array_string_len text.old + 2 ≤ 64 }
+    ensures bytes { text.new.bytes ≡ text.old.bytes ++ encode_upper (byte ∷ []) }
+    ensures len { array_string_len text.new ≡ array_string_len text.old + 2 }
+{
+    text.push(hex_digit(byte / 16));
+    text.push(hex_digit(byte % 16));
+}
+
+/// Writes two numbers of an object, after this name and a space.
+fn push_pair(text: &mut MadeText, name: &str, h: u32, a: u32, b: u32)
+    requires empty { text.old.bytes ≡ [] }
+    requires name { length name.now ≤ 8 }
+    ensures { text.new.bytes ≡ pair_text name.now h a b }
+{
+    text.push_str(name);
+    push_number(text, h);
+    text.push_str(" ");
+    push_number(text, a);
+    text.push_str(" ");
+    push_number(text, b);
+}
+
+/// Writes a number between these texts.
+fn push_between(text: &mut MadeText, before: &str, number: u32, behind: &str)
+    requires empty { text.old.bytes ≡ [] }
+    requires before { length before.now ≤ 8 }
+    requires behind { length behind.now ≤ 16 }
+    ensures bytes { text.new.bytes ≡ number_text before.now number behind.now }
+    ensures len { array_string_len text.new ≤ 34 }
+{
+    text.push_str(before);
+    push_number(text, number);
+    text.push_str(behind);
+}
+
+/// Writes a command on this object of a panel of this width and height.
+#[tactic(auto, using(crate::proofs::HexLemmas::three_bytes))]
+fn push_command(
+    text: &mut MadeText,
     command: MadeCommand,
-    h: Handle,
+    h: u32,
     width: u32,
     height: u32,
     draws: &mut Draws,
-) -> Change<'static>
-    requires { IsSized width height }
-    ensures change { result ≡ change_drawn width height command h.0 draws.old.x }
-    ensures draws { draws.new.x ≡ (command_drawn width height command h.0 draws.old.x).x }
+)
+    requires empty { text.old.bytes ≡ [] }
+    requires sized { IsSized width height }
+    ensures text { text.new.bytes ≡ (command_drawn width height command h draws.old.x).text }
+    ensures draws { draws.new.x ≡ (command_drawn width height command h draws.old.x).x }
 {
     match command {
-        MadeCommand::New => Change::New(h, FIRST_SCREEN, Kind::Obj),
+        MadeCommand::New => push_between(text, "new ", h, " 3 obj"),
         MadeCommand::Size => {
-            let wide = Length::Pixels((1 + draws.draw(width)) as u16);
-            Change::Size(h, wide, Length::Pixels((1 + draws.draw(height)) as u16))
+            let w = 1 + draws.draw(width);
+            push_pair(text, "size ", h, w, 1 + draws.draw(height));
         }
         MadeCommand::Pos => {
-            let x = draws.draw(width) as i32;
-            Change::Pos(h, x, draws.draw(height) as i32)
+            let x = draws.draw(width);
+            push_pair(text, "pos ", h, x, draws.draw(height));
         }
-        MadeCommand::Color => Change::Local(h, MAIN, Prop::BgColor, draws.draw_color()),
-        MadeCommand::Opacity => Change::Local(h, MAIN, Prop::BgOpa, draws.draw(256) as i32),
-        MadeCommand::Front => Change::Front(h),
+        MadeCommand::Color => {
+            push_between(text, "local ", h, " main bg_color #");
+            push_hex(text, draws.draw(256));
+            push_hex(text, draws.draw(256));
+            push_hex(text, draws.draw(256));
+        }
+        MadeCommand::Opacity => {
+            push_between(text, "local ", h, " main bg_opa ");
+            push_number(text, draws.draw(256));
+        }
+        MadeCommand::Front => push_between(text, "front ", h, ""),
     }
 }
 
-/// The command of a draw below 4.
-fn command_at(t: u32) -> MadeCommand
-    ensures { result ≡ command_at t }
-{
-    match t {
-        0 => MadeCommand::Pos,
-        1 => MadeCommand::Size,
-        2 => MadeCommand::Opacity,
-        _ => MadeCommand::Front,
-    }
-}
-
-/// What a line says on a panel of this width and height.
-fn line_of(line: MadeLine, width: u32, height: u32, draws: &mut Draws) -> Line<'static>
+/// Writes a line on a panel of this width and height.
+fn push_line(text: &mut MadeText, line: MadeLine, width: u32, height: u32, draws: &mut Draws)
+    requires empty { text.old.bytes ≡ [] }
     requires sized { IsSized width height }
-    requires on_made { IsOnMade line }
-    ensures says { Ok result ≡ parse (line_drawn width height line draws.old.x).text }
+    ensures text { text.new.bytes ≡ (line_drawn width height line draws.old.x).text }
     ensures draws { draws.new.x ≡ (line_drawn width height line draws.old.x).x }
 {
-    let change = match line {
-        MadeLine::Object(command, h) => change_of(command, Handle(h as u16), width, height, draws),
+    match line {
+        MadeLine::Object(command, h) => push_command(text, command, h, width, height, draws),
         MadeLine::Drawn => {
-            let h = Handle((10 + draws.draw(50)) as u16);
+            let h = 10 + draws.draw(50);
             let command = command_at(draws.draw(4));
-            change_of(command, h, width, height, draws)
+            push_command(text, command, h, width, height, draws);
         }
-        MadeLine::Frame => return Line::Frame,
-    };
-    Line::Make(Command::Change(change))
-}
-
-/// The nth of the commands that make an object.
-fn making_at(n: u32) -> MadeCommand
-    ensures { result ≡ making_at n }
-{
-    match n {
-        0 => MadeCommand::New,
-        1 => MadeCommand::Size,
-        2 => MadeCommand::Pos,
-        3 => MadeCommand::Color,
-        _ => MadeCommand::Opacity,
+        MadeLine::Frame => text.push_str("frame"),
     }
 }
 
-/// The line at this place of the made script. Five lines make an object each, and from there on every hundred
-/// and first line is a frame.
-#[tactic(auto, unfolding(crate::specs::MadeLines::made_line_at))]
-fn line_at(place: u32) -> MadeLine
-    ensures line { result ≡ made_line_at place }
-    ensures on_made { IsOnMade result }
-{
-    if place < 250 {
-        MadeLine::Object(making_at(place % 5), 10 + place / 5)
-    } else if (place - 250) % 101 == 0 {
-        MadeLine::Frame
-    } else {
-        MadeLine::Drawn
-    }
-}
-
-/// Gives what the lines of a made script say, in order: no text of a line is made. Its value is the list of what
-/// is left to say. It takes no memory.
+/// Gives the lines of a made script, in order. Its value is the list of the lines that are left, each as its
+/// bytes. It takes no memory.
 #[derive(Drop)]
 pub struct Maker {
     width: u32,
     height: u32,
+    lines: LinesLeft,
     draws: Draws,
-    place: u32,
 }
 
 impl Model for Maker {
-    ghost use Rattle.std.specs.Prelude.{List};
-    ghost use Rattle.run_defs.specs.Script.{Said};
-    ghost use Rattle.scene_script.specs.MadeLines.{IsMaking, says_left};
+    ghost use Rattle.std.specs.Prelude.{ℕ, List};
+    ghost use Rattle.run_defs.specs.Made.{texts_drawn};
+    ghost use Rattle.scene_script.specs.MadeLines.{IsSized};
 
-    ghost Value = { List Said };
+    ghost Value = { List (List ℕ) };
 
-    ghost view = { λ m. says_left m.width m.height m.place m.draws.x };
+    ghost view = { λ m. texts_drawn m.width m.height m.lines m.draws.x };
 
-    ghost invariant = { λ m. IsMaking m.width m.height m.place };
+    ghost invariant = { λ m. IsSized m.width m.height };
 }
 
 impl Maker {
@@ -169,27 +159,26 @@ impl Maker {
     pub fn new(k: u16, limits: &Limits) -> Maker
         requires least { 1 ≤ k }
         requires most { k ≤ 1000 }
-        ensures { result ≡ made_says k (bounds_of limits.now) }
+        ensures { result ≡ made_script k (bounds_of limits.now) }
     {
         Maker {
             width: limits.width,
             height: limits.height,
+            lines: LinesLeft::all(),
             draws: Draws { x: u32::from(k) },
-            place: 0,
         }
     }
 
-    /// What the next line says, if one is left.
-    #[tactic(auto, using(crate::proofs::MadeLemmas::next_left, crate::proofs::MadeLemmas::all_made))]
-    pub fn next_line(&mut self) -> Option<Line<'static>>
-        ensures line { IfSome result (λ line. self.old ≡ Ok line ∷ self.new) }
+    /// The next line, if one is left.
+    pub fn next_line(&mut self) -> Option<ArrayString<64>>
+        ensures line { IfSome result (λ line. self.old ≡ line.bytes ∷ self.new) }
         ensures end { IfNone result ((self.old ≡ []) × (self.new ≡ [])) }
     {
-        if self.place == LINES {
+        let Some(line) = self.lines.next_line() else {
             return None;
-        }
-        let line = line_at(self.place);
-        self.place += 1;
-        Some(line_of(line, self.width, self.height, &mut self.draws))
+        };
+        let mut text = ArrayString::new();
+        push_line(&mut text, line, self.width, self.height, &mut self.draws);
+        Some(text)
     }
 }

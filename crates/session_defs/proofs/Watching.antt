@@ -143,8 +143,8 @@ module _ (width height : ℕ) where
   says_seen ms session (Errs why) s ok = record { sound = fails_sound why session s; seen = λ area h b bytes k. absurd (cc) }
 
   -- a message that may be said, as a fact whose message can be found
-  record Sayable (message : Message) : Type 0 where
-    is : IsMessage message
+  pub record Sayable (message : Message) : Type 0 where
+    pub is : IsMessage message
 
   either : (b : Bool) (x y : Message) → Sayable x → Sayable y → Sayable (if b then x else y)
   either true x y h k = h
@@ -167,7 +167,7 @@ module _ (width height : ℕ) where
   errs : (why : RfbBad) → Sayable (Errs why)
   errs why = record { is = tt }
 
-  message_said : (bytes : List ℕ) → Sayable (message_of bytes)
+  pub message_said : (bytes : List ℕ) → Sayable (message_of bytes)
   message_said bytes =
       let kind = at bytes 0 in
       either (kind == 0) _ _ (wants_by (not (at bytes 7 == 0)) (is_format (read_format bytes 4)) (read_format bytes 4) refl)

@@ -1,10 +1,13 @@
 -- Sessions that were worked out by hand.
-use Rattle.std.specs.Prelude.{◌≡◌, ℕ, true, false, List, [], ◌∷◌, ◌++◌, codes, Some}
+use Rattle.std.specs.Prelude.{◌≡◌, ℕ, true, false, List, [], ◌∷◌, ◌++◌, codes, Some, None}
 use Rattle.std.specs.declared.option.Option.{Option}
 use Rattle.gui_base.specs.Limits.{with_sizes}
 use Rattle.run_defs.specs.Machine.{Machine, first_machine}
 use Rattle.session_defs.specs.Sessions.{Outcome, outcome, output_of, log_of, stop, Stop, Finished, Faulty}
 use Rattle.session_defs.specs.Sessions.{version, offer, chosen, turned_down, screen}
+use Rattle.session_defs.specs.Formats.{own}
+use Rattle.session_defs.specs.Reader.{screen_read}
+use Rattle.session_defs.specs.Runs.{screen_after, machine_in, parts_in}
 use Rattle.session_defs.specs.declared.RfbBad.TheVariants as bad
 
 abbrev two_by_one : Machine
@@ -51,6 +54,27 @@ two_blues =
     0 ∷ 0 ∷ 0 ∷ 1 ∷ 0 ∷ 0 ∷ 0 ∷ 0 ∷ 0 ∷ 2 ∷ 0 ∷ 1 ∷ 0 ∷ 0 ∷ 0 ∷ 0 ∷ 190 ∷ 36 ∷ 190 ∷ 36 ∷
     0 ∷ 0 ∷ 0 ∷ 1 ∷ 0 ∷ 0 ∷ 0 ∷ 0 ∷ 0 ∷ 2 ∷ 0 ∷ 1 ∷ 0 ∷ 0 ∷ 0 ∷ 0 ∷ 186 ∷ 27 ∷ 186 ∷ 27 ∷ []
 
+-- pixels of eight bits are wanted: three for red, three for green above them, and two for blue
+abbrev eight_bits : List ℕ
+eight_bits = 0 ∷ 0 ∷ 0 ∷ 0 ∷ 8 ∷ 8 ∷ 0 ∷ 1 ∷ 0 ∷ 7 ∷ 0 ∷ 7 ∷ 0 ∷ 3 ∷ 0 ∷ 3 ∷ 6 ∷ 0 ∷ 0 ∷ 0 ∷ []
+
+-- what is on the screen of a viewer that said all of these bytes
+abbrev screen_of : List ℕ → Option (List (Option ℕ))
+screen_of bytes = screen_after 0 (machine_in two_by_one true bytes) (parts_in true bytes)
+
+-- and of one that got these, with one update in the server's own format
+abbrev got : List ℕ → Option (List (Option ℕ))
+got bytes = screen_read (own ∷ []) (greeted ++ bytes)
+
+-- the same update with two areas announced, and with pixels that are not raw
+abbrev two_areas : List ℕ
+two_areas =
+    0 ∷ 0 ∷ 0 ∷ 2 ∷ 0 ∷ 0 ∷ 0 ∷ 0 ∷ 0 ∷ 2 ∷ 0 ∷ 1 ∷ 0 ∷ 0 ∷ 0 ∷ 0 ∷ 255 ∷ 255 ∷ 255 ∷ 255 ∷ []
+
+abbrev not_raw : List ℕ
+not_raw =
+    0 ∷ 0 ∷ 0 ∷ 1 ∷ 0 ∷ 0 ∷ 0 ∷ 0 ∷ 0 ∷ 2 ∷ 0 ∷ 1 ∷ 0 ∷ 0 ∷ 0 ∷ 1 ∷ 255 ∷ 255 ∷ 255 ∷ 255 ∷ []
+
 pub record SessionsAreWorked : Type 0 where
   pub whole_output : output_of (run (greeting ++ whole)) ≡ greeted ++ two_pixels
   pub whole_log : log_of two_by_one (run (greeting ++ whole)) ≡ []
@@ -75,3 +99,13 @@ pub record SessionsAreWorked : Type 0 where
   pub pressed_log : log_of two_by_one (run (button ++ changes ++ changes ++ press))
       ≡ codes "1 ok\n2 ok\n3 ok\n4 refused syntax\n5 refused syntax\nevent pressed 10 10\n"
   pub pressed_end : end (button ++ changes ++ changes ++ press) ≡ Some (Finished true)
+  -- what a viewer reads: white, in the server's own format and then in eight bits
+  pub white_read : screen_of (greeting ++ whole) ≡ Some (Some 65535 ∷ Some 65535 ∷ [])
+  pub eight_read : screen_of (greeting ++ whole ++ eight_bits ++ whole) ≡ Some (Some 255 ∷ Some 255 ∷ [])
+  -- the later of two updates
+  pub pressed_read : screen_of (button ++ changes ++ changes ++ press) ≡ Some (Some 7098 ∷ Some 7098 ∷ [])
+  -- what cannot be read: a byte too many, two areas where one follows, and pixels that are not raw
+  pub two_pixels_read : got two_pixels ≡ Some (Some 65535 ∷ Some 65535 ∷ [])
+  pub further_read : got (two_pixels ++ 0 ∷ []) ≡ None
+  pub areas_read : got two_areas ≡ None
+  pub raw_read : got not_raw ≡ None

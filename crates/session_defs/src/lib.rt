@@ -4,6 +4,7 @@
 
 ghost use Rattle.session_defs.specs.Examples.{SessionsAreWorked};
 ghost use Rattle.session_defs.specs.Reference.{ReferenceSessions};
+ghost use Rattle.session_defs.specs.Runs.{SessionsAreRead, RunsAreSeen};
 ghost use Rattle.session_defs.specs.Viewing.{AnswersAreSeen};
 ghost use Rattle.session_defs.specs.Watching.{SessionsAreSeen, MessagesAreSeen};
 
@@ -59,6 +60,13 @@ pub fn answers_are_seen()
 pub fn sessions_are_seen()
     ensures sound { SessionsAreSeen }
     ensures answers { MessagesAreSeen }
+{}
+
+/// A viewer reads what it has off the bytes that it gets, in the formats that it set: of each session, and of the
+/// messages of each run.
+pub fn bytes_are_read()
+    ensures read { SessionsAreRead }
+    ensures seen { RunsAreSeen }
 {}
 
 /// Sessions that were made at random come to what a reference implementation gives.

@@ -1,5 +1,5 @@
 -- The words of the language, and what lines say.
-use Rattle.std.specs.Prelude.{◌≡◌, ℕ, Bool, true, false, List, [], ◌∷◌, ◌++◌, map, codes, Ok, pos}
+use Rattle.std.specs.Prelude.{◌≡◌, ℕ, Bool, true, false, List, [], ◌∷◌, ◌++◌, map, codes, Ok, pos, negsuc, None}
 use Rattle.gui_base.specs.Names.{Names, table}
 use Rattle.gui_base.specs.declared.words.Kind.{Kind}
 use Rattle.gui_base.specs.declared.words.Kind.TheVariants as kind
@@ -30,7 +30,7 @@ use Rattle.gui_base.specs.declared.words.TheConstants.{KINDS, ON_OFF, PARTS, ALI
 use Rattle.gui_base.specs.declared.words.TheConstants.{PLACINGS, CROSS_PLACINGS, TEXT_ALIGNS, FORMATS}
 use Rattle.scene_defs.specs.declared.Change.{Change}
 use Rattle.scene_defs.specs.declared.Change.TheVariants as change
-use Rattle.run_defs.specs.declared.Command.TheVariants.{Change as CommandOf}
+use Rattle.run_defs.specs.declared.Command.TheVariants.{Change as CommandOf, Anim}
 use Rattle.run_defs.specs.declared.Line.TheVariants.{Pump, Make}
 use Rattle.run_defs.specs.declared.names.ActionName.{ActionName}
 use Rattle.run_defs.specs.declared.names.Name.{Name}
@@ -129,7 +129,8 @@ pub record WordsAreThese : Type 0 where
       meanings (table {A = Path} PATHS)
       ≡ path.Linear ∷ path.Step ∷ path.EaseIn ∷ path.EaseOut ∷ path.EaseInOut ∷ []
 
--- What a command and an action mean, the lines below tell, and the worked lines of the language.
+-- Their names alone. What each command means is told by the lines below, by the logs of runs that were worked
+-- out elsewhere, which tell what each action means too, or by what the lines of a font's text say.
 pub record CommandsAreThese : Type 0 where
   pub commands :
       names (table {A = Name} COMMANDS)
@@ -161,10 +162,19 @@ LinesAreThese =
     ∷ codes "back 11"
     ∷ codes "load 3"
     ∷ codes "style 999"
+    ∷ codes "set 1 bg_opa 200"
     ∷ codes "unset 1 text_line_space"
     ∷ codes "local 10 scrollbar:disabled pad_top 1000"
     ∷ codes "unlocal 10 indicator:user1 img_opa"
     ∷ codes "endfont 1"
+    ∷ codes "places 10 end center space_between"
+    ∷ codes "grow 11 255"
+    ∷ codes "source 12 999"
+    ∷ codes "use 13 7 main"
+    ∷ codes "unuse 13 8 knob:pressed"
+    ∷ codes "image 5 565a 2 256"
+    ∷ codes "row 5 1 00fF"
+    ∷ codes "anim 10 value -5 4000 1 60000 250 forever ease_in_out"
     ∷ [])
     ≡ Ok Pump
     ∷ asks (change.Screen (h 10))
@@ -176,8 +186,27 @@ LinesAreThese =
     ∷ asks (change.Back (h 11))
     ∷ asks (change.Load (h 3))
     ∷ asks (change.Style 999)
+    ∷ asks (change.Set 1 prop.BgOpa (pos 200))
     ∷ asks (change.Unset 1 prop.TextLineSpace)
     ∷ asks (change.Local (h 10) (record { part = part.Scrollbar; states = 128 }) prop.PadTop (pos 1000))
     ∷ asks (change.Unlocal (h 10) (record { part = part.Indicator; states = 4096 }) prop.ImgOpa)
     ∷ asks (change.EndFont 1)
+    ∷ asks (change.Places (h 10) placing.End placing.Center placing.SpaceBetween)
+    ∷ asks (change.Grow (h 11) 255)
+    ∷ asks (change.Source (h 12) 999)
+    ∷ asks (change.Use (h 13) 7 (record { part = part.Main; states = 0 }))
+    ∷ asks (change.Unuse (h 13) 8 (record { part = part.Knob; states = 32 }))
+    ∷ asks (change.Image 5 format.Rgb565Alpha 2 256)
+    ∷ asks (change.ImageRow 5 1 (0 ∷ 255 ∷ []))
+    ∷ Ok (Make (Anim (record {
+      h = h 10;
+      var = var.Value;
+      start = negsuc 4;
+      end = pos 4000;
+      time = 1;
+      delay = 60000;
+      playback = 250;
+      repeat = None;
+      path = path.EaseInOut;
+    })))
     ∷ []

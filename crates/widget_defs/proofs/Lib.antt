@@ -1,2 +1,3 @@
+pub mod Bars
 pub mod Captions
 pub mod Shares

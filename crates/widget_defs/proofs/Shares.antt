@@ -18,10 +18,10 @@ not_below (negsuc n) h = absurd (omega (arith, ints))
 pub above : (a b : ℤ) → b ≤ℤ a → pos (number_of (a -ℤ b)) ≡ a -ℤ b
 above a b h = not_below (a -ℤ b) (omega (arith, ints))
 
-part-within : (n d all : ℕ) → d ≤ all → n * d / all ≤ n
+pub part-within : (n d all : ℕ) → d ≤ all → n * d / all ≤ n
 part-within n d all h = div-le_of_le-mul all (let m = mul-le-mul_left n h in omega arith)
 
-part-grows : (n d e all : ℕ) → 0 < all → d ≤ e → n * d / all ≤ n * e / all
+pub part-grows : (n d e all : ℕ) → 0 < all → d ≤ e → n * d / all ≤ n * e / all
 part-grows n d e all some h =
     (le-div_iff_mul-le some).1 (let m = mul-le-mul_left n h in let below = div-mul-le_self (n * d) all in omega arith)
 

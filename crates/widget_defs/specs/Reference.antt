@@ -1,7 +1,8 @@
--- Items and own sizes that a reference implementation gives, which follows the rules by itself. Each row has
+-- Items, bars and own sizes that a reference implementation gives, which follows the rules by itself. Each row has
 -- the kind of an object, its states, what is set at its main part, its indicator and its knob, its text, its
--- value with its range, and its image; then its place.
-use Rattle.std.specs.Prelude.{◌≡◌, ℕ, false, ◌==◌, if◌then◌else◌, List, [], ◌∷◌, map, codes, Some, None}
+-- value with its range, and its image; then its place. A row of bars has what is set at the main part and the
+-- scrollbar, and how far the children reach and are moved.
+use Rattle.std.specs.Prelude.{◌≡◌, ℕ, true, false, ◌==◌, if◌then◌else◌, List, [], ◌∷◌, map, codes, Some, None}
 use Rattle.std.specs.Prelude.{ℤ, pos, negsuc}
 use Rattle.std.specs.declared.option.Option.{Option}
 use Rattle.gui_base.specs.declared.color.Rgb565.{Rgb565}
@@ -24,7 +25,7 @@ use Rattle.text_defs.specs.Face.{Face}
 use Rattle.text_defs.specs.Fonts.{face_of}
 use Rattle.widget_defs.specs.declared.ImageLook.{ImageLook}
 use Rattle.widget_defs.specs.Examples.{rect, item, border, text_in, picture_in}
-use Rattle.widget_defs.specs.Items.{Item, items}
+use Rattle.widget_defs.specs.Items.{Item, items, bars}
 use Rattle.widget_defs.specs.Looks.{Look, PartValues, number_of}
 use Rattle.widget_defs.specs.Sizes.{own_width, own_height}
 
@@ -93,6 +94,23 @@ as_seen shown = record shown { area = if is_empty shown.area then nothing else s
 
 abbrev shown_in : Look → Rect → List Item
 shown_in look place = map as_seen (items look place)
+
+-- a scrollable object whose children reach so far and are moved so far, and one that is not scrollable
+abbrev scrolling : Kind → ℕ → List Setting → List Setting → ℕ × ℕ → ℕ × ℕ → Look
+scrolling kind states main scrollbar reach offset =
+    record (sample kind states main [] [] [] (pos 0) (pos 0) (pos 100) None) {
+      scrollbar = part_in kind Scrollbar states scrollbar;
+      scrollable = true;
+      reach = reach;
+      offset = offset;
+    }
+
+abbrev still : Kind → ℕ → List Setting → List Setting → ℕ × ℕ → ℕ × ℕ → Look
+still kind states main scrollbar reach offset =
+    record (scrolling kind states main scrollbar reach offset) { scrollable = false }
+
+abbrev bars_in : Look → Rect → List Item
+bars_in look place = map as_seen (bars look place)
 
 abbrev both : ℕ → ℕ → ℕ × ℕ
 both width height = (width, height)
@@ -473,6 +491,69 @@ pub record ReferenceItems : Type 0 where
   pub row_75 : shown_in (sample kind.Obj 0 (set prop.PadBottom 3 ∷ set prop.BgColor 86079 ∷ []) (set
       prop.BorderOpa 207 ∷ set prop.BgColor 13404064 ∷ []) [] (codes "") (pos 85) (pos 0) (pos 100) None)
       (at 36 10 48 73) ≡ item (at 36 10 48 73) (rgb 647) 0 ∷ border (at 36 10 48 73) 0 black 255 ∷ []
+
+pub record ReferenceBars : Type 0 where
+  pub bar_1 : bars_in (scrolling kind.Label 1 (set prop.PadBottom 8 ∷ set prop.BorderWidth 3 ∷ set
+      prop.PadRight 8 ∷ set prop.PadLeft 3 ∷ []) (set prop.BgColor 15911809 ∷ set prop.BgOpa 170 ∷ [])
+      (3, 341) (3, 0)) (at 34 54 123 61) ≡ item (at 120 54 123 61) (rgb 63056) 170 ∷ item (at 38 58 123
+      61) (rgb 63056) 170 ∷ []
+  pub bar_2 : bars_in (scrolling kind.Image 32 (set prop.PadTop 3 ∷ set prop.PadLeft 1 ∷ set
+      prop.PadRight 1 ∷ []) (set prop.BgOpa 219 ∷ []) (236, 5) (101, 3)) (rect (pos 0) (negsuc 0) (pos 1)
+      (pos 76)) ≡ item (at 0 2 1 74) (rgb 40179) 219 ∷ item (at 0 73 1 76) (rgb 40179) 219 ∷ []
+  pub bar_3 : bars_in (scrolling kind.Button 32 (set prop.PadLeft 5 ∷ []) (set prop.BgColor 4707945 ∷ [])
+      (8, 195) (0, 195)) (rect (pos 11) (negsuc 5) (pos 23) (negsuc 3)) ≡ item (rect (pos 20) (negsuc 5)
+      (pos 23) (negsuc 3)) (rgb 18093) 255 ∷ item (rect (pos 11) (negsuc 5) (pos 18) (negsuc 3)) (rgb
+      18093) 255 ∷ []
+  pub bar_4 : bars_in (scrolling kind.List 0 (set prop.PadTop 4 ∷ set prop.PadLeft 6 ∷ set prop.PadRight
+      8 ∷ []) (set prop.BgOpa 136 ∷ []) (343, 2398) (207, 319)) (at 56 39 59 50) ≡ item (at 56 39 59 46)
+      (rgb 40179) 136 ∷ item (at 56 47 59 50) (rgb 40179) 136 ∷ []
+  pub bar_5 : bars_in (scrolling kind.Button 32 (set prop.PadRight 6 ∷ []) (set prop.BgColor 991396 ∷ [])
+      (229, 740) (227, 125)) (rect (pos 52) (negsuc 0) (pos 90) (negsuc 0)) ≡ item (rect (pos 87) (negsuc
+      0) (pos 90) (negsuc 0)) (rgb 2324) 255 ∷ item (rect (pos 82) (negsuc 0) (pos 89) (negsuc 0)) (rgb
+      2324) 255 ∷ []
+  pub bar_6 : bars_in (scrolling kind.Image 1 (set prop.PadLeft 8 ∷ set prop.PadBottom 8 ∷ set
+      prop.PadTop 8 ∷ []) (set prop.BgOpa 188 ∷ []) (7290, 9) (7290, 0)) (at 13 12 76 23) ≡ item (at 73
+      12 76 19) (rgb 40179) 188 ∷ item (at 69 20 76 23) (rgb 40179) 188 ∷ []
+  pub bar_7 : bars_in (scrolling kind.List 0 [] (set prop.BgColor 15379130 ∷ set prop.BgOpa 16 ∷ [])
+      (165, 0) (165, 0)) (at 57 18 63 206) ≡ item (at 57 203 63 206) (rgb 60759) 16 ∷ []
+  pub bar_8 : bars_in (scrolling kind.Obj 33 (set prop.PadRight 5 ∷ set prop.BorderWidth 1 ∷ set
+      prop.PadBottom 2 ∷ []) [] (23, 281) (19, 56)) (rect (negsuc 13) (negsuc 7) (pos 48) (pos 152)) ≡
+      item (at 45 12 48 68) (rgb 40179) 255 ∷ item (at 1 149 44 152) (rgb 40179) 255 ∷ []
+  pub bar_9 : bars_in (scrolling kind.Button 33 [] (set prop.BgColor 13264755 ∷ set prop.BgOpa 240 ∷
+      []) (7, 2367) (0, 2367)) (at 0 24 4 154) ≡ item (at 1 147 4 154) (rgb 52014) 240 ∷ item (at 0 151 4
+      154) (rgb 52014) 240 ∷ []
+  pub bar_10 : bars_in (scrolling kind.Obj 0 [] (set prop.BgColor 13685128 ∷ set prop.BgOpa 83 ∷ [])
+      (0, 367) (0, 0)) (at 29 11 32 124) ≡ item (at 29 11 32 37) (rgb 54929) 83 ∷ []
+  pub bar_11 : bars_in (scrolling kind.Image 1 (set prop.PadLeft 9 ∷ set prop.BorderWidth 6 ∷ set
+      prop.PadBottom 9 ∷ set prop.PadRight 3 ∷ []) (set prop.BgOpa 202 ∷ []) (5900, 221) (1776, 165)) (at
+      57 44 253 115) ≡ item (at 250 88 253 100) (rgb 40179) 202 ∷ item (at 113 112 120 115) (rgb 40179)
+      202 ∷ []
+  pub bar_12 : bars_in (scrolling kind.Image 1 (set prop.PadTop 3 ∷ set prop.PadBottom 3 ∷ []) []
+      (1008, 181) (217, 95)) (at 38 45 124 80) ≡ item (at 121 59 124 66) (rgb 40179) 255 ∷ item (at 55 77
+      62 80) (rgb 40179) 255 ∷ []
+  pub bar_13 : bars_in (scrolling kind.Button 33 (set prop.PadLeft 2 ∷ []) (set prop.BgColor 16570861 ∷
+      set prop.BgOpa 18 ∷ []) (2, 0) (2, 0)) (rect (negsuc 7) (pos 34) (pos 113) (pos 166)) ≡ item (rect
+      (negsuc 4) (pos 163) (pos 113) (pos 166)) (rgb 65245) 18 ∷ []
+  pub bar_14 : bars_in (scrolling kind.Image 0 [] (set prop.BgColor 14205358 ∷ set prop.BgOpa 211 ∷ [])
+      (4, 149) (4, 46)) (at 10 49 172 218) ≡ item (at 169 73 172 162) (rgb 56853) 211 ∷ item (at 14 215
+      172 218) (rgb 56853) 211 ∷ []
+  pub bar_15 : bars_in (scrolling kind.Obj 33 (set prop.BorderWidth 8 ∷ set prop.PadTop 1 ∷ []) (set
+      prop.BgColor 7070204 ∷ set prop.BgOpa 140 ∷ []) (5, 295) (0, 8)) (at 8 56 21 172) ≡ item (at 18 58
+      21 86) (rgb 28447) 140 ∷ item (at 8 169 15 172) (rgb 28447) 140 ∷ []
+  pub bar_16 : bars_in (scrolling kind.Screen 33 [] (set prop.BgColor 6928022 ∷ []) (3966, 294) (
+    0,
+    220,
+  )) (at 20 29 139 63) ≡ item (at 136 49 139 56) (rgb 28082) 255 ∷ item (at 20 60 27 63) (rgb
+      28082) 255 ∷ []
+  pub bar_17 : bars_in (scrolling kind.Checkbox 1 (set prop.PadTop 6 ∷ set prop.PadBottom 8 ∷ []) []
+      (6290, 302) (0, 302)) (rect (negsuc 3) (negsuc 11) (pos 108) (pos 161)) ≡ item (at 105 102 108 161)
+      (rgb 40179) 255 ∷ item (rect (negsuc 3) (pos 158) (pos 3) (pos 161)) (rgb 40179) 255 ∷ []
+  pub bar_18 : bars_in (scrolling kind.Label 0 (set prop.PadTop 1 ∷ set prop.PadBottom 4 ∷ []) (set
+      prop.BgOpa 82 ∷ []) (1752, 10) (1728, 7)) (at 21 37 24 47) ≡ item (at 21 39 24 46) (rgb 40179) 82 ∷
+      item (at 21 44 24 47) (rgb 40179) 82 ∷ []
+  pub bar_19 : bars_in (still kind.List 0 [] [] (40, 60) (3, 9)) (at 4 5 60 70) ≡ []
+  pub bar_20 : bars_in (scrolling kind.Obj 0 (set prop.PadTop 30 ∷ []) (set prop.BgOpa 99 ∷ []) (0, 17)
+      (0, 17)) (at 2 2 40 21) ≡ item (at 37 14 40 21) (rgb 40179) 99 ∷ []
 
 pub record ReferenceSizes : Type 0 where
   pub size_1 : sizes_of (sample kind.Label 0 [] (set prop.BorderOpa 177 ∷ []) [] (codes "z  mbmz") (pos

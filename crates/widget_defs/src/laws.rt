@@ -1,6 +1,6 @@
 //! What follows from the definitions. Each function does nothing: its contract is a law, which is proved.
-ghost use Rattle.widget_defs.specs.Laws.{SharesFollowValues, KnobsStayInside, CheckboxTextsStayWhole};
-ghost use Rattle.widget_defs.specs.Reference.{ReferenceItems, ReferenceSizes};
+ghost use Rattle.widget_defs.specs.Laws.{SharesFollowValues, KnobsStayInside, CheckboxTextsStayWhole, BarsFollowOffsets};
+ghost use Rattle.widget_defs.specs.Reference.{ReferenceBars, ReferenceItems, ReferenceSizes};
 ghost use Rattle.widget_defs.specs.Examples.{ItemsAreWorked, BarsAreWorked, SizesAreWorked, KindsAreThese};
 
 /// The share of a bar that is filled is empty at the least value and whole at the greatest, and a greater
@@ -12,6 +12,13 @@ pub fn shares_follow_values()
 /// The knob of a slider lies inside its content area, whatever the value.
 pub fn knobs_stay_inside()
     ensures { KnobsStayInside }
+{}
+
+/// The bars of a scrollable object lie in its place, along its right edge and its bottom. Each begins at the first line
+/// where the children are not moved, ends at the last one where they are moved as far as they reach, and never goes back
+/// where they are moved further.
+pub fn bars_follow_offsets()
+    ensures { BarsFollowOffsets }
 {}
 
 /// The text of a checkbox is broken at newlines alone.
@@ -31,8 +38,9 @@ pub fn worked_examples()
     ensures sizes { SizesAreWorked }
 {}
 
-/// Seventy-five objects have the items that a reference implementation gives, and thirty the own sizes.
+/// Seventy-five objects have the items that a reference implementation gives, twenty the bars, and thirty the own sizes.
 pub fn reference_items()
     ensures items { ReferenceItems }
+    ensures bars { ReferenceBars }
     ensures sizes { ReferenceSizes }
 {}

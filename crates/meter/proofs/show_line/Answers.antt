@@ -22,6 +22,11 @@ returns-in-Some-clause-refused g c = λ refusal said refused.
     let at = (goal.at.returns-in-Some-clause-refused g c).After-show_number in
     c.show_number.ensures.refused refusal (subst (λ (n : ℤ). refusal_of_all (machine_of c.args.gui.now) (number_commands n) ≡ Some refusal) (sym (shown g at)) refused)
 
+pub returns-in-Some-clause-refused_panel : goal.returns-in-Some-clause-refused_panel
+returns-in-Some-clause-refused_panel g c = λ refusal said refused.
+    let at = (goal.at.returns-in-Some-clause-refused_panel g c).After-show_number in
+    c.show_number.ensures.refused_panel refusal (subst (λ (n : ℤ). refusal_of_all (machine_of c.args.gui.now) (number_commands n) ≡ Some refusal) (sym (shown g at)) refused)
+
 pub returns-in-Some-clause-hinders : goal.returns-in-Some-clause-hinders
 returns-in-Some-clause-hinders g c = λ said none.
     let at = (goal.at.returns-in-Some-clause-hinders g c).After-show_number in

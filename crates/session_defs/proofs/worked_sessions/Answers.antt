@@ -51,4 +51,11 @@ returns c = record {
   pressed_output = refl;
   pressed_log = refl;
   pressed_end = refl;
+  white_read = refl;
+  eight_read = refl;
+  pressed_read = refl;
+  two_pixels_read = refl;
+  further_read = refl;
+  areas_read = refl;
+  raw_read = refl;
 }

@@ -2,11 +2,12 @@ use Rattle.std.proofs.Common.{refl}
 use Rattle.hex.specs.Hex.{decode_pairs}
 use Rattle.gui_base.specs.Bits.{with_bit}
 use Rattle.gui_base.specs.Names.{named}
-use Rattle.run_defs.specs.Commands.{command_says, property}
+use Rattle.run_defs.specs.Commands.{command_says, property, path, repeat_said, var}
 use Rattle.run_defs.specs.Fields.{over, value, past}
-use Rattle.run_defs.specs.Numbers.{number, natural, color}
+use Rattle.run_defs.specs.Numbers.{number, natural, color, bytes_said}
 use Rattle.run_defs.specs.Script.{line_says}
 use Rattle.run_defs.specs.Selectors.{selector_named, state_named}
+use Rattle.scene_defs.specs.RowBytes.{bytes_in_hex}
 use Rattle.table_checks.proofs.words.Goals as goal
 
 pub returns-clause-words : goal.returns-clause-words
@@ -48,5 +49,5 @@ returns-clause-commands c = record {
 }
 
 pub returns-clause-lines : goal.returns-clause-lines
-unfolding decode_pairs with_bit named command_says property over value past number natural color line_says selector_named state_named
+unfolding decode_pairs with_bit bytes_in_hex named command_says path property repeat_said var over value past number natural color bytes_said line_says selector_named state_named
 returns-clause-lines c = refl

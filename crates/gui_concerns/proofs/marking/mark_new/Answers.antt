@@ -4,7 +4,7 @@ use Rattle.gui_base.specs.Forest.{has}
 use Rattle.gui_store.specs.Views.{scene_of}
 use Rattle.scene_defs.specs.Scene.{handles_of}
 use Rattle.gui_boxes.specs.Marks.{is_parent}
-use Rattle.gui_concerns.proofs.Marks.{also-mark, none-there, room, there-still, unmarked-still}
+use Rattle.gui_concerns.proofs.Marks.{also-mark, none-changed, none-there, room, there-still, unmarked-still}
 use Rattle.gui_concerns.proofs.marking.mark_new.Goals as goal
 
 pub mark-requires : goal.mark-requires
@@ -24,6 +24,9 @@ mark_children-requires c =
 
 pub returns-clause-own : goal.returns-clause-own
 returns-clause-own c = c.mark_children.ensures.changed c.args.child.0 ∙ c.mark.ensures.own
+
+pub returns-clause-changed : goal.returns-clause-changed
+returns-clause-changed c k other = c.mark_children.ensures.changed k ∙ (c.mark.ensures.others k other ∙ none-changed c.args.marks.now k (c.requires.none.none k))
 
 kept : (b c : Bool) → c ≡ false → (b && not c) ≡ b
 kept true c off = rw off refl

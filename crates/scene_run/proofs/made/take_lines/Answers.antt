@@ -54,12 +54,12 @@ take_line-requires-clause-no_pump g c =
 pub take_line-requires-clause-ready : goal.take_line-requires-clause-ready
 take_line-requires-clause-ready g c =
     let h = rw c.in-Some.ensures.line at c.loop-line.invariant in
-    ready_less _ _ _ (some_left (Ok c.in-Some.line) c.next_line.new.self) h.ready
+    ready_less _ _ _ (some_left (Ok c.in-Some.line) c.next_said.new.self) h.ready
 
 pub take_line-requires-clause-refused : goal.take_line-requires-clause-refused
 take_line-requires-clause-refused g c =
     let h = rw c.in-Some.ensures.line at c.loop-line.invariant in
-    few_here _ (Ok c.in-Some.line) c.next_line.new.self h.few
+    few_here _ (Ok c.in-Some.line) c.next_said.new.self h.few
 
 pub loop-line-preserved : goal.loop-line-preserved
 loop-line-preserved g c =
@@ -67,10 +67,10 @@ loop-line-preserved g c =
     let on = c.in_ok-take_line.ensures.ok in
     let said : Said = Ok c.in-Some.line in record {
       taken = h.taken ++ said ∷ [];
-      split = append_assoc h.taken (said ∷ []) c.next_line.new.self ∙ h.split;
+      split = append_assoc h.taken (said ∷ []) c.next_said.new.self ∙ h.split;
       made = λ first start lines k. subst (HasMade first start c.take_line.new.self (g.P.Panel.state c.take_line.new.panel)) (append_assoc lines h.taken (said ∷ [])) (on.from first start (lines ++ h.taken) (h.made first start lines k));
-      ready = on.ready _ (ready_less _ _ _ (one_less said c.next_line.new.self) h.ready);
-      few = few_left _ _ said c.next_line.new.self c.in_ok-take_line.ensures.refused h.few;
+      ready = on.ready _ (ready_less _ _ _ (one_less said c.next_said.new.self) h.ready);
+      few = few_left _ _ said c.next_said.new.self c.in_ok-take_line.ensures.refused h.few;
       in_range = λ k d below. h.in_range (suc k) d (omega (arith, below));
       none = (all_both _ _ h.none).1;
     }
@@ -81,8 +81,8 @@ returns-in_err-take_line-clause-err g c =
     let halts = c.in_err-take_line.ensures.err in
     let said : Said = Ok c.in-Some.line in
     on_err c.from_residual.result (λ first start lines k.
-    halted_on first (panel_alone start) (panel_alone (g.P.Panel.state c.take_line.new.panel)) ((lines ++ h.taken) ++ said ∷ []) c.next_line.new.self (lines ++ c.args.maker.now)
-    (rw (← h.split) (sym (taken_amid lines h.taken said c.next_line.new.self))) (halts.from first (panel_alone start) (lines ++ h.taken) (h.made first start lines k).answered))
+    halted_on first (panel_alone start) (panel_alone (g.P.Panel.state c.take_line.new.panel)) ((lines ++ h.taken) ++ said ∷ []) c.next_said.new.self (lines ++ c.args.maker.now)
+    (rw (← h.split) (sym (taken_amid lines h.taken said c.next_said.new.self))) (halts.from first (panel_alone start) (lines ++ h.taken) (h.made first start lines k).answered))
 
 pub returns-clause-ok : goal.returns-clause-ok
 returns-clause-ok g c = λ first start lines k.

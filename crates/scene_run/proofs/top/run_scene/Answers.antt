@@ -4,7 +4,7 @@ use Rattle.gui_core.specs.Machines.{machine_of}
 use Rattle.run_defs.specs.Machine.{Machine}
 use Rattle.scene_run.specs.Effects.{output}
 use Rattle.scene_run.specs.Headline.{outside, MadeEnded}
-use Rattle.scene_run.proofs.Headlines.{unstarted, sizes_opened, unless_started, still_of, since_opening, fault_since, not_asked, runs_usage, runs_no_memory, runs_panel_fault, runs_started}
+use Rattle.scene_run.proofs.Headlines.{unstarted, sizes_opened, unless_started, still_of, since_opening, fault_since, not_asked, runs_usage, runs_no_memory, runs_panel_fault, runs_started, asks_none}
 use Rattle.scene_run.proofs.top.run_scene.Given.{Over}
 use Rattle.scene_run.proofs.top.run_scene.Goals as goal
 use Rattle.scene_run.proofs.top.run_scene.Goals.{After-run_made}
@@ -111,3 +111,6 @@ returns-in-Ok-open-clause-unwritten g c = unless_started _ _ c.run_made.ensures.
 
 pub returns-in-Ok-open-clause-unopened : goal.returns-in-Ok-open-clause-unopened
 returns-in-Ok-open-clause-unopened g c = λ e. absurd (rw e at c.run_made.ensures.started)
+
+pub returns-in-None-clause-made : goal.returns-in-None-clause-made
+returns-in-None-clause-made g c = λ asks. absurd (asks_none _ (bounds_of c.in-Ok-Some.limits) (ap (option_map bounds_of) (sym c.in-Ok-Some.field-0-is) ∙ c.in-Ok-Some.ensures) c.in-None.is asks)

@@ -82,6 +82,30 @@ returns-clause-items c = record {
   row_75 = refl;
 }
 
+pub returns-clause-bars : goal.returns-clause-bars
+returns-clause-bars c = record {
+  bar_1 = refl;
+  bar_2 = refl;
+  bar_3 = refl;
+  bar_4 = refl;
+  bar_5 = refl;
+  bar_6 = refl;
+  bar_7 = refl;
+  bar_8 = refl;
+  bar_9 = refl;
+  bar_10 = refl;
+  bar_11 = refl;
+  bar_12 = refl;
+  bar_13 = refl;
+  bar_14 = refl;
+  bar_15 = refl;
+  bar_16 = refl;
+  bar_17 = refl;
+  bar_18 = refl;
+  bar_19 = refl;
+  bar_20 = refl;
+}
+
 pub returns-clause-sizes : goal.returns-clause-sizes
 unfolding lines run_width greatest
 returns-clause-sizes c = record {

@@ -1,12 +1,9 @@
-use Rattle.std.proofs.Common.{◌∙◌, sym, ap, subst, ℕ}
+use Rattle.std.proofs.Common.{◌∙◌, sym, ap}
 use Rattle.gui_base.specs.Corners.{rect_of}
 use Rattle.gui_base.specs.Gridded.{block_of}
 use Rattle.gui_base.specs.declared.rounding.Grid.{Grid}
 use Rattle.gui_change.specs.Canvas.{scene_in}
-use Rattle.cover_defs.specs.Cover.{items_shown}
-use Rattle.cover_defs.specs.Steps.{slice_extra}
-use Rattle.gui_refresh.specs.Slicing.{DrawsSlices}
-use Rattle.gui_board.proofs.Sending.{can_refresh, refreshes_scene}
+use Rattle.gui_board.proofs.Sending.{can_refresh, refreshes_scene, draws_scene}
 use Rattle.gui_damage.specs.Gridded.{listed_in}
 use Rattle.gui_refresh.specs.Stages.{Sizes, stage}
 use Rattle.gui_board.proofs.board.Board.refresh.Goals as goal
@@ -25,9 +22,8 @@ returns-clause-refreshes g c =
 
 pub returns-clause-draws : goal.returns-clause-draws
 returns-clause-draws g c =
-    let scene = scene_in c.args.self.now.canvas in
-    subst (λ (limit : ℕ). DrawsSlices limit (items_shown scene) (slice_extra scene) (g.P.Panel.state c.args.panel.now).sent (g.P.Panel.state c.refresh.new.panel).sent c.args.steps.now c.refresh.new.steps)
-    (ap (λ (s : Sizes). s.limit) c.requires.refresher) c.refresh.ensures.draws
+    draws_scene (scene_in c.args.self.now.canvas) (stage c.args.refresher.now (g.P.Panel.state c.args.panel.now) (listed_in c.args.self.now.damage)) (stage c.refresh.new.self (g.P.Panel.state c.refresh.new.panel) (listed_in c.refresh.new.damage))
+    c.refresh.result _ _ c.requires.can.sizes c.requires.refresher c.args.self.now.panel c.refresh.ensures.refreshes.keeps c.refresh.ensures.draws
 
 pub invariant_of-self-clause-panel : goal.invariant_of-self-clause-panel
 invariant_of-self-clause-panel g c = ap (λ (grid : Grid). rect_of grid.panel) c.refresh.ensures.round ∙ c.args.self.now.panel

@@ -74,6 +74,9 @@ settle_marks-requires-clause-without c =
 pub returns-clause-settled : goal.returns-clause-settled
 returns-clause-settled c = c.settle_marks.ensures.settles.settled (but c.args.self.now (scene_of c.args.store.now) c.args.marks.now c.requires.were c.args.store.now.kept.valid.trees.once)
 
+pub returns-clause-naturals : goal.returns-clause-naturals
+returns-clause-naturals c = (c.settle_marks.ensures.settles.settled (but c.args.self.now (scene_of c.args.store.now) c.args.marks.now c.requires.were c.args.store.now.kept.valid.trees.once)).naturals
+
 pub returns-clause-tops : goal.returns-clause-tops
 returns-clause-tops c = c.settle_marks.ensures.moves.tops
 

@@ -36,6 +36,7 @@ use Rattle.scene_defs.specs.Scene.{handles_of}
 use Rattle.gui_boxes.specs.Pending.{is_marked_in, is_partly, is_pending}
 use Rattle.gui_layout.specs.Raised.{Rests}
 use Rattle.gui_layout.specs.SettledBut.{AreRightBut, AreRightButChanged, AreScrolledBut, anyone, in_marked, nobody}
+use Rattle.gui_layout.proofs.NaturalSizes.{all-naturals}
 use Rattle.gui_layout.proofs.Closing.{marked-places, marked-settled, marked-sizes}
 use Rattle.gui_tree.proofs.Parts.{distinct_once}
 use Rattle.gui_boxes.proofs.Pendings.{all-any, any-part, part-any}
@@ -308,5 +309,6 @@ returns-clause-settles c =
             solved = stands_now.solved;
             scrolled = told_right;
             reached = record { reaches = λ h. (shown h).reaches; offsets = λ h. (shown h).offsets };
+            naturals = all-naturals scene valid new.entries stands_now.settled stands_now.there;
           };
     }

@@ -92,6 +92,7 @@ returns-clause-settled c =
       reached =
           let shown = all-reached scene c.tree.ensures.valid t (settled d) (scrolled d) (some d) in
           record { reaches = λ h. (shown h).reaches; offsets = λ h. (shown h).offsets };
+      naturals = all-naturals scene c.tree.ensures.valid t (settled d) (some d);
     }
 
 pub returns-clause-naturals : goal.returns-clause-naturals

@@ -3,8 +3,8 @@ use Rattle.line_texts.proofs.MadeLines.{draw_below, made_commands_say}
 use Rattle.run_defs.specs.Made.{command_at, draw, drawn}
 use Rattle.scene_script.specs.MadeLines.{IsOnMade}
 use Rattle.scene_script.proofs.MadeLemmas.{frame_says}
-use Rattle.scene_script.proofs.maker.line_of.Goals as goal
-use Rattle.scene_script.proofs.maker.line_of.Goals.{in-Object, in-Drawn}
+use Rattle.scene_script.proofs.says.line_of.Goals as goal
+use Rattle.scene_script.proofs.says.line_of.Goals.{in-Object, in-Drawn}
 
 pub returns-in-Frame-clause-says : goal.returns-in-Frame-clause-says
 returns-in-Frame-clause-says c = rw c.in-Frame.is (sym frame_says)

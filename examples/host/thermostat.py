@@ -18,8 +18,6 @@ LESS, MORE = 20, 21
 FAN_TEXT, FAN = 30, 31
 LAMP = 40
 
-# Where the slider's content area begins, how many columns it has, and its range.
-FAN_LEFT, FAN_COLUMNS, FAN_FROM, FAN_TO = 8, 144, 0, 100
 BLUE = (33, 150, 247)
 
 # What a hand does: a time in seconds, then where the pointer goes, in steps of 40 ms, until it is lifted.
@@ -35,20 +33,13 @@ SECONDS = 18
 
 
 class Thermostat:
-    """The numbers of a room, in tenths of a degree and in percent. They are kept here and nowhere else."""
+    """The numbers of a room, in tenths of a degree and in percent, and the screen that shows them."""
 
     def __init__(self):
         self.room, self.wanted, self.fan, self.heating = 180, 210, 40, True
-        self.pointer = (0, 0)
-        self.scene = None
-
-    def open(self):
-        """Starts the program, and brings it the screen and the numbers."""
-        self.scene = Scene(*WORDS)
-        count = self.scene.run(SCREEN.read_text())
+        self.scene = Scene(*WORDS, make=SCREEN.read_text())
         self.scene.say(f"value {FAN} {self.fan}")
         self.show()
-        return count
 
     def show(self):
         """Brings the numbers to the screen."""
@@ -68,22 +59,13 @@ class Thermostat:
             elif target == MORE and name == "clicked":
                 self.wanted = min(self.wanted + 5, 300)
             elif target == FAN and name == "value_changed":
-                self.fan = self.read_fan()
+                self.fan = (self.scene.ask("value", FAN) + 5) // 10 * 10
                 self.scene.say(f"value {FAN} {self.fan}")
             print(f"        {name} {target}: wanted {self.wanted / 10:.1f}, fan {self.fan} %")
-
-    def read_fan(self):
-        """The value that the slider has taken at the pointer, by the rule of sliders, in whole tens.
-
-        An event tells that a value has changed, and not what it is; so the host works it out, and sets it."""
-        column = min(max(self.pointer[0] - FAN_LEFT, 0), FAN_COLUMNS - 1)
-        value = FAN_FROM + (FAN_TO - FAN_FROM) * column // (FAN_COLUMNS - 1)
-        return (value + 5) // 10 * 10
 
     def touch(self, way):
         """A press: the pointer goes down, along its way, and up."""
         for x, y in way:
-            self.pointer = (x, y)
             self.serve(self.scene.say(f"touch {x} {y}"))
             self.serve(self.scene.say("tick 40"))
         self.serve(self.scene.say("release"))
@@ -98,32 +80,33 @@ class Thermostat:
         self.serve(self.scene.say("tick 1000"))
 
 
-def columns_of(scene, frame, y, color):
-    """How many pixels of a line of the frame have this colour: a bar's value, read from the picture."""
-    return sum(scene.pixel(frame, x, y) == color for x in range(WORDS[0]))
+def columns_of(picture, y, color):
+    """How many pixels of a line of the picture have this colour: a bar's value, read from the screen."""
+    return sum(picture.color(x, y) == color for x in range(picture.width))
 
 
 def run():
     """The whole run. Answers its last frame and the program's status."""
     thermostat = Thermostat()
-    print(f"screen: {thermostat.open()} lines are ok")
-    frame = thermostat.scene.frame()
+    scene = thermostat.scene
+    scene.frame()
     for second in range(1, SECONDS + 1):
         for _, way in (it for it in TOUCHES if it[0] == second):
             print(f"{second:4} s  touch {way[0][0]} {way[0][1]}")
             thermostat.touch(way)
         thermostat.pass_second()
         thermostat.show()
-        frame = thermostat.scene.frame()
+        scene.frame()
         heating = "heating" if thermostat.heating else "off"
-        blue = columns_of(thermostat.scene, frame, 25, BLUE)
+        blue = columns_of(scene.picture, 25, BLUE)
         print(f"{second:4} s  room {thermostat.room / 10:.1f}, {heating}; the frame's bar has {blue} blue columns")
 
-    # All that counts is kept here, so another run of the program can go on where this one is.
-    status = thermostat.scene.close()
-    thermostat.open()
-    print(f"started anew: {'the same frame' if thermostat.scene.frame() == frame else 'another frame'}")
-    return frame, max(status, thermostat.scene.close())
+    # A run of the program has its end, and the next one goes on where it is. Scene begins it by itself in time.
+    frame = scene.picture.ppm()
+    scene.renew()
+    scene.frame()
+    print(f"begun anew: {'the same frame' if scene.picture.ppm() == frame else 'another frame'}")
+    return frame, scene.close()
 
 
 def main():
@@ -137,4 +120,5 @@ def main():
     sys.exit(status)
 
 
-main()
+if __name__ == "__main__":
+    main()

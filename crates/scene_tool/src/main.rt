@@ -1,13 +1,16 @@
 //! Reads a script from standard input, and writes the frames to standard output and the log to standard error.
 //! Where the first word is `dcs` the panel is one behind a controller in memory, turned as the next word says. Where it
 //! is `bdf` it reads a font instead, and where it is `json` a tree of objects, and writes the lines of a script that
-//! make it. Where it is `rfb` what follows the script is what a viewer sends, and standard output is what it gets.
+//! make it. Where it is `host` standard output gets a stream of what changes in place of whole frames, and questions are
+//! answered among the lines of the log. Where it is `rfb` what follows the script is what a viewer sends, and standard
+//! output is what it gets.
 #![tactic(auto)]
 
 use bdf_font::run_bdf;
 use gui_edge::{SimPanel, SimPlan, StdSink, StdSource};
 use panel_dcs::SimBus;
 use scene_dcs::run_dcs;
+use scene_host::run_host;
 use scene_json::run_json;
 use scene_rfb::run_rfb;
 use scene_run::{Status, run_scene};
@@ -60,6 +63,19 @@ fn run_turned(rt: &HostRuntime, words: &[&str]) -> Status {
     status
 }
 
+/// Runs the script for a host: what changes goes to standard output, and the answers to its questions among the lines of the log.
+fn run_hosted(rt: &HostRuntime, words: &[&str]) -> Status {
+    let mut source = StdSource::new(rt.stdin());
+    let mut log = StdSink::new(rt.stderr());
+    let mut answers = StdSink::new(rt.stderr());
+    let out = StdSink::new(rt.stdout());
+    let end = run_host(rt.alloc(), words, &mut source, &mut log, &mut answers, out);
+    match end.status {
+        Status::Done | Status::Noted if !end.answered => Status::WriteFault,
+        status => status,
+    }
+}
+
 /// Writes the font of standard input as lines of a script. The word is its number.
 fn write_font(rt: &HostRuntime, words: &[&str]) -> u8 {
     let mut source = StdSource::new(rt.stdin());
@@ -90,6 +106,7 @@ fn run(rt: &HostRuntime, words: &[String]) -> u8 {
     };
     match texts.as_slice() {
         ["dcs", words @ ..] => run_turned(rt, words) as u8,
+        ["host", words @ ..] => run_hosted(rt, words) as u8,
         ["bdf", words @ ..] => write_font(rt, words),
         ["json", words @ ..] => write_scene(rt, words),
         ["rfb", words @ ..] => serve(rt, words),

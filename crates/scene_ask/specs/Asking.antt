@@ -1,0 +1,75 @@
+-- What questions are answered.
+use Rattle.std.specs.Prelude.{ℕ, ℤ, List, ◌∷◌, ◌++◌, codes, decimal, Some, None, if◌then◌else◌}
+use Rattle.std.specs.declared.option.Option.{Option}
+use Rattle.std.specs.Fmt.{signed_decimal}
+use Rattle.gui_base.specs.Area.{Rect}
+use Rattle.gui_base.specs.declared.Handle.{Handle}
+use Rattle.line_texts.specs.Quoting.{quoted}
+use Rattle.play_defs.specs.Focus.{focused_in, group_at}
+use Rattle.scene_defs.specs.Edits.{text_at}
+use Rattle.scene_defs.specs.Place.{place, offset, reach}
+use Rattle.scene_defs.specs.Scene.{Scene, row_at, is_there, value}
+use Rattle.scene_defs.specs.Visible.{visible}
+use Rattle.run_defs.specs.Machine.{Machine}
+use Rattle.run_defs.specs.Pointing.{hit}
+use Rattle.scene_script.specs.declared.questions.Fact.{Fact}
+use Rattle.scene_script.specs.declared.questions.Fact.TheVariants as fact
+use Rattle.scene_script.specs.declared.questions.Question.{Question}
+use Rattle.scene_script.specs.declared.questions.Question.TheVariants.{Of, Property, Active, Hit, Focused, Time}
+
+-- what is said of something that may be there
+abbrev pub says_of : {A : Type 0} → (A → List ℕ) → Option A → List ℕ
+says_of words None = codes " none"
+says_of words (Some x) = words x
+
+-- a number, and one that is not below 0, after a space
+abbrev pub integer : ℤ → List ℕ
+integer n = 32 ∷ signed_decimal n
+
+abbrev pub count : ℕ → List ℕ
+count n = 32 ∷ decimal n
+
+-- the first and the last column and line
+abbrev pub area_says : Rect → List ℕ
+area_says area = (integer area.x1 ++ integer area.y1) ++ (integer area.x2 ++ integer area.y2)
+
+abbrev pub counts_say : ℕ → ℕ → List ℕ
+counts_say across down = count across ++ count down
+
+abbrev pub handle_says : Handle → List ℕ
+handle_says h = count h.0
+
+-- what is known of an object
+abbrev pub fact_says : Scene → ℕ → Fact → List ℕ
+fact_says scene h fact.Value = codes " value" ++ says_of (λ row. integer row.value) (row_at scene h)
+fact_says scene h fact.States = codes " states" ++ says_of (λ row. count row.states) (row_at scene h)
+fact_says scene h fact.Flags = codes " flags" ++ says_of (λ row. count row.flags) (row_at scene h)
+fact_says scene h fact.Text =
+    codes " text" ++ (if is_there scene h then 32 ∷ quoted (text_at scene h) else codes " none")
+fact_says scene h fact.Place = codes " place" ++ says_of area_says (place scene h)
+fact_says scene h fact.Visible = codes " visible" ++ says_of area_says (visible scene h)
+fact_says scene h fact.Offset =
+    codes " offset" ++ says_of (λ span. counts_say span.across span.down) (offset scene h)
+fact_says scene h fact.Reach =
+    codes " reach" ++ says_of (λ span. counts_say span.across span.down) (reach scene h)
+
+-- the words of the answer
+abbrev pub answer_words : Machine → Question → List ℕ
+answer_words machine (Of fact h) = fact_says machine.scene h.0 fact
+answer_words machine (Property h part prop) =
+    codes " property"
+    ++ (if is_there machine.scene h.0 then integer (value machine.scene h.0 part prop) else codes " none")
+answer_words machine Active = codes " active" ++ count machine.scene.active
+answer_words machine (Hit x y) = codes " hit" ++ says_of handle_says (hit machine.scene x y)
+answer_words machine (Focused group) =
+    codes " focused" ++ says_of handle_says (focused_in (group_at machine.groups group))
+answer_words machine Time = codes " time" ++ count machine.time
+
+-- what is none is unknown
+abbrev pub asked_words : Machine → Option Question → List ℕ
+asked_words machine None = codes " unknown"
+asked_words machine (Some question) = answer_words machine question
+
+-- the line of the answer
+abbrev pub answer_line : ℕ → Machine → Option Question → List ℕ
+answer_line number machine question = decimal number ++ asked_words machine question ++ codes "\n"

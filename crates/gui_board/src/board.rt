@@ -22,11 +22,12 @@ ghost use Rattle.scene_defs.specs.Scene.{is_there};
 ghost use Rattle.scene_defs.specs.Valid.{IsChange, IsValid};
 ghost use Rattle.gui_board.specs.Panels.{CanSend, DrawsPart, DrawsScene, Pumps, Refreshes};
 ghost use Rattle.gui_board.specs.Sizes.{AreSized};
+ghost use Rattle.gui_board.specs.Slots.{used_in};
 
 use crate::inputs::Inputs;
 use crate::scribe::Scribe;
 use gui_anim::Anims;
-use gui_base::{Area, Bits, Grid, Handle, Limits, NoMemory, Refusal, State, Steps};
+use gui_base::{Area, Bits, Grid, Handle, Limits, NoMemory, Pool, Refusal, State, Steps};
 use gui_change::Canvas;
 use gui_damage::Damage;
 use gui_edge::{Failed, Panel};
@@ -140,6 +141,19 @@ impl Board {
         ensures naturals { AreNatural result.now (machine_of self.now).scene }
     {
         self.canvas.places()
+    }
+
+    /// How many slots of a pool are in use.
+    pub fn used(&self, pool: Pool) -> u32
+        ensures { result ≡ used_in (machine_of self.now) pool }
+    {
+        let store = self.canvas.store();
+        match pool {
+            Pool::Handlers => store.limits().handlers - self.handlers.spare(),
+            Pool::Groups => store.limits().groups - self.groups.spare(),
+            Pool::Anims => store.limits().anims - self.anims.spare(),
+            _ => store.used(pool),
+        }
     }
 
     /// Whether an object is there.

@@ -13,10 +13,13 @@ pub mod Kids
 pub mod Leaving
 pub mod Listed
 pub mod Lists
+pub mod Lowered
 pub mod Moving
 pub mod Passes
 pub mod Pendings
 pub mod Reached
+pub mod Rests
 pub mod Stands
 pub mod Sums
 pub mod These
+pub mod Touched

@@ -17,6 +17,10 @@ ButNaturalWidths old new = new ≡ record old { natural_widths = new.natural_wid
 abbrev pub ButWidths : Layout → Layout → Type 0
 ButWidths old new = new ≡ record old { widths = new.widths }
 
+-- nothing but the widths and what is touched is
+abbrev pub ButTouchedWidths : Layout → Layout → Type 0
+ButTouchedWidths old new = new ≡ record old { widths = new.widths; touched = new.touched }
+
 abbrev pub ButNaturalHeights : Layout → Layout → Type 0
 ButNaturalHeights old new = new ≡ record old { natural_heights = new.natural_heights }
 
@@ -38,3 +42,15 @@ pub record KeepsRest (old new : Layout) (f : Forest ℕ) : Type 0 where
   pub natural_heights : KeepsOthers 0 old.natural_heights new.natural_heights f
   pub slots : KeepsOthers nowhere old.slots new.slots f
   pub scrolls : KeepsOthers not_scrolled old.scrolls new.scrolls f
+
+-- nothing but the slots and what is touched is
+abbrev pub ButTouchedSlots : Layout → Layout → Type 0
+ButTouchedSlots old new = new ≡ record old { slots = new.slots; touched = new.touched }
+
+-- nothing but those and how far children reach and are moved is
+abbrev pub ButTouchedPlaces : Layout → Layout → Type 0
+ButTouchedPlaces old new = new ≡ record old { slots = new.slots; scrolls = new.scrolls; touched = new.touched }
+
+-- nothing but what is touched is
+abbrev pub ButTouched : Layout → Layout → Type 0
+ButTouched old new = new ≡ record old { touched = new.touched }

@@ -8,6 +8,7 @@ pub mod Listing
 pub mod Kids
 pub mod Sizings
 pub mod Settled
+pub mod Touched
 pub mod Frames
 pub mod Layouts
 pub mod Pending

@@ -70,6 +70,7 @@ pub record Layout : Type 0 where
   pub natural_heights : List ℕ
   pub slots : List Slot
   pub scrolls : List Scrolled
+  pub touched : List Bool
 
 abbrev pub known_at : (ℕ → Box) → Layout → ℕ → Known
 known_at box l h = record {

@@ -8,6 +8,7 @@ use Rattle.layout_defs.specs.Solving.{Slot, nowhere}
 use Rattle.gui_boxes.specs.declared.entry.Entry.{Entry}
 use Rattle.gui_boxes.specs.declared.layout_box.LayoutBox.{LayoutBox}
 use Rattle.gui_boxes.specs.Settled.{Layout}
+use Rattle.gui_boxes.specs.Touched.{touched_at}
 use Rattle.gui_boxes.specs.Slots.{slot_of, slot_at}
 use Rattle.gui_boxes.specs.Scrolls.{Scrolled, not_scrolled, scrolled_of, scrolled_at}
 use Rattle.gui_boxes.specs.Views.{box_of, box_at}
@@ -37,6 +38,10 @@ abbrev pub scrolled_or : Option Entry → Scrolled
 scrolled_or None = not_scrolled
 scrolled_or (Some e) = scrolled_of e.scrolled
 
+abbrev pub touched_or : Option Entry → Bool
+touched_or None = false
+touched_or (Some e) = e.touched
+
 -- what the entries tell of each handle
 abbrev pub told : Table Entry → Layout
 told t = record {
@@ -46,6 +51,7 @@ told t = record {
   natural_heights = map natural_height_or t.values;
   slots = map slot_or t.values;
   scrolls = map scrolled_or t.values;
+  touched = map touched_or t.values;
 }
 
 -- an entry is that of h
@@ -56,6 +62,7 @@ pub record IsEntry (l : Layout) (h : ℕ) (e : Entry) : Type 0 where
   pub natural_height : e.natural_height.pixels ≡ slice_index l.natural_heights h
   pub slot : slot_of e.position ≡ slot_at l.slots h
   pub scrolled : scrolled_of e.scrolled ≡ scrolled_at l.scrolls h
+  pub touched : e.touched ≡ touched_at l.touched h
 
 -- the area of an object by its entry
 abbrev pub area_in : Entry → Rect

@@ -14,4 +14,6 @@ pub struct Entry {
     pub natural_height: Size,
     pub position: Position,
     pub scrolled: Scrolled,
+    /// Whether a pass visits it: it, or something below it, may differ.
+    pub touched: bool,
 }

@@ -15,6 +15,7 @@ ghost use Rattle.gui_boxes.specs.Totals.{total_of, run_down, down_kid, sum_of};
 ghost use Rattle.gui_boxes.specs.Settled.{EachKids, NaturalHeightFits};
 ghost use Rattle.gui_boxes.specs.Layouts.{ButNaturalHeights};
 ghost use Rattle.gui_boxes.specs.Tables.{told, listing_of, AreListed, IsEntry};
+ghost use Rattle.gui_boxes.specs.Touched.{is_touched, IfTouched, IsClosed, KeepsCalm};
 
 use crate::along::inner;
 use crate::boxes::{course_of, is_reversed, wraps};
@@ -22,7 +23,7 @@ use crate::entry::Entry;
 use crate::items::{fill_items, turn};
 use crate::measuring::{natural_size, no_kids, run_down, with_gaps, with_kid};
 use crate::sizing::Sizing;
-use crate::tables::{entry_of, set_natural_height};
+use crate::tables::{entry_of, is_touched, set_natural_height};
 use crate::total::Total;
 use gui_base::Handle;
 use gui_base::words::Flow;
@@ -127,7 +128,7 @@ fn natural_height(
     natural_size(&own.wanted.down, own.wanted.own_height.max(kids))
 }
 
-/// Finds the natural heights of an object and of all below it, children first.
+/// Finds the natural heights of the touched objects in the tree of an object, children first.
 pub fn find_natural_heights(
     tree: &Tree,
     entries: &mut Table<Entry>,
@@ -138,12 +139,19 @@ pub fn find_natural_heights(
     requires few { size tree.now.forest ≤ 4000 }
     requires there { has tree.now.forest h.0 ≡ true }
     requires enough { size tree.now.forest ≤ length items.old }
-    ensures found { EachKids NaturalHeightFits (told_trees (told entries.new) (tree_at tree.now.forest h.0)) }
+    requires closed { IsClosed (is_touched (told entries.old)) (tree_at tree.now.forest h.0) }
+    ensures found { EachKids (IfTouched (is_touched (told entries.old)) NaturalHeightFits)
+        (told_trees (told entries.new) (tree_at tree.now.forest h.0)) }
+    ensures calm { KeepsCalm 0 (is_touched (told entries.old)) (told entries.old).natural_heights
+        (told entries.new).natural_heights }
     ensures others { KeepsOthers 0 (told entries.old).natural_heights (told entries.new).natural_heights
         (tree_at tree.now.forest h.0) }
     ensures rest { ButNaturalHeights (told entries.old) (told entries.new) }
     ensures listed { listing_of entries.new ≡ listing_of entries.old }
 {
+    if !is_touched(entries, h) {
+        return;
+    }
     let run = run_down(course_of(entry_of(entries, h).wanted.flow));
     let mut total = no_kids();
     for child in tree.children(h) {

@@ -10,12 +10,13 @@ ghost use Rattle.gui_boxes.specs.Totals.{total_of, run_across, across_kid, sum_o
 ghost use Rattle.gui_boxes.specs.Settled.{EachKids, NaturalWidthFits};
 ghost use Rattle.gui_boxes.specs.Layouts.{ButNaturalWidths};
 ghost use Rattle.gui_boxes.specs.Tables.{told, listing_of, AreListed};
+ghost use Rattle.gui_boxes.specs.Touched.{is_touched, IfTouched, IsClosed, KeepsCalm};
 
 use crate::boxes::course_of;
 use crate::entry::Entry;
 use crate::layout_box::LayoutBox;
 use crate::measuring::{natural_size, no_kids, run_across, with_gaps, with_kid};
-use crate::tables::{entry_of, set_natural_width};
+use crate::tables::{entry_of, is_touched, set_natural_width};
 use crate::total::Total;
 use gui_base::Handle;
 use gui_pool::Table;
@@ -32,17 +33,24 @@ fn natural_width(own: &LayoutBox, total: Total) -> u16
     natural_size(&own.across, own.own_width.max(kids))
 }
 
-/// Finds the natural widths of an object and of all below it, children first.
+/// Finds the natural widths of the touched objects in the tree of an object, children first.
 pub fn find_natural_widths(tree: &Tree, entries: &mut Table<Entry>, h: Handle)
     requires listed { AreListed (listing_of entries.old) (tree_at tree.now.forest h.0) }
     requires few { size tree.now.forest ≤ 4000 }
     requires there { has tree.now.forest h.0 ≡ true }
-    ensures found { EachKids NaturalWidthFits (told_trees (told entries.new) (tree_at tree.now.forest h.0)) }
+    requires closed { IsClosed (is_touched (told entries.old)) (tree_at tree.now.forest h.0) }
+    ensures found { EachKids (IfTouched (is_touched (told entries.old)) NaturalWidthFits)
+        (told_trees (told entries.new) (tree_at tree.now.forest h.0)) }
+    ensures calm { KeepsCalm 0 (is_touched (told entries.old)) (told entries.old).natural_widths
+        (told entries.new).natural_widths }
     ensures others { KeepsOthers 0 (told entries.old).natural_widths (told entries.new).natural_widths
         (tree_at tree.now.forest h.0) }
     ensures rest { ButNaturalWidths (told entries.old) (told entries.new) }
     ensures listed { listing_of entries.new ≡ listing_of entries.old }
 {
+    if !is_touched(entries, h) {
+        return;
+    }
     let run = run_across(course_of(entry_of(entries, h).wanted.flow));
     let mut total = no_kids();
     for child in tree.children(h) {

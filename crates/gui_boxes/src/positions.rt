@@ -7,7 +7,7 @@ ghost use Rattle.layout_defs.specs.declared.Course.TheVariants.{Across, Down};
 ghost use Rattle.layout_defs.specs.Flex.{shared, spots};
 ghost use Rattle.layout_defs.specs.Boxes.{course_of};
 ghost use Rattle.layout_defs.specs.Solving.{Tall, tall_box, taking_part, dealt, nowhere};
-ghost use Rattle.layout_defs.specs.Solving.{own_slot, row_slot, column_slot, flow_slots, kid_slots, room_of};
+ghost use Rattle.layout_defs.specs.Solving.{own_slot, row_slot, column_slot, flow_slots, kid_slots, reach_in, room_of};
 ghost use Rattle.layout_defs.specs.Tables.{KeepsOthers};
 ghost use Rattle.gui_flex.specs.Items.{items_of, item_of, spot_of, spots_of, placings_of};
 ghost use Rattle.gui_boxes.specs.Kids.{Deals, tall_kids, told_trees};
@@ -17,11 +17,12 @@ ghost use Rattle.gui_boxes.specs.Views.{box_of, box_at};
 ghost use Rattle.gui_boxes.specs.Slots.{slot_of, room_in, arranged, item_slot};
 ghost use Rattle.gui_boxes.specs.Slots.{IsClose, HasRoom, IsAtCorner, IsBelow, tall_at};
 ghost use Rattle.gui_boxes.specs.Slots.{slot_at, at_roots};
-ghost use Rattle.gui_boxes.specs.Layouts.{ButPlaces, ButSlots};
-ghost use Rattle.gui_boxes.specs.Scrolls.{HoldsScrolls, moves_of, not_scrolled, scrolled_in};
+ghost use Rattle.gui_boxes.specs.Layouts.{ButTouchedPlaces, ButTouchedSlots};
+ghost use Rattle.gui_boxes.specs.Scrolls.{moves_of, not_scrolled, scrolled_in, span_of};
 ghost use Rattle.layout_defs.specs.Scrolling.{moved_room};
 ghost use Rattle.layout_defs.specs.Solving.{moved};
 ghost use Rattle.gui_boxes.specs.Tables.{told, listing_of, AreListed};
+ghost use Rattle.gui_boxes.specs.Touched.{is_touched, AtRoots, HoldsScrollsIf, IfTouched, IsClosed, KeepsCalm, Touches};
 
 use crate::along::{corner, from_corner, inner, own_at, size_in};
 use crate::boxes::{course_of, is_reversed, wraps};
@@ -30,10 +31,10 @@ use crate::inside::Inside;
 use crate::items::{fill_items, turn};
 use crate::layout_box::LayoutBox;
 use crate::position::Position;
-use crate::reach::{NOT_SCROLLED, Offset};
-use crate::reaching::{is_none, moved_inside, reach_of, scrolled_by};
+use crate::reach::{NOT_SCROLLED, Reach};
+use crate::reaching::{farther_at, moved_inside, scrolled_by};
 use crate::sizing::Sizing;
-use crate::tables::{entry_of, set_position, set_scrolled};
+use crate::tables::{entry_of, give_position, is_touched, set_scrolled};
 use gui_base::Handle;
 use gui_flex::{FlexItem, FlexPlaces, place, share};
 use gui_pool::Table;
@@ -260,13 +261,17 @@ fn deal_positions(
     ensures deals { Deals (told entries.old) (room_in area.inside) (told entries.old).slots
         (told entries.new).slots (children_of tree.now.forest h.0)
         (map (item_slot area.course (room_in area.inside)) items.now) }
-    ensures rest { ButSlots (told entries.old) (told entries.new) }
+    ensures touches { Touches nowhere (is_touched (told entries.old)) (is_touched (told entries.new))
+        (told entries.old).slots (told entries.new).slots (children_of tree.now.forest h.0) }
+    ensures roots { AtRoots (is_touched (told entries.old)) (is_touched (told entries.new))
+        (children_of tree.now.forest h.0) }
+    ensures rest { ButTouchedSlots (told entries.old) (told entries.new) }
     ensures listed { listing_of entries.new ≡ listing_of entries.old }
 {
     let mut i = 0;
     for child in tree.children(h) {
         let (position, later) = dealt_position(entry_of(entries, child), area, items, i);
-        set_position(entries, child, position);
+        give_position(entries, child, position);
         i = later;
     }
 }
@@ -287,42 +292,32 @@ pub fn inside_of(own: &LayoutBox, at: Position, width: u16) -> Inside
     }
 }
 
-/// Moves the children of an object that stand flat in its content area as far as it scrolls them: they are dealt
-/// once more, in a content area that is moved.
-fn move_kids(
+/// How far children reach out of a content area where they stand flat in it: the items that take part in its flow,
+/// and each other by itself.
+fn flat_reach(
     tree: &Tree,
-    entries: &mut Table<Entry>,
+    entries: &Table<Entry>,
     items: &[FlexItem],
     h: Handle,
     area: FlowArea,
-    offset: Offset,
-)
-    requires listed { AreListed (listing_of entries.old) (tree_at tree.now.forest h.0) }
-    requires left { pos 0 ≤ℤ (area.inside.x +ℤ pos 940000000) }
-    requires top { pos 0 ≤ℤ (area.inside.y +ℤ pos 940000000) }
-    requires flat { at_roots (told entries.old).slots (children_of tree.now.forest h.0)
-        ≡ dealt tall_box (own_slot (room_in area.inside)) (tall_kids (told entries.old) tree.now.forest h.0)
-        (map (item_slot area.course (room_in area.inside)) items.now) }
-    requires close { All (IsClose area.inside.x area.inside.y)
-        (at_roots (told entries.old).slots (children_of tree.now.forest h.0)) }
-    ensures moved { at_roots (told entries.new).slots (children_of tree.now.forest h.0)
-        ≡ map (moved (moves_of offset)) (at_roots (told entries.old).slots (children_of tree.now.forest h.0)) }
-    ensures others { KeepsOthers nowhere (told entries.old).slots (told entries.new).slots
-        (children_of tree.now.forest h.0) }
-    ensures close { All (IsClose (moved_room (moves_of offset) (room_in area.inside)).x
-        (moved_room (moves_of offset) (room_in area.inside)).y)
-        (at_roots (told entries.new).slots (children_of tree.now.forest h.0)) }
-    ensures rest { ButSlots (told entries.old) (told entries.new) }
-    ensures listed { listing_of entries.new ≡ listing_of entries.old }
+) -> Reach
+    requires listed { AreListed (listing_of entries.now) (tree_at tree.now.forest h.0) }
+    ensures { span_of result ≡ reach_in (room_in area.inside) (tall_kids (told entries.now) tree.now.forest h.0)
+        (dealt tall_box (own_slot (room_in area.inside)) (tall_kids (told entries.now) tree.now.forest h.0)
+        (map (item_slot area.course (room_in area.inside)) items.now)) }
 {
-    if is_none(offset) {
-        return;
+    let mut i = 0;
+    let mut ends = Reach { across: 0, down: 0 };
+    for child in tree.children(h) {
+        let kid = entry_of(entries, child);
+        let (position, later) = dealt_position(kid, area, items, i);
+        ends = farther_at(kid, position, area.inside, ends);
+        i = later;
     }
-    let moved = FlowArea {
-        course: area.course,
-        inside: moved_inside(area.inside, offset),
-    };
-    deal_positions(tree, entries, items, h, moved);
+    Reach {
+        across: ends.across.saturating_sub(area.inside.width as u32),
+        down: ends.down.saturating_sub(area.inside.height as u32),
+    }
 }
 
 /// Sets the places of the children of an object whose own place is set, and how far they reach and are moved. It
@@ -347,7 +342,11 @@ fn set_kid_positions(tree: &Tree, entries: &mut Table<Entry>, items: &mut [FlexI
         (scrolled_in (tall_at (box_at (told entries.old).boxes) (told entries.old).widths
         (told entries.old).natural_heights h.0) (slot_at (told entries.old).slots h.0)
         (tall_kids (told entries.old) tree.now.forest h.0)) }
-    ensures rest { ButPlaces (told entries.old) (told entries.new) }
+    ensures touches { Touches nowhere (is_touched (told entries.old)) (is_touched (told entries.new))
+        (told entries.old).slots (told entries.new).slots (children_of tree.now.forest h.0) }
+    ensures roots { AtRoots (is_touched (told entries.old)) (is_touched (told entries.new))
+        (children_of tree.now.forest h.0) }
+    ensures rest { ButTouchedPlaces (told entries.old) (told entries.new) }
     ensures listed { listing_of entries.new ≡ listing_of entries.old }
 {
     let own = entry_of(entries, h);
@@ -356,15 +355,18 @@ fn set_kid_positions(tree: &Tree, entries: &mut Table<Entry>, items: &mut [FlexI
     let count = place_flow(tree, entries, items, h, &own.wanted, inside);
     let placed = &items[..count];
     let area = FlowArea { course, inside };
-    deal_positions(tree, entries, placed, h, area);
-    let reach = reach_of(tree, entries, h);
+    let reach = flat_reach(tree, entries, placed, h, area);
     let scrolled = scrolled_by(&entry_of(entries, h).wanted, reach);
     set_scrolled(entries, h, scrolled);
-    move_kids(tree, entries, placed, h, area, scrolled.offset);
+    let moved = FlowArea {
+        course,
+        inside: moved_inside(inside, scrolled.offset),
+    };
+    deal_positions(tree, entries, placed, h, moved);
 }
 
-/// Finds the heights and places of all that lies below an object whose own place is set, parents first, and how
-/// far it and all below it scroll their children.
+/// Finds the heights and places of all that lies below touched objects in the tree of one whose own place is set,
+/// parents first, and how far these scroll their children. Where a child's place is another, it is touched.
 pub fn find_places(tree: &Tree, entries: &mut Table<Entry>, items: &mut [FlexItem], h: Handle)
     requires once { StandsOnce tree.now.forest }
     requires listed { AreListed (listing_of entries.old) (tree_at tree.now.forest h.0) }
@@ -372,17 +374,27 @@ pub fn find_places(tree: &Tree, entries: &mut Table<Entry>, items: &mut [FlexIte
     requires there { has tree.now.forest h.0 ≡ true }
     requires enough { size tree.now.forest ≤ length items.old }
     requires room { HasRoom (slot_at (told entries.old).slots h.0) (height (tree_at tree.now.forest h.0)) }
-    ensures found { EachKids SlotsFit (told_trees (told entries.new) (tree_at tree.now.forest h.0)) }
+    requires closed { IsClosed (is_touched (told entries.old)) (tree_at tree.now.forest h.0) }
+    ensures found { EachKids (IfTouched (is_touched (told entries.new)) SlotsFit)
+        (told_trees (told entries.new) (tree_at tree.now.forest h.0)) }
     ensures others { KeepsOthers nowhere (told entries.old).slots (told entries.new).slots
         (children_of tree.now.forest h.0) }
-    ensures scrolled { HoldsScrolls (box_at (told entries.old).boxes) (told entries.old).widths
+    ensures scrolled { HoldsScrollsIf (is_touched (told entries.new)) (box_at (told entries.old).boxes) (told entries.old).widths
         (told entries.old).natural_heights (told entries.new).slots (told entries.new).scrolls
         (tree_at tree.now.forest h.0) }
     ensures other_scrolls { KeepsOthers not_scrolled (told entries.old).scrolls (told entries.new).scrolls
         (tree_at tree.now.forest h.0) }
-    ensures rest { ButPlaces (told entries.old) (told entries.new) }
+    ensures closed { IsClosed (is_touched (told entries.new)) (tree_at tree.now.forest h.0) }
+    ensures touches { Touches nowhere (is_touched (told entries.old)) (is_touched (told entries.new))
+        (told entries.old).slots (told entries.new).slots (children_of tree.now.forest h.0) }
+    ensures calm_scrolls { KeepsCalm not_scrolled (is_touched (told entries.new)) (told entries.old).scrolls
+        (told entries.new).scrolls }
+    ensures rest { ButTouchedPlaces (told entries.old) (told entries.new) }
     ensures listed { listing_of entries.new ≡ listing_of entries.old }
 {
+    if !is_touched(entries, h) {
+        return;
+    }
     if tree.first_child(h).is_none() {
         set_scrolled(entries, h, NOT_SCROLLED);
         return;

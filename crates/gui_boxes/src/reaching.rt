@@ -19,6 +19,7 @@ use crate::axis::Axis;
 use crate::entry::Entry;
 use crate::inside::Inside;
 use crate::layout_box::LayoutBox;
+use crate::position::Position;
 use crate::reach::{AT_REST, Offset, Reach, Scrolled};
 use crate::tables::{entry_of, set_scrolled};
 use gui_base::Handle;
@@ -84,6 +85,22 @@ pub fn farther(kid: &Entry, x: i32, y: i32, ends: Reach) -> Reach
     Reach {
         across: ends.across.max(end(at.x, kid.width.pixels, x)),
         down: ends.down.max(end(at.y, at.height, y)),
+    }
+}
+
+/// The farther ends of those before and of a child that is to stand there, unless it is hidden, in a content area.
+pub fn farther_at(kid: &Entry, at: Position, inside: Inside, ends: Reach) -> Reach
+    ensures across { (h : ℕ) → result.across ≡ (if kid.now.wanted.hidden then ends.across
+        else max ends.across (end_across (room_in inside) (tall_of (kid_by h kid.now)) (slot_of at))) }
+    ensures down { (h : ℕ) → result.down ≡ (if kid.now.wanted.hidden then ends.down
+        else max ends.down (end_down (room_in inside) (tall_of (kid_by h kid.now)) (slot_of at))) }
+{
+    if kid.wanted.hidden {
+        return ends;
+    }
+    Reach {
+        across: ends.across.max(end(at.x, kid.width.pixels, inside.x)),
+        down: ends.down.max(end(at.y, at.height, inside.y)),
     }
 }
 

@@ -1,9 +1,13 @@
 //! Entries by handle.
-ghost use Rattle.std.specs.Prelude.{◌≡◌, ◌≤◌, Some, true, is_some, slice_set};
+ghost use Rattle.std.specs.Prelude.{◌≡◌, ◌≤◌, Some, true, false, is_some, slice_set};
 ghost use Rattle.gui_pool.specs.Table.{value_at};
 ghost use Rattle.gui_boxes.specs.Slots.{slot_of};
 ghost use Rattle.gui_boxes.specs.Scrolls.{scrolled_of};
 ghost use Rattle.gui_boxes.specs.Tables.{told, IsEntry, IsListed, listing_of};
+ghost use Rattle.gui_boxes.specs.Touched.{is_touched, Touches};
+ghost use Rattle.gui_boxes.specs.Layouts.{ButTouchedSlots, ButTouchedWidths};
+ghost use Rattle.layout_defs.specs.Solving.{nowhere};
+ghost use Rattle.gui_base.specs.Forest.{leaf};
 
 use crate::entry::Entry;
 use crate::layout_box::LayoutBox;
@@ -35,7 +39,8 @@ pub fn has_entry(entries: &Table<Entry>, h: Handle) -> bool
 
 /// An entry with this box, of which nothing is found.
 pub fn new_entry(wanted: LayoutBox) -> Entry
-    ensures { result.wanted ≡ wanted }
+    ensures wanted { result.wanted ≡ wanted }
+    ensures rests { result.touched ≡ false }
 {
     let none = Size { pixels: 0 };
     Entry {
@@ -45,6 +50,7 @@ pub fn new_entry(wanted: LayoutBox) -> Entry
         natural_height: none,
         position: CORNER,
         scrolled: NOT_SCROLLED,
+        touched: false,
     }
 }
 
@@ -58,6 +64,49 @@ pub fn set_wanted(entries: &mut Table<Entry>, h: Handle, wanted: LayoutBox)
 {
     let mut changed = *entry_of(entries, h);
     changed.wanted = wanted;
+    let _ = entries.replace(h.0 as u32, changed);
+}
+
+/// Whether an object that has an entry is touched.
+#[inline]
+pub fn is_touched(entries: &Table<Entry>, h: Handle) -> bool
+    requires { IsListed (listing_of entries.now) h.0 }
+    ensures { result ≡ is_touched (told entries.now) h.0 }
+{
+    entry_of(entries, h).touched
+}
+
+/// Touches an object that has an entry.
+pub fn touch(entries: &mut Table<Entry>, h: Handle)
+    requires { IsListed (listing_of entries.old) h.0 }
+    ensures set { told entries.new ≡ record (told entries.old) {
+      touched = slice_set (told entries.old).touched h.0 true;
+    } }
+    ensures listed { listing_of entries.new ≡ listing_of entries.old }
+{
+    let known = entry_of(entries, h);
+    if known.touched {
+        return;
+    }
+    let mut changed = *known;
+    changed.touched = true;
+    let _ = entries.replace(h.0 as u32, changed);
+}
+
+/// Lets go of an object that has an entry: it is touched no more. Nothing is written where it was not.
+pub fn let_rest(entries: &mut Table<Entry>, h: Handle)
+    requires { IsListed (listing_of entries.old) h.0 }
+    ensures set { told entries.new ≡ record (told entries.old) {
+      touched = slice_set (told entries.old).touched h.0 false;
+    } }
+    ensures listed { listing_of entries.new ≡ listing_of entries.old }
+{
+    let known = entry_of(entries, h);
+    if !known.touched {
+        return;
+    }
+    let mut changed = *known;
+    changed.touched = false;
     let _ = entries.replace(h.0 as u32, changed);
 }
 
@@ -98,6 +147,24 @@ pub fn set_width(entries: &mut Table<Entry>, h: Handle, pixels: u16)
     let mut changed = *known;
     changed.width = Size { pixels };
     let _ = entries.replace(h.0 as u32, changed);
+}
+
+/// Gives a width to an object that has an entry, and touches it where that is another.
+#[inline]
+pub fn give_width(entries: &mut Table<Entry>, h: Handle, pixels: u16)
+    requires listed { IsListed (listing_of entries.old) h.0 }
+    requires small { pixels ≤ 8191 }
+    ensures widths { (told entries.new).widths ≡ slice_set (told entries.old).widths h.0 pixels }
+    ensures touches { Touches 0 (is_touched (told entries.old)) (is_touched (told entries.new))
+        (told entries.old).widths (told entries.new).widths (leaf h.0) }
+    ensures rest { ButTouchedWidths (told entries.old) (told entries.new) }
+    ensures listed { listing_of entries.new ≡ listing_of entries.old }
+{
+    if entry_of(entries, h).width.pixels == pixels {
+        return;
+    }
+    touch(entries, h);
+    set_width(entries, h, pixels);
 }
 
 /// Gives another natural height to an object that has an entry. Nothing is written where it is the same.
@@ -143,6 +210,23 @@ pub fn set_position(entries: &mut Table<Entry>, h: Handle, position: Position)
     let mut changed = *known;
     changed.position = position;
     let _ = entries.replace(h.0 as u32, changed);
+}
+
+/// Gives a place to an object that has an entry, and touches it where that is another.
+#[inline]
+pub fn give_position(entries: &mut Table<Entry>, h: Handle, position: Position)
+    requires { IsListed (listing_of entries.old) h.0 }
+    ensures slots { (told entries.new).slots ≡ slice_set (told entries.old).slots h.0 (slot_of position) }
+    ensures touches { Touches nowhere (is_touched (told entries.old)) (is_touched (told entries.new))
+        (told entries.old).slots (told entries.new).slots (leaf h.0) }
+    ensures rest { ButTouchedSlots (told entries.old) (told entries.new) }
+    ensures listed { listing_of entries.new ≡ listing_of entries.old }
+{
+    if is_same(&entry_of(entries, h).position, &position) {
+        return;
+    }
+    touch(entries, h);
+    set_position(entries, h, position);
 }
 
 /// Whether both are the same.

@@ -12,7 +12,8 @@ ghost use Rattle.gui_boxes.specs.Kids.{wide_kids, told_trees};
 ghost use Rattle.gui_boxes.specs.Views.{box_of, box_at};
 ghost use Rattle.gui_boxes.specs.Settled.{EachKids, WidthsFit, wide_of};
 ghost use Rattle.gui_boxes.specs.Sizings.{kid_by};
-ghost use Rattle.gui_boxes.specs.Layouts.{ButWidths};
+ghost use Rattle.gui_boxes.specs.Layouts.{ButTouchedWidths};
+ghost use Rattle.gui_boxes.specs.Touched.{is_touched, AtRoots, IfTouched, IsClosed, Touches};
 ghost use Rattle.gui_boxes.specs.Tables.{told, listing_of, AreListed};
 
 use crate::along::{inner, size_in};
@@ -21,7 +22,7 @@ use crate::entry::Entry;
 use crate::items::{fill_items, turn};
 use crate::layout_box::LayoutBox;
 use crate::sizing::Sizing;
-use crate::tables::{entry_of, set_width};
+use crate::tables::{entry_of, give_width, is_touched};
 use gui_base::Handle;
 use gui_base::words::Flow;
 use gui_flex::{FlexItem, share};
@@ -72,13 +73,17 @@ fn deal_widths(tree: &Tree, entries: &mut Table<Entry>, items: &[FlexItem], h: H
         (main_sizes (items_of items.now)) }
     ensures others { KeepsOthers 0 (told entries.old).widths (told entries.new).widths
         (children_of tree.now.forest h.0) }
-    ensures rest { ButWidths (told entries.old) (told entries.new) }
+    ensures touches { Touches 0 (is_touched (told entries.old)) (is_touched (told entries.new))
+        (told entries.old).widths (told entries.new).widths (children_of tree.now.forest h.0) }
+    ensures roots { AtRoots (is_touched (told entries.old)) (is_touched (told entries.new))
+        (children_of tree.now.forest h.0) }
+    ensures rest { ButTouchedWidths (told entries.old) (told entries.new) }
     ensures listed { listing_of entries.new ≡ listing_of entries.old }
 {
     let mut i = 0;
     for child in tree.children(h) {
         let (width, later) = dealt_width(entry_of(entries, child), room, items, i);
-        set_width(entries, child, width);
+        give_width(entries, child, width);
         i = later;
     }
 }
@@ -125,7 +130,11 @@ fn set_kid_widths(tree: &Tree, entries: &mut Table<Entry>, items: &mut [FlexItem
         (wide_kids (told entries.old) tree.now.forest h.0) }
     ensures others { KeepsOthers 0 (told entries.old).widths (told entries.new).widths
         (children_of tree.now.forest h.0) }
-    ensures rest { ButWidths (told entries.old) (told entries.new) }
+    ensures touches { Touches 0 (is_touched (told entries.old)) (is_touched (told entries.new))
+        (told entries.old).widths (told entries.new).widths (children_of tree.now.forest h.0) }
+    ensures roots { AtRoots (is_touched (told entries.old)) (is_touched (told entries.new))
+        (children_of tree.now.forest h.0) }
+    ensures rest { ButTouchedWidths (told entries.old) (told entries.new) }
     ensures listed { listing_of entries.new ≡ listing_of entries.old }
 {
     let own = entry_of(entries, h);
@@ -134,18 +143,27 @@ fn set_kid_widths(tree: &Tree, entries: &mut Table<Entry>, items: &mut [FlexItem
     deal_widths(tree, entries, &items[..count], h, room);
 }
 
-/// Finds the widths of all that lies below an object whose own width is set, parents first.
+/// Finds the widths of all that lies below touched objects in the tree of one whose own width is set, parents
+/// first. Where a child's width is another, it is touched.
 pub fn find_widths(tree: &Tree, entries: &mut Table<Entry>, items: &mut [FlexItem], h: Handle)
     requires listed { AreListed (listing_of entries.old) (tree_at tree.now.forest h.0) }
     requires few { size tree.now.forest ≤ 4000 }
     requires there { has tree.now.forest h.0 ≡ true }
     requires enough { size tree.now.forest ≤ length items.old }
-    ensures found { EachKids WidthsFit (told_trees (told entries.new) (tree_at tree.now.forest h.0)) }
+    requires closed { IsClosed (is_touched (told entries.old)) (tree_at tree.now.forest h.0) }
+    ensures found { EachKids (IfTouched (is_touched (told entries.new)) WidthsFit)
+        (told_trees (told entries.new) (tree_at tree.now.forest h.0)) }
+    ensures closed { IsClosed (is_touched (told entries.new)) (tree_at tree.now.forest h.0) }
+    ensures touches { Touches 0 (is_touched (told entries.old)) (is_touched (told entries.new))
+        (told entries.old).widths (told entries.new).widths (children_of tree.now.forest h.0) }
     ensures others { KeepsOthers 0 (told entries.old).widths (told entries.new).widths
         (children_of tree.now.forest h.0) }
-    ensures rest { ButWidths (told entries.old) (told entries.new) }
+    ensures rest { ButTouchedWidths (told entries.old) (told entries.new) }
     ensures listed { listing_of entries.new ≡ listing_of entries.old }
 {
+    if !is_touched(entries, h) {
+        return;
+    }
     if tree.first_child(h).is_none() {
         return;
     }

@@ -53,3 +53,19 @@ times-among (k ∷ ks) h some = grind (arith, nat_tests, some, times-among ks h)
 
 pub among_alike : (hs ks : List Handle) → AreAlike hs ks → (h : ℕ) → is_among (numbers hs) h ≡ true → is_among (numbers ks) h ≡ true
 among_alike hs ks same h i = times-among ks h (let a = among-times hs h i in let b = same.each h in omega arith)
+
+-- a list that has h, with h first
+pub record PutsFirst (h : Handle) (ks : List Handle) : Type 0 where
+  pub rest : List Handle
+  pub same : AreAlike ks (h ∷ rest)
+
+pub put-first : (h : Handle) (ks : List Handle) → 0 < times ks h.0 → PutsFirst h ks
+put-first h ks some =
+    let n = length-without h.0 ks some in
+    record {
+      rest = without h.0 ks;
+      same = record {
+        each = λ j. let a = times-without h.0 j ks some in omega (arith, a);
+        len = omega (arith, n);
+      };
+    }

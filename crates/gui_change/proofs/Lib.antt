@@ -38,3 +38,8 @@ pub mod Still
 pub mod Arrived
 pub mod Growing
 pub mod Added
+pub mod Leaving
+pub mod Taken
+pub mod Forgetting
+pub mod Lessened
+pub mod Left

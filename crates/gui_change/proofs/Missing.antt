@@ -14,7 +14,7 @@ use Rattle.gui_change.proofs.Alike.{same-length}
 use Rattle.gui_change.proofs.Renewing.{times-append}
 
 module _ (scene : Scene) where
-  both-times : (hs : List Handle) (n : ℕ) → times (gone_of scene hs) n + times (shown_of scene hs) n ≡ times hs n
+  pub both-times : (hs : List Handle) (n : ℕ) → times (gone_of scene hs) n + times (shown_of scene hs) n ≡ times hs n
   both-times [] n = refl
   both-times (h ∷ hs) n = elim (cases_Bool (is_shown scene h.0)) [
     | inl is ↦ let a = both-times hs n in rw is (omega (arith, a))
@@ -65,7 +65,7 @@ module _ (scene : Scene) where
   ]
 
   -- and those that are gone are not
-  gone-times : (hs : List Handle) (n : ℕ) → is_shown scene n ≡ true → times (gone_of scene hs) n ≡ 0
+  pub gone-times : (hs : List Handle) (n : ℕ) → is_shown scene n ≡ true → times (gone_of scene hs) n ≡ 0
   gone-times [] n is = refl
   gone-times (h ∷ hs) n is = elim (cases_Bool (is_shown scene h.0)) [
     | inl own ↦ rw own (gone-times hs n is)

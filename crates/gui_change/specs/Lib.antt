@@ -6,6 +6,7 @@ pub mod Dues
 pub mod Edits
 pub mod Entries
 pub mod Fronts
+pub mod Goes
 pub mod Gone
 pub mod Looks
 pub mod Marking

@@ -8,6 +8,7 @@ ghost use Rattle.scene_defs.specs.Shown.{Entry as Painted, bars_over, entries, e
 ghost use Rattle.gui_change.specs.Comes.{Comes};
 ghost use Rattle.gui_change.specs.Entries.{IsEntryRoom, all_entries, own_handles};
 ghost use Rattle.gui_change.specs.Fronts.{Fronts, is_of, names};
+ghost use Rattle.gui_change.specs.Goes.{Goes};
 
 use gui_base::{Handle, NoMemory};
 use gui_store::{SYSTEM_LAYER, Store, TOP_LAYER};
@@ -158,4 +159,22 @@ pub(crate) fn add_last(listed: &mut Vec<Entry>, h: Handle, parent: Handle)
     listed.push_reserved(Entry { h, is_bars: false });
     listed.push_reserved(Entry { h, is_bars: true });
     bring_behind(&mut listed.as_mut_slice()[place..], count, 2);
+}
+
+/// Takes what is painted of the tree at an object out of the list, where that is listed.
+pub(crate) fn take_out(listed: &mut Vec<Entry>, h: Handle)
+    ensures listed { (after : List Painted) → Goes h.0 (all_entries listed.old.items) after →
+        all_entries listed.new.items ≡ after }
+    ensures capacity { vec_capacity listed.new ≡ vec_capacity listed.old }
+{
+    let Some(start) = place_of(listed.as_slice(), h) else {
+        return;
+    };
+    let Some(below) = place_of(&listed.as_slice()[start + 1..], h) else {
+        return;
+    };
+    let len = below + 2;
+    let rest = listed.len() - start - len;
+    bring_behind(&mut listed.as_mut_slice()[start..], len, rest);
+    listed.truncate(start + rest);
 }

@@ -1,9 +1,10 @@
 //! Objects that are shown no longer, and objects of which nothing is known yet.
-ghost use Rattle.std.specs.Prelude.{◌≡◌, ◌==◌, ◌||◌, ℕ, Some, None, true, option_map};
+ghost use Rattle.std.specs.Prelude.{◌≡◌, ◌==◌, ◌||◌, ◌<◌, ◌≤◌, ℕ, List, Some, None, true, option_map};
 ghost use Rattle.std.specs.List.{flat_map};
 ghost use Rattle.gui_base.specs.Forest.{parent_of};
 ghost use Rattle.gui_damage.specs.Gridded.{added_all_in};
-ghost use Rattle.gui_boxes.specs.Listing.{HasThese};
+ghost use Rattle.gui_base.specs.declared.Handle.{Handle as Object};
+ghost use Rattle.gui_boxes.specs.Listing.{HasThese, times};
 ghost use Rattle.gui_pool.specs.Table.{value_at};
 ghost use Rattle.gui_store.specs.Views.{scene_of};
 ghost use Rattle.gui_tree.specs.Handles.{numbers};
@@ -71,6 +72,27 @@ pub(crate) fn forget_hidden(
         if is_shown(store, *h) {
             continue;
         }
+        owe(damage, is_named(named, *h), table.get(h.0 as u32), None);
+        let _ = table.remove(h.0 as u32);
+    }
+}
+
+/// Lists what these objects owe, which are shown no longer, and forgets them. No other is forgotten.
+pub(crate) fn forget(
+    table: &mut Table<Seen>,
+    damage: &mut Damage<Grid>,
+    named: Option<Handle>,
+    gone: &[Handle],
+)
+    requires once { (k : ℕ) → times gone.now k ≤ 1 }
+    ensures none { (k : ℕ) → 0 < times gone.now k → value_at table.new k ≡ None }
+    ensures rest { (k : ℕ) → times gone.now k ≡ 0 → value_at table.new k ≡ value_at table.old k }
+    ensures some { (objects : ℕ) (hs : List Object) → HasThese objects table.old hs →
+        KnowsSome objects table.new hs }
+    ensures debt { damage.new ≡ added_all_in damage.old
+        (flat_map (owed_gone (option_map number_of named) table.old) (numbers gone.now)) }
+{
+    for h in gone {
         owe(damage, is_named(named, *h), table.get(h.0 as u32), None);
         let _ = table.remove(h.0 as u32);
     }

@@ -7,7 +7,8 @@
 //! A change marks the objects that it may move, and the trees of these alone are solved: none where layout does
 //! not go by what it sets. Where it leaves the trees, only those objects are looked at again that it may
 //! concern, and those of the trees that were solved: such a change takes time by their number. So it is where an
-//! object comes, which is put where it is painted. Another change of the trees has all looked at again that is shown.
+//! object comes or a tree goes: what is painted of it is put in or cut out. Another change of the trees has all
+//! looked at again that is shown.
 //! All memory is taken at [`Canvas::open`].
 //!
 //! No value is looked up of an object that paints what it painted: where a change does not concern it or sets
@@ -22,6 +23,7 @@ mod canvas;
 mod edits;
 mod entries;
 mod gone;
+mod less;
 mod more;
 mod moved;
 mod renew;

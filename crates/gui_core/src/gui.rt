@@ -2,6 +2,7 @@
 ghost use Rattle.std.specs.Prelude.{◌≡◌, ◌↔◌, ◌<◌, ◌∷◌, [], IfOk, OnOk, OnErr, None, false};
 ghost use Rattle.gui_base.specs.declared.refusal.Refusal.{Refusal};
 ghost use Rattle.gui_edge.specs.Panel.{PanelState, HasSizes};
+ghost use Rattle.gui_board.specs.Slots.{used_in};
 ghost use Rattle.gui_store.specs.Views.{scene_of};
 ghost use Rattle.gui_layout.specs.Naturals.{AreNatural};
 ghost use Rattle.gui_layout.specs.Solved.{AreReached, AreSolved};
@@ -18,7 +19,7 @@ ghost use Rattle.play_defs.specs.Focus.{focused_in, group_at};
 ghost use Rattle.run_defs.specs.declared.Reply.TheVariants.{Refused};
 ghost use Rattle.run_laws.specs.Members.{AreJoined};
 
-use gui_base::{Handle, Limits, NoMemory, Steps};
+use gui_base::{Handle, Limits, NoMemory, Pool, Steps};
 use gui_edge::{Failed, Panel, Sink};
 use gui_layout::Places;
 use gui_paint::Shown;
@@ -148,6 +149,13 @@ impl Gui {
         ensures { result ≡ (machine_of self.now).time }
     {
         self.board.time()
+    }
+
+    /// How many slots of a pool are in use.
+    pub fn used(&self, pool: Pool) -> u32
+        ensures { result ≡ used_in (machine_of self.now) pool }
+    {
+        self.board.used(pool)
     }
 
     /// The sum of the numbers of the colours of all pixels of the scene's picture, modulo 65536. The picture

@@ -54,7 +54,7 @@ module _ (b c : ℕ → Box) (widths naturals : List ℕ) where
       sym (map-map but_height_tall (tall_at b widths naturals) f)
       ∙ (map-agree (λ h. but_height_tall (tall_at b widths naturals h)) (λ h. but_height_tall (tall_at c widths naturals h)) f (λ h i. tall-alike h (same h i)) ∙ map-map but_height_tall (tall_at c widths naturals) f)
 
-  scrolled-alike : (h : ℕ) (slot : Slot) (cs : Forest ℕ) → Alike h → AllAlike cs → scrolled_in (tall_at b widths naturals h) slot (roots (talls b widths naturals cs)) ≡ scrolled_in (tall_at c widths naturals h) slot (roots (talls c widths naturals cs))
+  pub scrolled-alike : (h : ℕ) (slot : Slot) (cs : Forest ℕ) → Alike h → AllAlike cs → scrolled_in (tall_at b widths naturals h) slot (roots (talls b widths naturals cs)) ≡ scrolled_in (tall_at c widths naturals h) slot (roots (talls c widths naturals cs))
   scrolled-alike h slot cs same all =
       let t = tall_at b widths naturals h in
       let u = tall_at c widths naturals h in

@@ -20,6 +20,12 @@ use Rattle.gui_boxes.specs.Around.{IsFlat}
 use Rattle.gui_layout.specs.Scenes.{scene_box}
 use Rattle.gui_layout.specs.Scrolled.{scrolled_known}
 use Rattle.gui_boxes.specs.Views.{box_at}
+use Rattle.std.specs.Prelude.{is_some}
+use Rattle.gui_pool.specs.Table.{value_at}
+use Rattle.gui_boxes.specs.declared.entry.Entry.{Entry}
+use Rattle.gui_boxes.specs.Tables.{touched_or}
+use Rattle.gui_boxes.specs.Touched.{is_touched}
+use Rattle.gui_boxes.proofs.Listed.{told_at}
 use Rattle.gui_layout.proofs.Without.{flat-kids}
 use Rattle.gui_layout.proofs.Overs.{kids-same, root-in}
 use Rattle.gui_layout.proofs.Rescrolled.{told-flat, unmarked-root}
@@ -115,6 +121,7 @@ module _ (p : Places) (scene : Scene) (s m c : ℕ → Bool) (once : StandsOnce 
     placed = λ k there looked un. (was.each k there looked un).placed;
     fit = all f whole;
     fill = fills f (λ k i. i);
+    calm = was.calm;
     scrolled = λ k there looked un off looks.
         let at = was.each k there looked un in
         let g = children_of (handles_of was.before.trees) k in
@@ -151,11 +158,11 @@ marked-closed w h k (Tree t cs rest) distinct is kid = elim (cases_Bool (w t || 
     inner : has cs k ≡ true → has (Tree t cs (marked_trees w rest)) k ≡ true
     inner i = or_right (eqb t k) (has cs k || has (marked_trees w rest) k) (or_left (has cs k) (has (marked_trees w rest) k) i)
 
--- so where the scene differs in what the marks tell alone, the marked trees are right but for the marks
+-- so are the marked trees
 pub right_marked : (p : Places) (scene : Scene) (w m c : ℕ → Bool) → StandsOnce (handles_of scene.trees) → DiffersInMarks p scene (in_marked w scene) m c → AreRightBut p scene (in_marked w scene) m c
 right_marked p scene w m c once was = right_but p scene (in_marked w scene) m c once was (λ h k looked kid. marked-closed w h k (handles_of scene.trees) (distinct_once (handles_of scene.trees) once) looked kid)
 
--- and so they are where all objects are
+-- what is right of all objects is right of some
 fit-fewer : (s t m c : ℕ → Bool) (known : ℕ → Known) (g : Forest ℕ) → ((k : ℕ) → t k ≡ true → s k ≡ true) → AllFitButBoth s m c known g → AllFitButBoth t m c known g
 fit-fewer s t m c known Empty fewer all = tt
 fit-fewer s t m c known (Tree h cs rest) fewer all = (λ looked un. all.0 (fewer h looked) un, fit-fewer s t m c known cs fewer all.1, fit-fewer s t m c known rest fewer all.2)
@@ -166,6 +173,7 @@ right_fewer p scene s t m c fewer was = record {
   placed = λ k there looked un. was.placed k there (fewer k looked) un;
   fit = fit-fewer s t m c (known_in p scene) (handles_of scene.trees) fewer was.fit;
   fill = fill-fewer s t m m scene.limits.width scene.limits.height (known_in p scene) (handles_of scene.trees) fewer (λ k un. un) was.fill;
+  calm = λ k there looked. was.calm k there (fewer k looked);
   scrolled = λ k there looked un off looks. was.scrolled k there (fewer k looked) un off (record { looked = λ j kid. fewer j (looks.looked j kid); unchanged = looks.unchanged });
 }
 
@@ -196,6 +204,7 @@ right_unmarked p scene w m c none =
       fit = fit-unseen (in_marked w scene) m c (known_in p scene) (handles_of scene.trees) unseen;
       fill = fill-unseen (in_marked w scene) m scene.limits.width scene.limits.height (known_in p scene) (handles_of scene.trees) unseen;
       scrolled = λ k there looked un off looks. absurd (both_ways (in_marked w scene k) (unseen k) looked);
+      calm = λ k there looked. absurd (both_ways (in_marked w scene k) (unseen k) looked);
     }
 
 -- Trees that fit part by part.
@@ -270,8 +279,19 @@ module _ (p : Places) (before scene : Scene) (m c : ℕ → Bool) (settled : Are
       let fits : Fits (known_in p before k) (roots (map_forest (known_in p before) (children_of g k))) = subst (Fits (known_in p before k)) (sym (roots-map (known_in p before) (children_of g k))) at.fits in
       flat-roots f g (layout_of p) k kids (told-flat (scene_box before) (layout_of p) g k at.scrolled at.known (λ j kid. boxed j (root-in g j k kid)) fits still)
 
+  -- what was not there has no entry, and nothing else is touched
+  calm-before : (k : ℕ) → is_touched (layout_of p) k ≡ false
+  calm-before k = elim (cases_Bool (has (handles_of before.trees) k)) [
+    | inl was ↦ settled.calm k was
+    | inr none ↦ told_at touched_or p.entries k ∙ untouched (value_at p.entries k) (settled.there k ∙ none)
+  ]
+    where
+      untouched : (e : Option Entry) → is_some e ≡ false → touched_or e ≡ false
+      untouched None none = refl
+      untouched (Some e) none = absurd (false≢true (sym none))
+
   pub settled_but_marks : AreSettledButMarks p scene m c
   settled_but_marks = record {
-    right = right_but p scene anyone m c once (record { before = before; each = λ k there looked un. was_solved k there un }) (λ h k looked kid. refl);
+    right = right_but p scene anyone m c once (record { before = before; each = λ k there looked un. was_solved k there un; calm = λ k there looked. calm-before k }) (λ h k looked kid. refl);
     there = λ k un. settled.there k ∙ sym (same k un).there;
   }

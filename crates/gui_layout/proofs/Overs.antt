@@ -1,6 +1,7 @@
 -- How far children reach around the trees that were solved.
 use Rattle.std.proofs.Common.{◌≡◌, ◌∙◌, ◌<◌, ◌+◌, refl, sym, ap, subst, ℕ, Bool, true, false, eqb, eq-eqb, cond, ◌||◌, inl, inr, List, [], ◌∷◌, ◌++◌, Option, Some, None, option_map, arith}
 use Rattle.std.proofs.lemmas.Bool.{cases_Bool, eqb-true, both_ways, false_from_ne_true, or_cases, or_left, or_right, or_parts, false≢true}
+use Rattle.std.specs.Prelude.{IfSome}
 use Rattle.gui_tree.proofs.Below.{own_tree}
 use Rattle.gui_base.specs.Forest.{Forest, Empty, Tree, StandsOnce, has, tree_at, children_of, parent_of, parent_by, roots, map_forest}
 use Rattle.gui_base.specs.declared.Handle.{Handle}
@@ -53,6 +54,21 @@ reads-then f a b c first later = record {
 
 pub still-before : (f : Forest ℕ) (a b : Layout) (k : ℕ) → ReadsReaches f a b → (box_at a.boxes k).scrollable ≡ false → (box_at b.boxes k).scrollable ≡ false
 still-before f a b k reads still = ap (λ (l : Layout). (box_at l.boxes k).scrollable) reads.rest ∙ still
+
+-- an object, if there is one, whose reach is read if it moves no children
+pub if-still : (f : Forest ℕ) (a b l : Layout) (o : Option Handle) → ((k : ℕ) → (box_at b.boxes k).scrollable ≡ false → (box_at a.boxes k).scrollable ≡ false) → IfSome o (λ p. (box_at a.boxes p.0).scrollable ≡ false → IsFlat f l p.0) →
+    IfSome o (λ p. (box_at b.boxes p.0).scrollable ≡ false → IsFlat f l p.0)
+if-still f a b l None same is = tt
+if-still f a b l (Some p) same is = λ still. is (same p.0 still)
+
+pub if-stays : (f : Forest ℕ) (a b d : Layout) (o : Option Handle) → ReadsReaches f b d → IfSome o (λ p. (box_at a.boxes p.0).scrollable ≡ false → IsFlat f b p.0) → IfSome o (λ p. (box_at a.boxes p.0).scrollable ≡ false → IsFlat f d p.0)
+if-stays f a b d None reads is = tt
+if-stays f a b d (Some p) reads is = λ still. flat-stays f b d p.0 reads (is still)
+
+-- an object's parent, if it has one
+pub if-parent : (f : Forest ℕ) (a l : Layout) (o : Option Handle) (up : Option ℕ) → o ≡ option_map as_handle up → ((q : ℕ) → up ≡ Some q → IsFlat f l q) → IfSome o (λ p. (box_at a.boxes p.0).scrollable ≡ false → IsFlat f l p.0)
+if-parent f a l o None is own = subst (λ (v : Option Handle). IfSome v (λ p. (box_at a.boxes p.0).scrollable ≡ false → IsFlat f l p.0)) (sym is) tt
+if-parent f a l o (Some q) is own = subst (λ (v : Option Handle). IfSome v (λ p. (box_at a.boxes p.0).scrollable ≡ false → IsFlat f l p.0)) (sym is) (λ still. own q refl)
 
 -- Children and trees.
 

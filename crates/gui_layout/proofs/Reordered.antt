@@ -152,6 +152,7 @@ module _ (p : Places) (before scene : Scene) (q : ℕ) (settled : AreSettled p b
         there = standing.there;
         solved = standing.solved;
         scrolled = scrolled;
+        calm = λ k there. settled.calm k (sym (is.each k).there ∙ there);
         reached = record { reaches = λ h. (shown h).reaches; offsets = λ h. (shown h).offsets };
         naturals = all-naturals scene valid p.entries standing.settled standing.there;
       }

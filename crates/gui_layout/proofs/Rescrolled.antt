@@ -42,7 +42,7 @@ unmarked-root m (Tree h cs rest) j none is =
       | inr other ↦ unmarked-root m rest j parts.1 (rw other at is)
     ]
 
-no-roots : (m : ℕ → Bool) (g : Forest ℕ) → ((j : ℕ) → is_root j g ≡ true → m j ≡ false) → is_any_root m g ≡ false
+pub no-roots : (m : ℕ → Bool) (g : Forest ℕ) → ((j : ℕ) → is_root j g ≡ true → m j ≡ false) → is_any_root m g ≡ false
 no-roots m Empty none = refl
 no-roots m (Tree h cs rest) none =
     rw (none h (or_left (eqb h h) (is_root h rest) (eq-eqb h h refl))) (no-roots m rest (λ j i. none j (or_right (eqb h j) (is_root j rest) i)))

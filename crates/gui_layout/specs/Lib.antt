@@ -12,3 +12,4 @@ pub mod Settles
 pub mod Tops
 pub mod SettledBut
 pub mod Laws
+pub mod Calm

@@ -1,5 +1,5 @@
 -- What `Places` shows: its limits, and the place of each object.
-use Rattle.std.specs.Prelude.{◌≡◌, ℕ, true, option_map, is_some}
+use Rattle.std.specs.Prelude.{◌≡◌, ℕ, true, false, option_map, is_some}
 use Rattle.std.specs.declared.option.Option.{Option}
 use Rattle.gui_base.specs.Area.{Rect}
 use Rattle.gui_base.specs.Bounded.{bounds_of}
@@ -17,6 +17,7 @@ use Rattle.gui_layout.specs.Scrolled.{IsScrolledIn}
 use Rattle.gui_boxes.specs.Scrolls.{moves_of, span_of}
 use Rattle.gui_boxes.specs.Settled.{Layout, known, known_at, IsSettled}
 use Rattle.gui_boxes.specs.Tables.{area_in, told}
+use Rattle.gui_boxes.specs.Touched.{is_touched}
 
 abbrev pub limits_of : Places → Bounds
 limits_of p = bounds_of p.limits
@@ -59,7 +60,7 @@ pub record AreStanding (p : Places) (scene : Scene) : Type 0 where
   pub there : (h : ℕ) → is_some (value_at p.entries h) ≡ has (handles_of scene.trees) h
   pub solved : AreSolved p scene
 
--- and how far its children are scrolled, and its natural sizes are those of the definition
+-- and how far its children are scrolled, its natural sizes are those of the definition, and none is touched
 pub record AreSettled (p : Places) (scene : Scene) : Type 0 where
   pub boxes : HoldsBoxes (layout_of p).boxes scene
   pub settled : IsSettled scene.limits.width scene.limits.height
@@ -70,3 +71,4 @@ pub record AreSettled (p : Places) (scene : Scene) : Type 0 where
       IsScrolledIn (known_at (scene_box scene) (layout_of p)) (layout_of p).scrolls (handles_of scene.trees) h
   pub reached : AreReached p scene
   pub naturals : AreNatural p scene
+  pub calm : (h : ℕ) → has (handles_of scene.trees) h ≡ true → is_touched (layout_of p) h ≡ false

@@ -1,6 +1,7 @@
 //! All roots.
-ghost use Rattle.std.specs.Prelude.{◌≡◌, ◌≤◌, length};
-ghost use Rattle.gui_base.specs.Forest.{size};
+ghost use Rattle.std.specs.Prelude.{◌≡◌, ◌≤◌, ℕ, true, length};
+ghost use Rattle.gui_base.specs.Forest.{has, size};
+ghost use Rattle.gui_boxes.specs.Touched.{is_touched};
 ghost use Rattle.gui_base.specs.Forest.{height as levels_of};
 ghost use Rattle.gui_store.specs.Views.{scene_of};
 ghost use Rattle.gui_layout.specs.Scenes.{scene_box, HoldsBoxes};
@@ -17,7 +18,7 @@ use gui_pool::Table;
 use gui_store::Store;
 use gui_tree::Tree;
 
-/// Solves all roots, which fill the panel, and all below them.
+/// Solves all roots, which fill the panel, and all below them: all are touched.
 pub(crate) fn solve_trees(
     tree: &Tree,
     store: &Store,
@@ -28,6 +29,7 @@ pub(crate) fn solve_trees(
 )
     requires boxes { HoldsBoxes (told entries.old).boxes (scene_of store.now) }
     requires listed { AreListed (listing_of entries.old) tree.now.forest }
+    requires touched { (k : ℕ) → has tree.now.forest k ≡ true → is_touched (told entries.old) k ≡ true }
     requires few { size tree.now.forest ≤ 4000 }
     requires low { levels_of tree.now.forest ≤ 16 }
     requires enough { size tree.now.forest ≤ length items.old }

@@ -6,10 +6,10 @@
 //! loops. It reads what the passes before it found of each object, and writes one thing more into its entry.
 //!
 //! Where objects have changed, come or gone, or stand elsewhere among their siblings, they are marked (by
-//! [`Marks`]), and the places are settled for all of them at once. Each mark has one tree solved: that of the
-//! nearest object, from the marked one upward, that stands by itself in a parent whose place does not go by its
-//! children. The contracts promise the places and that a tree without marks stays as it is, and not how much is
-//! solved.
+//! [`Marks`]), and the places are settled for all of them at once. Each mark has one
+//! tree solved: that of the nearest object, from the marked one upward, that stands by itself in a parent whose
+//! place does not go by its children. A tree without marks stays as it is. In a tree the passes visit touched
+//! objects alone: the marked ones, those above them, and those whose width or place becomes another.
 //!
 //! All memory is taken at [`Places::open`] and [`Marks::open`].
 #![tactic(auto)]
@@ -24,6 +24,7 @@ mod own_heights;
 mod places;
 mod raising;
 mod renewal;
+mod touching;
 mod tree;
 
 pub use gui_boxes::marks::Marks;

@@ -6,7 +6,7 @@ ghost use Rattle.std.specs.Option.{option_to_list};
 ghost use Rattle.gui_base.specs.Area.{area_at, is_empty, width_of};
 ghost use Rattle.gui_base.specs.Bounded.{bounds_of};
 ghost use Rattle.gui_base.specs.Corners.{rect_of};
-ghost use Rattle.gui_base.specs.Forest.{StandsOnce, has, parent_of, preorder, tree_at};
+ghost use Rattle.gui_base.specs.Forest.{StandsOnce, children_of, has, parent_of, preorder, tree_at};
 ghost use Rattle.gui_base.specs.declared.intervals.TheConstants.{HANDLE};
 ghost use Rattle.gui_tree.specs.Handles.{numbers};
 ghost use Rattle.layout_defs.specs.Solving.{room_of};
@@ -29,13 +29,16 @@ ghost use Rattle.gui_boxes.specs.Slots.{room_in};
 ghost use Rattle.gui_boxes.specs.Views.{box_at};
 ghost use Rattle.gui_boxes.specs.Reaches.{IsPlaced};
 ghost use Rattle.gui_layout.specs.Renewed.{AreRenewed, IsRenewed, KeepsRenewed};
-ghost use Rattle.gui_layout.specs.Marked.{marked_trees};
+ghost use Rattle.gui_layout.specs.Marked.{is_any_root, marked_trees};
+ghost use Rattle.gui_layout.specs.Scrolled.{IsScrolledIn};
 ghost use Rattle.gui_boxes.specs.Pending.{is_any, is_marked_in, is_partly, is_pending};
 ghost use Rattle.gui_pool.specs.Table.{value_at};
-ghost use Rattle.gui_layout.specs.Scenes.{HoldsBoxes, shown_panel};
+ghost use Rattle.gui_boxes.specs.Touched.{IsClosed, is_touched};
+ghost use Rattle.gui_layout.specs.Calm.{ButTouchedBoxes, IsClosedUp, IsReady, MovesTouched, StandsOver};
+ghost use Rattle.gui_layout.specs.Scenes.{HoldsBoxes, scene_box, shown_panel};
 ghost use Rattle.gui_boxes.specs.Listing.{AddsValue, AreProper, HasThese, KeepsThose, SameValue, times};
-ghost use Rattle.gui_boxes.specs.Layouts.{ButBoxes};
-ghost use Rattle.gui_boxes.specs.Tables.{AreListed, IsListed, listing_of};
+ghost use Rattle.gui_boxes.specs.Layouts.{ButTouched};
+ghost use Rattle.gui_boxes.specs.Tables.{AreListed, IsListed, listing_of, touched_or};
 
 use crate::all::solve_trees;
 use crate::around::{renew_all_there, renew_around};
@@ -44,6 +47,7 @@ use crate::looks::{look_in, paint_look_in};
 use crate::objects::box_in;
 use crate::raising::{raise_marks, rests};
 use crate::renewal::{renew_all, renew_marked};
+use crate::touching::{rest_all, rest_marked, touch_all, touch_marked};
 use crate::tree::solve_tree;
 use arrayvec::ArrayVec;
 use gui_base::intervals::HANDLE;
@@ -57,7 +61,7 @@ use gui_boxes::items::new_item;
 use gui_boxes::listing::{add_any, are_same, clear, fill, list_trees, put};
 use gui_boxes::mark::Mark;
 use gui_boxes::marks::{Marks, clear_marks};
-use gui_boxes::pending::{finish_tree, is_pending};
+use gui_boxes::pending::{is_pending, rest_tree};
 use gui_boxes::position::Position;
 use gui_boxes::positions::inside_of;
 use gui_boxes::size::Size;
@@ -550,6 +554,8 @@ impl Places {
         ensures none { (k : ℕ) → has (handles_of (scene_of store.now).trees) k ≡ false →
             is_some (value_at self.old.entries k) ≡ false →
             is_some (value_at self.new.entries k) ≡ false }
+        ensures calm { (k : ℕ) → has (handles_of (scene_of store.now).trees) k ≡ true →
+            touched_or (value_at self.old.entries k) ≡ false → touched_or (value_at self.new.entries k) ≡ false }
         ensures limits { limits_of self.new ≡ limits_of self.old }
     {
         let tree = store.tree();
@@ -577,6 +583,8 @@ impl Places {
         ensures none { (k : ℕ) → has (handles_of (scene_of store.now).trees) k ≡ false →
             is_some (value_at self.old.entries k) ≡ false →
             is_some (value_at self.new.entries k) ≡ false }
+        ensures calm { (k : ℕ) → has (handles_of (scene_of store.now).trees) k ≡ true →
+            touched_or (value_at self.old.entries k) ≡ false → touched_or (value_at self.new.entries k) ≡ false }
         ensures limits { limits_of self.new ≡ limits_of self.old }
     {
         for h in marked {
@@ -584,20 +592,36 @@ impl Places {
         }
     }
 
-    /// Makes the boxes of the listed objects anew that are there and whose marks are pending.
+    /// Makes the boxes of the listed objects anew that are there and whose marks are pending, and touches all that
+    /// are there, and all above them.
     fn renew_marked(&mut self, store: &Store, marked: &[Handle], pending: &Table<Mark>)
         requires entries { (k : ℕ) → 0 < times marked.now k → is_pending pending.now k ≡ true →
+            has (handles_of (scene_of store.now).trees) k ≡ true →
+            is_some (value_at self.old.entries k) ≡ true }
+        requires above { (h k : ℕ) → 0 < times marked.now h →
+            has (handles_of (scene_of store.now).trees) h ≡ true →
+            Encloses (handles_of (scene_of store.now).trees) k h →
             has (handles_of (scene_of store.now).trees) k ≡ true →
             is_some (value_at self.old.entries k) ≡ true }
         ensures own { (k : ℕ) → 0 < times marked.now k → is_pending pending.now k ≡ true →
             has (handles_of (scene_of store.now).trees) k ≡ true →
             IsRenewed (scene_of store.now) (layout_of self.new).boxes k }
         ensures kept { KeepsRenewed (scene_of store.now) (layout_of self.old).boxes (layout_of self.new).boxes }
+        ensures closed { (s : ℕ → Bool) →
+            IsClosedUp (handles_of (scene_of store.now).trees) s (is_touched (layout_of self.old)) →
+            IsClosedUp (handles_of (scene_of store.now).trees) s (is_touched (layout_of self.new)) }
+        ensures touched { (k : ℕ) → 0 < times marked.now k →
+            has (handles_of (scene_of store.now).trees) k ≡ true → is_touched (layout_of self.new) k ≡ true }
+        ensures over { (k : ℕ) → is_touched (layout_of self.old) k ≡ false →
+            is_touched (layout_of self.new) k ≡ true →
+            StandsOver (handles_of (scene_of store.now).trees) marked.now k }
         ensures listed { listing_of self.new.entries ≡ listing_of self.old.entries }
-        ensures rest { ButBoxes (layout_of self.old) (layout_of self.new) }
+        ensures rest { ButTouchedBoxes (layout_of self.old) (layout_of self.new) }
         ensures limits { limits_of self.new ≡ limits_of self.old }
     {
-        renew_marked(store.tree(), &mut self.entries, store, marked, pending);
+        let tree = store.tree();
+        renew_marked(tree, &mut self.entries, store, marked, pending);
+        touch_marked(tree, &mut self.entries, marked);
     }
 
     /// Settles the places of a store in which marked objects alone may differ, and lets the marks go. The lone
@@ -701,12 +725,14 @@ impl Places {
         ensures limits { limits_of self.new ≡ limits_of self.old }
     {
         let tree = store.tree();
-        renew_around(tree, &mut self.entries, tops, lone);
-        renew_all_there(tree, &mut self.entries, marked);
+        let last = renew_around(tree, &mut self.entries, tops, lone);
+        renew_all_there(tree, &mut self.entries, last, marked);
     }
 
     /// Settles the places of a store in which pending objects alone may differ, each of which is listed. What
-    /// else is listed has entries.
+    /// else is listed has entries, as has all above what is listed. Of the objects in whose trees one is pending
+    /// none is touched yet, and it is told right how far they scroll their children, but where one of both is
+    /// pending or they are listed.
     fn settle_changed(
         &mut self,
         store: &Store,
@@ -718,13 +744,28 @@ impl Places {
         requires listed { (k : ℕ) → is_pending pending.old k ≡ true → 0 < times marked.now k }
         requires entries { (k : ℕ) → 0 < times marked.now k → is_pending pending.old k ≡ false →
             is_some (value_at self.old.entries k) ≡ true }
+        requires above { (h k : ℕ) → 0 < times marked.now h →
+            has (handles_of (scene_of store.now).trees) h ≡ true →
+            Encloses (handles_of (scene_of store.now).trees) k h →
+            has (handles_of (scene_of store.now).trees) k ≡ true → is_pending pending.old k ≡ false →
+            is_some (value_at self.old.entries k) ≡ true }
         requires but { AreRightButChanged self.old (scene_of store.now)
             (in_marked (is_pending pending.old) (scene_of store.now)) (is_pending pending.old) }
+        requires calm { (k : ℕ) → has (handles_of (scene_of store.now).trees) k ≡ true →
+            in_marked (is_pending pending.old) (scene_of store.now) k ≡ true →
+            is_touched (layout_of self.old) k ≡ false }
+        requires scrolled { (k : ℕ) → has (handles_of (scene_of store.now).trees) k ≡ true →
+            in_marked (is_pending pending.old) (scene_of store.now) k ≡ true → times marked.now k ≡ 0 →
+            is_any_root (is_pending pending.old) (children_of (handles_of (scene_of store.now).trees) k) ≡ false →
+            IsScrolledIn (known_at (scene_box (scene_of store.now)) (layout_of self.old)) (layout_of self.old).scrolls
+            (handles_of (scene_of store.now).trees) k }
         requires empty { solved.old.items ≡ [] }
         requires room { length marked.now ≤ vec_capacity solved.old }
         ensures settles { SettlesChanged self.old self.new (scene_of store.now) (is_pending pending.old) }
         ensures moves { MovesAt self.old self.new (scene_of store.now) (is_pending pending.old) solved.new.items }
         ensures scrolls { ScrollsAt self.old self.new (scene_of store.now) (is_pending pending.old) solved.new.items }
+        ensures calm { (k : ℕ) → has (handles_of (scene_of store.now).trees) k ≡ true →
+            is_touched (layout_of self.old) k ≡ false → is_touched (layout_of self.new) k ≡ false }
         ensures marks { listing_of pending.new ≡ listing_of pending.old }
         ensures capacity { vec_capacity solved.new ≡ vec_capacity solved.old }
         ensures limits { limits_of self.new ≡ limits_of self.old }
@@ -738,7 +779,7 @@ impl Places {
 
     /// Solves the tree in which an object lies that is marked, from the nearest one upward that stands by
     /// itself, and nothing else. The answer is that one.
-    fn settle_at(&mut self, store: &Store, h: Handle) -> Handle
+    fn settle_at(&mut self, store: &Store, pending: &Table<Mark>, h: Handle) -> Handle
         requires limits { limits_of self.old ≡ (scene_of store.now).limits }
         requires there { has (handles_of (scene_of store.now).trees) h.0 ≡ true }
         requires entries { (u : ℕ) → Encloses (handles_of (scene_of store.now).trees) u h.0 →
@@ -746,8 +787,17 @@ impl Places {
         requires boxes { (u : ℕ) → Encloses (handles_of (scene_of store.now).trees) u h.0 →
             AreRenewed (scene_of store.now) (layout_of self.old).boxes
             (tree_at (handles_of (scene_of store.now).trees) u) }
-        ensures { SolvesTree self.old self.new (scene_of store.now) h.0 result.0 }
+        requires own { is_touched (layout_of self.old) h.0 ≡ true }
+        requires marked { is_pending pending.now h.0 ≡ true }
+        requires ready { IsReady (scene_box (scene_of store.now)) (layout_of self.old)
+            (handles_of (scene_of store.now).trees)
+            (in_marked (is_pending pending.now) (scene_of store.now)) (is_pending pending.now) }
+        ensures solves { SolvesTree self.old self.new (scene_of store.now) h.0 result.0 }
+        ensures moves { MovesTouched (scene_box (scene_of store.now)) (layout_of self.old) (layout_of self.new)
+            (tree_at (handles_of (scene_of store.now).trees) result.0) }
+        ensures top { is_touched (layout_of self.old) result.0 ≡ true }
     {
+        let _ = pending;
         let tree = store.tree();
         let (top, frame) = self.frame_of(tree, h);
         solve_tree(
@@ -761,6 +811,29 @@ impl Places {
         top
     }
 
+    /// What the marks of the touched objects in the tree of an object concern is settled, and these are let go.
+    fn let_go(&mut self, tree: &Tree, pending: &mut Table<Mark>, h: Handle)
+        requires there { has tree.now.forest h.0 ≡ true }
+        requires listed { AreListed (listing_of self.old.entries) (tree_at tree.now.forest h.0) }
+        requires closed { IsClosed (is_touched (layout_of self.old)) (tree_at tree.now.forest h.0) }
+        requires marked { (k : ℕ) → has (tree_at tree.now.forest h.0) k ≡ true →
+            is_pending pending.old k ≡ true → is_touched (layout_of self.old) k ≡ true }
+        ensures own { (k : ℕ) → has (tree_at tree.now.forest h.0) k ≡ true →
+            is_pending pending.new k ≡ false }
+        ensures others { (k : ℕ) → has (tree_at tree.now.forest h.0) k ≡ false →
+            is_pending pending.new k ≡ is_pending pending.old k }
+        ensures marks { listing_of pending.new ≡ listing_of pending.old }
+        ensures rests { (k : ℕ) → has (tree_at tree.now.forest h.0) k ≡ true →
+            is_touched (layout_of self.new) k ≡ false }
+        ensures touched { (k : ℕ) → has (tree_at tree.now.forest h.0) k ≡ false →
+            is_touched (layout_of self.new) k ≡ is_touched (layout_of self.old) k }
+        ensures rest { ButTouched (layout_of self.old) (layout_of self.new) }
+        ensures listed { listing_of self.new.entries ≡ listing_of self.old.entries }
+        ensures limits { limits_of self.new ≡ limits_of self.old }
+    {
+        rest_tree(tree, &mut self.entries, pending, h);
+    }
+
     /// Settles what the mark of an object concerns, if it is there and its mark is pending. The answer is the
     /// object at the top of the tree that was solved, or None.
     fn settle_mark(&mut self, store: &Store, pending: &mut Table<Mark>, h: Handle) -> Option<Handle>
@@ -769,12 +842,20 @@ impl Places {
             (marked_trees (is_pending pending.old) (handles_of (scene_of store.now).trees)) }
         requires boxes { AreRenewed (scene_of store.now) (layout_of self.old).boxes
             (marked_trees (is_pending pending.old) (handles_of (scene_of store.now).trees)) }
+        requires ready { IsReady (scene_box (scene_of store.now)) (layout_of self.old)
+            (handles_of (scene_of store.now).trees)
+            (in_marked (is_pending pending.old) (scene_of store.now)) (is_pending pending.old) }
         ensures settles { Settles self.old self.new (scene_of store.now)
             (is_pending pending.old) (is_pending pending.new) }
         ensures solves { SolvesAt self.old self.new (scene_of store.now)
             (is_pending pending.old) (is_pending pending.new) (option_to_list result) }
         ensures scrolls { ScrollsAt self.old self.new (scene_of store.now)
             (is_pending pending.old) (option_to_list result) }
+        ensures ready { IsReady (scene_box (scene_of store.now)) (layout_of self.new)
+            (handles_of (scene_of store.now).trees)
+            (in_marked (is_pending pending.new) (scene_of store.now)) (is_pending pending.new) }
+        ensures calm { (k : ℕ) → is_touched (layout_of self.old) k ≡ false →
+            is_touched (layout_of self.new) k ≡ false }
         ensures own { has (handles_of (scene_of store.now).trees) h.0 ≡ true →
             is_pending pending.new h.0 ≡ false }
         ensures marks { listing_of pending.new ≡ listing_of pending.old }
@@ -786,14 +867,14 @@ impl Places {
         if !tree.has(h) {
             return None;
         }
-        let top = self.settle_at(store, h);
-        finish_tree(tree, pending, top);
+        let top = self.settle_at(store, pending, h);
+        self.let_go(tree, pending, top);
         Some(top)
     }
 
     /// Settles what the marks of these objects concern, of those that are there, and lists the objects at the
     /// top of the trees that were solved.
-    fn settle_marked(
+    fn settle_each(
         &mut self,
         store: &Store,
         marked: &[Handle],
@@ -808,12 +889,17 @@ impl Places {
         requires marked { (k : ℕ) → is_pending pending.old k ≡ true → 0 < times marked.now k }
         requires empty { solved.old.items ≡ [] }
         requires room { length marked.now ≤ vec_capacity solved.old }
+        requires ready { IsReady (scene_box (scene_of store.now)) (layout_of self.old)
+            (handles_of (scene_of store.now).trees)
+            (in_marked (is_pending pending.old) (scene_of store.now)) (is_pending pending.old) }
         ensures settles { Settles self.old self.new (scene_of store.now)
             (is_pending pending.old) (is_pending pending.new) }
         ensures solves { SolvesAt self.old self.new (scene_of store.now)
             (is_pending pending.old) (is_pending pending.new) solved.new.items }
         ensures scrolls { ScrollsAt self.old self.new (scene_of store.now)
             (is_pending pending.old) solved.new.items }
+        ensures calm { (k : ℕ) → is_touched (layout_of self.old) k ≡ false →
+            is_touched (layout_of self.new) k ≡ false }
         ensures all { (k : ℕ) → has (handles_of (scene_of store.now).trees) k ≡ true →
             is_pending pending.new k ≡ false }
         ensures marks { listing_of pending.new ≡ listing_of pending.old }
@@ -823,6 +909,66 @@ impl Places {
             let top = self.settle_mark(store, pending, *h);
             add_any(solved, top);
         }
+    }
+
+    /// Settles what the marks of these objects concern, of those that are there, and lists the objects at the
+    /// top of the trees that were solved. No listed object is touched then, nor one above one.
+    fn settle_marked(
+        &mut self,
+        store: &Store,
+        marked: &[Handle],
+        pending: &mut Table<Mark>,
+        solved: &mut Vec<Handle>,
+    )
+        requires limits { limits_of self.old ≡ (scene_of store.now).limits }
+        requires entries { AreListed (listing_of self.old.entries)
+            (marked_trees (is_pending pending.old) (handles_of (scene_of store.now).trees)) }
+        requires boxes { AreRenewed (scene_of store.now) (layout_of self.old).boxes
+            (marked_trees (is_pending pending.old) (handles_of (scene_of store.now).trees)) }
+        requires marked { (k : ℕ) → is_pending pending.old k ≡ true → 0 < times marked.now k }
+        requires above { (h k : ℕ) → 0 < times marked.now h →
+            has (handles_of (scene_of store.now).trees) h ≡ true →
+            Encloses (handles_of (scene_of store.now).trees) k h →
+            has (handles_of (scene_of store.now).trees) k ≡ true → IsListed (listing_of self.old.entries) k }
+        requires empty { solved.old.items ≡ [] }
+        requires room { length marked.now ≤ vec_capacity solved.old }
+        requires ready { IsReady (scene_box (scene_of store.now)) (layout_of self.old)
+            (handles_of (scene_of store.now).trees)
+            (in_marked (is_pending pending.old) (scene_of store.now)) (is_pending pending.old) }
+        ensures settles { Settles self.old self.new (scene_of store.now)
+            (is_pending pending.old) (is_pending pending.new) }
+        ensures solves { SolvesAt self.old self.new (scene_of store.now)
+            (is_pending pending.old) (is_pending pending.new) solved.new.items }
+        ensures scrolls { ScrollsAt self.old self.new (scene_of store.now)
+            (is_pending pending.old) solved.new.items }
+        ensures calm { (k : ℕ) → is_touched (layout_of self.old) k ≡ false →
+            is_touched (layout_of self.new) k ≡ false }
+        ensures rests { (k : ℕ) → StandsOver (handles_of (scene_of store.now).trees) marked.now k →
+            is_touched (layout_of self.new) k ≡ false }
+        ensures all { (k : ℕ) → has (handles_of (scene_of store.now).trees) k ≡ true →
+            is_pending pending.new k ≡ false }
+        ensures marks { listing_of pending.new ≡ listing_of pending.old }
+        ensures capacity { vec_capacity solved.new ≡ vec_capacity solved.old }
+    {
+        self.settle_each(store, marked, pending, solved);
+        self.rest_marked(store, marked);
+    }
+
+    /// Lets go of the listed objects that are there, and of all above them.
+    fn rest_marked(&mut self, store: &Store, marked: &[Handle])
+        requires above { (h k : ℕ) → 0 < times marked.now h →
+            has (handles_of (scene_of store.now).trees) h ≡ true →
+            Encloses (handles_of (scene_of store.now).trees) k h →
+            has (handles_of (scene_of store.now).trees) k ≡ true → IsListed (listing_of self.old.entries) k }
+        ensures calm { (k : ℕ) → is_touched (layout_of self.old) k ≡ false →
+            is_touched (layout_of self.new) k ≡ false }
+        ensures rests { (k : ℕ) → StandsOver (handles_of (scene_of store.now).trees) marked.now k →
+            is_touched (layout_of self.new) k ≡ false }
+        ensures rest { ButTouched (layout_of self.old) (layout_of self.new) }
+        ensures listed { listing_of self.new.entries ≡ listing_of self.old.entries }
+        ensures limits { limits_of self.new ≡ limits_of self.old }
+    {
+        rest_marked(store.tree(), &mut self.entries, marked);
     }
 
     /// What a root stands in.
@@ -871,6 +1017,7 @@ impl Places {
         requires new { times self.old.listed.items h.0 ≡ 0 }
         requires room { length self.old.listed.items < self.old.limits.objects }
         ensures added { AddsValue h.0 self.old.entries self.new.entries }
+        ensures rests { touched_or (value_at self.new.entries h.0) ≡ false }
         ensures limits { limits_of self.new ≡ limits_of self.old }
     {
         put(&mut self.entries, h, new_entry(box_in(store, h)));
@@ -925,6 +1072,8 @@ impl Places {
         ensures naturals { (h : ℕ) → naturals_at self.new h ≡ naturals (scene_of store.now) h }
         ensures limits { limits_of self.new ≡ limits_of self.old }
     {
+        let listed = self.listed.as_slice();
+        touch_all(&mut self.entries, listed);
         solve_trees(
             store.tree(),
             store,
@@ -937,5 +1086,6 @@ impl Places {
                 pixels: self.limits.height as u16,
             },
         );
+        rest_all(&mut self.entries, listed);
     }
 }

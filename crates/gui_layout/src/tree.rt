@@ -9,6 +9,8 @@ ghost use Rattle.gui_layout.specs.Scenes.{scene_box};
 ghost use Rattle.gui_boxes.specs.Scrolls.{HoldsScrolls};
 ghost use Rattle.gui_boxes.specs.Settled.{known, known_at, AllFit};
 ghost use Rattle.gui_boxes.specs.Tables.{told, listing_of, AreListed};
+ghost use Rattle.gui_boxes.specs.Touched.{is_touched};
+ghost use Rattle.gui_layout.specs.Calm.{IsCalm, MovesTouched};
 
 use crate::own_heights::set_own_heights;
 use gui_base::Handle;
@@ -25,7 +27,8 @@ use gui_pool::Table;
 use gui_store::Store;
 use gui_tree::Tree;
 
-/// Solves an object that stands by itself, and all below it. It leaves all others.
+/// Solves a touched object that stands by itself, and all touched below it, where all that is not touched is right.
+/// What changes is touched. It leaves all others.
 pub(crate) fn solve_tree(
     tree: &Tree,
     store: &Store,
@@ -43,11 +46,15 @@ pub(crate) fn solve_tree(
     requires there { has tree.now.forest h.0 ≡ true }
     requires enough { size tree.now.forest ≤ length items.old }
     requires near { FrameIsNearby frame }
+    requires own { is_touched (told entries.old) h.0 ≡ true }
+    requires calm { IsCalm (scene_box (scene_of store.now)) (told entries.old) (tree_at tree.now.forest h.0) }
     ensures fit { AllFit (known (scene_box (scene_of store.now)) (told entries.new)
         (tree_at tree.now.forest h.0)) }
     ensures stands { StandsIn frame (known_at (scene_box (scene_of store.now)) (told entries.new) h.0) }
     ensures scrolled { HoldsScrolls (scene_box (scene_of store.now)) (told entries.new).widths
         (told entries.new).natural_heights (told entries.new).slots (told entries.new).scrolls
+        (tree_at tree.now.forest h.0) }
+    ensures moves { MovesTouched (scene_box (scene_of store.now)) (told entries.old) (told entries.new)
         (tree_at tree.now.forest h.0) }
     ensures others { KeepsRest (told entries.old) (told entries.new) (tree_at tree.now.forest h.0) }
     ensures boxes { KeepsRenewed (scene_of store.now) (told entries.old).boxes (told entries.new).boxes }

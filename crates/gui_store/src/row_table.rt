@@ -128,6 +128,14 @@ impl RowTable {
         Ok(())
     }
 
+    /// How many chunks are free for texts.
+    pub fn spare_texts(&self) -> u32
+        ensures { result ≡ self.now.spare_texts }
+    {
+        let _ = &self.rows;
+        self.texts.spare()
+    }
+
     /// Makes `out` the bytes of the text of a handle that has a row.
     pub fn text_into(&self, h: u32, out: &mut ArrayVec<u8, 1000>)
         requires { IsSome (value_at self.now.rows h) }

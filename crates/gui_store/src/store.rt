@@ -9,7 +9,7 @@ ghost use Rattle.gui_base.specs.Props.{is_value};
 ghost use Rattle.gui_base.specs.Refusing.{first_of, result_of, move_tests};
 ghost use Rattle.scene_defs.specs.Deeds.{setter_of, is_in_range};
 ghost use Rattle.scene_defs.specs.Row.{shown_row};
-ghost use Rattle.scene_defs.specs.Scene.{handles_of, is_there, row_at, value, first_scene};
+ghost use Rattle.scene_defs.specs.Scene.{handles_of, is_there, row_at, value, first_scene, used, spare};
 ghost use Rattle.scene_defs.specs.Change.{answer_of, changed, tests, styling_in, asset_change_in};
 ghost use Rattle.scene_defs.specs.Edits.{text_at};
 ghost use Rattle.scene_defs.specs.Change.{absent_image, unfinished_image};
@@ -181,6 +181,32 @@ impl Store {
         ensures { bounds_of result.now ≡ (scene_of self.now).limits }
     {
         &self.limits
+    }
+
+    /// How many slots of a pool are in use. Those of handlers, groups and animations are none of the scene's.
+    pub fn used(&self, pool: Pool) -> u32
+        ensures { result ≡ used (scene_of self.now) pool }
+    {
+        self.limits.slots(pool) - self.spare(pool)
+    }
+
+    /// How many slots of a pool are free.
+    fn spare(&self, pool: Pool) -> u32
+        ensures { result ≡ spare (scene_of self.now) pool }
+    {
+        match pool {
+            Pool::Objects => self.tree.spare(),
+            Pool::Styles => self.styles.spare_styles(),
+            Pool::Entries => self.styles.spare_entries(),
+            Pool::Uses => self.styles.spare_uses(),
+            Pool::Texts => self.rows.spare_texts(),
+            Pool::Fonts => self.fonts.spare_fonts() as u32,
+            Pool::Glyphs => self.fonts.spare_glyphs(),
+            Pool::Ink => self.fonts.spare_ink() as u32,
+            Pool::Images => self.images.spare_images(),
+            Pool::Pixels => self.images.spare_pixels() as u32,
+            Pool::Handlers | Pool::Groups | Pool::Anims => self.limits.slots(pool),
+        }
     }
 
     /// The row of an object, or none where it is not there.

@@ -1,4 +1,5 @@
 pub mod Boxes
+pub mod Contents
 pub mod Everywhere
 pub mod Near
 pub mod Scrolling

@@ -82,7 +82,7 @@ start-le-fold : (a : ℕ) (xs : List ℕ) → a ≤ fold max a xs
 start-le-fold a [] = omega arith
 start-le-fold a (x ∷ xs) = let l = start-le-fold (max a x) xs in omega arith
 
-get_or-le-fold : (a : ℕ) (xs : List ℕ) (i d : ℕ) → i < length xs → get_or xs i d ≤ fold max a xs
+pub get_or-le-fold : (a : ℕ) (xs : List ℕ) (i d : ℕ) → i < length xs → get_or xs i d ≤ fold max a xs
 get_or-le-fold a [] i d h = absurd (omega arith)
 get_or-le-fold a (x ∷ xs) zero d h = let l = start-le-fold (max a x) xs in omega arith
 get_or-le-fold a (x ∷ xs) (suc i) d h = get_or-le-fold (max a x) xs i d (omega arith)

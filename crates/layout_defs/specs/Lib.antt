@@ -1,4 +1,5 @@
 pub mod Boxes
+pub mod Contents
 pub mod Examples
 pub mod Flex
 pub mod FlexLaws

@@ -1,4 +1,5 @@
 //! What follows from the definitions. Each function does nothing: its contract is a law, which is proved.
+ghost use Rattle.layout_defs.specs.Contents.{ChildrenFillRow, ContentHoldsChildren};
 ghost use Rattle.layout_defs.specs.Examples.{PlacesAreWorked};
 ghost use Rattle.layout_defs.specs.FlexLaws.{ItemsKeepOrder, TracksHoldItems, OneTrack};
 ghost use Rattle.layout_defs.specs.FlexLaws.{TracksFit, TracksAreFull};
@@ -64,6 +65,14 @@ pub fn scrolled_children()
     ensures moved { MovedAsTheirRoom }
     ensures reach { ReachesAnywhere }
     ensures sizes { SizesAskNoScroll }
+{}
+
+/// What is as wide as its content, and less wide than the greatest size, is wide enough. Without flex it holds each
+/// child that stands by its near side, where that is not a percentage wide. The children of a row that does not wrap
+/// fill it with their gaps, where none grows or is a percentage wide and what the row shows is not wider.
+pub fn contents_hold_children()
+    ensures near { ContentHoldsChildren }
+    ensures row { ChildrenFillRow }
 {}
 
 /// Trees are solved one by one: what lies at a root and below it comes from its tree alone.

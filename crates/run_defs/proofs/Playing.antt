@@ -1,12 +1,8 @@
 -- What holds of some rules, and of rules that are made of such, holds of all that machines play: first of the rules that set no
 -- focus, no target and nothing that is scrolled, and with those that do of all.
-use Rattle.std.proofs.Common.{◌≡◌, ◌≤◌, ◌∙◌, ap, subst, length, sum_by, inl, inr, refl, ℕ, zero, suc, Bool, true, false, Option, Some, None, List, [], ◌∷◌, filter, arith}
-use Rattle.std.specs.Prelude.{◌==◌, ℤ, pos, int_lt, unsigned_abs, not, ◌&&◌, if◌then◌else◌, ◌-◌}
-use Rattle.std.specs.List.{list_any}
+use Rattle.std.proofs.Common.{◌≡◌, refl, ℕ, zero, suc, Bool, true, false, Option, Some, None, List, [], ◌∷◌, filter}
+use Rattle.std.specs.Prelude.{ℤ, pos, int_lt, unsigned_abs, not, ◌&&◌, if◌then◌else◌, ◌-◌}
 use Rattle.std.specs.Ordering.{int_eq}
-use Rattle.std.proofs.lemmas.Bool.{cases_lt}
-use Rattle.std.proofs.lemmas.List.{length-map, set_past}
-use Rattle.std.proofs.lemmas.List.Sums.{sum_by-set}
 use Rattle.gui_base.specs.Area.{Rect}
 use Rattle.gui_base.specs.declared.Handle.{Handle}
 use Rattle.gui_base.specs.declared.events.Action.{Action}
@@ -21,8 +17,7 @@ use Rattle.gui_base.specs.declared.words.Length.TheVariants.{Pixels}
 use Rattle.gui_base.specs.declared.words.State.{State}
 use Rattle.gui_base.specs.declared.words.State.TheVariants.{Checked, Pressed, Focused, FocusKey, Scrolled, Edited}
 use Rattle.play_defs.specs.Animation.{value_at as anim_value}
-use Rattle.play_defs.specs.Focus.{Groups, group_at, group_of, focused_in, in_place_of, is_editing, joined, left, put_some, with_editing, with_focused, with_group}
-use Rattle.play_defs.specs.Handlers.{handlers_of, of_other_kinds, with_handlers}
+use Rattle.play_defs.specs.Focus.{Groups, group_at, is_editing, left, with_editing, with_group}
 use Rattle.play_defs.specs.declared.Handler.{Handler}
 use Rattle.play_defs.specs.Input.{pointer_fed, keypad_fed, encoder_fed}
 use Rattle.play_defs.specs.declared.Anim.{Anim}
@@ -41,21 +36,21 @@ use Rattle.scene_defs.specs.declared.Row.{Row}
 use Rattle.scene_defs.specs.Row.{brought_in}
 use Rattle.scene_defs.specs.Scene.{Scene, is_there, row_at}
 use Rattle.run_defs.specs.declared.ControlValue.{ControlValue}
-use Rattle.run_defs.specs.Animating.{pixels, is_pixels, unless_so, var_change, make_some, put_var_in, put_var, put_anim, animate, is_animated, without_ended, animate_all}
+use Rattle.run_defs.specs.Animating.{pixels, is_pixels, unless_so, var_change, make_some, put_var_in, put_var, put_anim, animate, without_ended, animate_all}
 use Rattle.play_defs.specs.declared.Drag.{Drag}
 use Rattle.play_defs.specs.declared.Scrolling.{Scrolling}
-use Rattle.run_defs.specs.Dragging.{goes_down, may_scroll, scrolls, scrolled_from, begin_on, begin, begin_once, stepped, put_scroll_in, put_scroll, scroll_in, offset_of, reach_of, scroll_by, follow, begin_drag, follow_drag, serve_drag, end_press, tell_press}
-use Rattle.run_defs.specs.Devices.{hit_by, pointer_at, press_pointer, hold_pointer, pointer_tells, pointer_holds, feed_pointer, focused_at, keypad_at, press_keypad, keypad_tells, keypad_holds, feed_keypad}
-use Rattle.run_defs.specs.Devices.{encoder_at, times, arrow_in, arrow_to, turn_once, turn, edit, edit_by, change_editing, long_push, release_push, press_encoder, encoder_tells, encoder_holds, feed_encoder}
+use Rattle.run_defs.specs.Dragging.{begin, begin_once, stepped, put_scroll_in, put_scroll, scroll_in, offset_of, reach_of, scroll_by, follow, begin_drag, follow_drag, serve_drag, end_press, tell_press}
+use Rattle.run_defs.specs.Devices.{hit_by, press_pointer, hold_pointer, pointer_tells, pointer_holds, feed_pointer, focused_at, press_keypad, keypad_tells, keypad_holds, feed_keypad}
+use Rattle.run_defs.specs.Devices.{times, arrow_in, arrow_to, turn_once, turn, edit, edit_by, change_editing, long_push, release_push, press_encoder, encoder_tells, encoder_holds, feed_encoder}
 use Rattle.run_defs.specs.Events.{path, actions_at, asked, say_or_change, act, run_at, send, send_there, send_input, takes_input}
-use Rattle.run_defs.specs.Focusing.{unfocus, refocus, focus_taken, hand_over, move_from, move_focus, has_focus, focus_by, focus, first_focus, join, leave, next_to_focus, step_focus}
+use Rattle.run_defs.specs.Focusing.{unfocus, refocus, has_focus, focus, join, leave, step_focus}
 use Rattle.run_defs.specs.Machine.{Machine}
-use Rattle.run_defs.specs.Making.{make, made, put_state, is_same, is_in_state, with_groups, heir, pass_on, leave_from, leave_group, without_handlers, without_targets, without_anims}
+use Rattle.run_defs.specs.Making.{make, made, put_state, is_same, is_in_state, with_groups, leave_group}
 use Rattle.run_defs.specs.Play.{Rule, nothing, with, ◌▷◌, each, aimed}
 use Rattle.run_defs.specs.Pointing.{is_flagged, content, value_at}
 use Rattle.run_defs.specs.Reactions.{put_value_in, put_value, is_slider, slide_in, slide_by, slide, slide_to, control_value_of, differs, tell_change, tell_after, react, react_input}
 use Rattle.run_defs.specs.Reactions.{press, hold, toggle, click, let_up, short_click, release, goes_up, nudge_by, nudge, check_by, arrow}
-use Rattle.run_defs.specs.Step.{handler_added, handlers_dropped, keypad_in, encoder_in, anim_started, anim_stopped, down_at, lifted, rule_of}
+use Rattle.run_defs.specs.Step.{handler_added, handlers_dropped, keypad_in, encoder_in, anim_started, down_at, lifted, rule_of}
 use Rattle.run_defs.specs.Ticks.{later, tick}
 use Rattle.run_defs.specs.declared.Command.{Command}
 use Rattle.run_defs.specs.declared.Command.TheVariants as ask

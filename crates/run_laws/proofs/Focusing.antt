@@ -1,19 +1,17 @@
 -- The object that has the focus of a group is a member of it, whatever becomes of groups.
-use Rattle.std.proofs.Common.{◌≡◌, ◌≢◌, ◌∙◌, ap, sym, subst, refl, ℕ, Bool, true, false, Option, Some, None, option_map, find, List, [], ◌∷◌, ◌++◌, map, filter, reverse, arith, inl, inr}
-use Rattle.std.specs.Prelude.{not, ◌||◌, ◌&&◌, ◌==◌, IfSome, if◌then◌else◌}
+use Rattle.std.proofs.Common.{◌≡◌, ◌∙◌, ap, sym, subst, refl, ℕ, Bool, true, false, Option, Some, None, option_map, find, List, [], ◌∷◌, ◌++◌, map, filter, reverse, arith, inl, inr}
+use Rattle.std.specs.Prelude.{not, ◌||◌, ◌==◌, IfSome, if◌then◌else◌}
 use Rattle.std.specs.List.{AllByRecursion}
 use Rattle.std.proofs.lemmas.Bool.{cases_Bool}
 use Rattle.std.proofs.lemmas.Bool.Decides.{nat_tests}
 use Rattle.std.proofs.lemmas.Grind.{reverse_onto}
 use Rattle.gui_base.specs.declared.Handle.{Handle}
-use Rattle.play_defs.specs.Focus.{Groups, group_at, group_of, focused_in, in_place_of, is_it, is_member, is_object, members_of, put, put_some, released_by, with_released, without_member, left, after, before, turned, turned_in, next_member, previous_member, with_focused, with_editing, with_group, joined}
-use Rattle.play_defs.specs.Same.{same_handle}
+use Rattle.play_defs.specs.Focus.{Groups, group_at, group_of, focused_in, in_place_of, is_it, is_object, members_of, put_some, released_by, without_member, left, after, before, turned, turned_in, next_member, previous_member, with_focused, with_editing, with_group, joined}
 use Rattle.play_defs.specs.declared.Group.{Group}
 use Rattle.play_defs.specs.declared.Member.{Member}
 use Rattle.scene_defs.specs.Valid.{is_among, stand_once}
 use Rattle.run_laws.specs.Held.{FocusesMember}
 use Rattle.run_laws.specs.Members.{member_handles}
-use Rattle.run_laws.proofs.Counting.{among-append}
 
 -- Lists.
 

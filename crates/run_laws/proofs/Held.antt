@@ -1,21 +1,19 @@
 -- What a machine holds on to goes on being there, whatever is played.
-use Rattle.std.proofs.Common.{◌≡◌, ◌∙◌, ap, sym, subst, refl, ℕ, zero, suc, replicate, Bool, true, false, Option, Some, None, option_map, find, List, [], ◌∷◌, ◌++◌, map, filter, reverse, length, arith, inl, inr}
-use Rattle.std.specs.Prelude.{not, ◌||◌, ◌&&◌, ◌==◌, IfSome, if◌then◌else◌, ℤ}
+use Rattle.std.proofs.Common.{◌≡◌, ap, sym, subst, refl, ℕ, zero, suc, replicate, Bool, true, false, Option, Some, None, option_map, find, List, [], ◌∷◌, ◌++◌, map, filter, reverse, arith, inl, inr}
+use Rattle.std.specs.Prelude.{not, ◌||◌, ◌==◌, IfSome, if◌then◌else◌, ℤ}
 use Rattle.std.specs.List.{AllByRecursion}
-use Rattle.std.proofs.lemmas.Bool.{cases_Bool, cases_lt, not-false}
+use Rattle.std.proofs.lemmas.Bool.{cases_Bool, not-false}
 use Rattle.std.proofs.lemmas.Bool.Decides.{nat_tests}
-use Rattle.std.proofs.lemmas.List.{get_or-set_other, get_or-set_same, set_past}
 use Rattle.gui_base.specs.Forest.{Forest, Empty, Tree, has, has_by, path_by}
 use Rattle.gui_base.specs.Refusing.{Test, first_of, refusal_of}
 use Rattle.gui_base.specs.declared.Handle.{Handle}
-use Rattle.gui_base.specs.declared.events.Action.{Action}
 use Rattle.gui_base.specs.declared.events.EventKind.{EventKind}
 use Rattle.gui_base.specs.declared.events.EventKind.TheVariants as event
 use Rattle.gui_base.specs.declared.refusal.Refusal.{Refusal}
 use Rattle.gui_base.specs.declared.words.State.{State}
 use Rattle.gui_base.specs.declared.words.State.TheVariants.{Focused, Scrolled}
-use Rattle.play_defs.specs.Focus.{Groups, group_at, group_of, focused_in, is_it, left, with_focused, with_editing, with_group, joined, next_member, is_object}
-use Rattle.play_defs.specs.Handlers.{handlers_of, of_other_kinds, with_handlers, with_handler, no_handlers}
+use Rattle.play_defs.specs.Focus.{Groups, group_at, group_of, focused_in, is_it, left, with_focused, with_editing, joined, next_member, is_object}
+use Rattle.play_defs.specs.Handlers.{handlers_of, of_other_kinds, with_handlers, no_handlers}
 use Rattle.play_defs.specs.declared.Anim.{Anim}
 use Rattle.play_defs.specs.declared.Drag.{Drag}
 use Rattle.play_defs.specs.declared.Group.{Group}
@@ -40,19 +38,19 @@ use Rattle.run_defs.specs.declared.Command.TheVariants as ask
 use Rattle.run_defs.specs.Devices.{hit_by, pointer_at, press_pointer, focused_at, keypad_at, press_keypad, encoder_at, press_encoder}
 use Rattle.run_defs.specs.Dragging.{begin, begin_on, can_scroll, goes_down, may_scroll, scrolled_from, scrolls}
 use Rattle.run_defs.specs.Events.{asked, say, say_or_change, send_there}
-use Rattle.run_defs.specs.Focusing.{unfocus, refocus, focus_taken, hand_over, move_from, move_focus, has_focus, focus_by, focus, first_focus, join, next_to_focus, step_focus}
-use Rattle.run_defs.specs.Machine.{Machine, Device, first_machine}
-use Rattle.run_defs.specs.Making.{make, make_by, put_state, with_groups, has_focus_of, is_usable, heir, pass_on, leave_from, leave_group, without_handlers, without_targets, without_anims, untargeted, unscrolled, forget, handles, not_there, made, note, attempt, attempt_by}
+use Rattle.run_defs.specs.Focusing.{unfocus, focus_taken, hand_over, move_from, move_focus, has_focus, focus_by, focus, first_focus, join, next_to_focus, step_focus}
+use Rattle.run_defs.specs.Machine.{Machine}
+use Rattle.run_defs.specs.Making.{make, make_by, put_state, with_groups, has_focus_of, is_usable, heir, pass_on, leave_from, leave_group, without_handlers, without_targets, without_anims, unscrolled, forget, handles, not_there, made, note, attempt, attempt_by}
 use Rattle.run_defs.specs.Play.{Rule, nothing, with, ◌⊳◌, ◌▷◌, each, aimed}
-use Rattle.run_defs.specs.Pointing.{has_flag, hit, is_hit, seen_handle}
+use Rattle.run_defs.specs.Pointing.{hit, is_hit, seen_handle}
 use Rattle.run_defs.specs.Reactions.{press}
-use Rattle.run_defs.specs.Step.{answer, full_for, gone, tests_of, is_command_in_range, handler_added, handlers_dropped, rule_of, unless, step, IsCommand}
-use Rattle.run_defs.proofs.Playing.{Standing, seen_of, IsSteady, IsPlayed, good_put, put, good_aimed, good_send_there, good_unfocus, good_refocus, good_press, played_rule}
+use Rattle.run_defs.specs.Step.{answer, full_for, gone, tests_of, is_command_in_range, rule_of, unless, step, IsCommand}
+use Rattle.run_defs.proofs.Playing.{Standing, seen_of, IsSteady, IsPlayed, good_put, good_aimed, good_send_there, good_unfocus, good_refocus, good_press, played_rule}
 use Rattle.run_laws.specs.Held.{FocusesMember, IsThereIfAny, AreHeld, FirstAreHeld, StepsKeepHeld}
 use Rattle.run_laws.specs.Members.{member_handles, AreJoined}
 use Rattle.run_laws.proofs.Counting.{among-append, among-filter, once-filter}
 use Rattle.run_laws.proofs.Focusing.{found_passes, Focuses, editing_focuses, taken_focuses, focused_focuses, group_focuses, joined_focuses, joins, leave_focuses, heir_stays, next_is_member, previous_is_member}
-use Rattle.run_laws.proofs.Members.{in_none, focused-members, left-handles, other_than, joined-handles, asked_is, is_none}
+use Rattle.run_laws.proofs.Members.{in_none, left-handles, other_than, joined-handles, asked_is, is_none}
 use Rattle.run_laws.proofs.Scenes.{none-goes, others-stay}
 
 -- Who is there.

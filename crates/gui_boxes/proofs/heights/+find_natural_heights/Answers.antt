@@ -1,5 +1,6 @@
-use Rattle.std.proofs.Common.{refl, get_or, map, ◌≡◌, ◌≤◌, ◌+◌, ◌∙◌, sym, ap, subst, ℕ, List, set, arith, rules}
-use Rattle.std.proofs.lemmas.List.{get_or-set_same}
+use Rattle.std.proofs.Common.{refl, get_or, map, ◌≡◌, ◌≤◌, ◌+◌, ◌∙◌, sym, ap, subst, ℕ, Bool, true, List, set, arith, rules}
+use Rattle.std.proofs.lemmas.List.{get_or-set_same, get_or-set_other}
+use Rattle.std.proofs.lemmas.Bool.{false≢true}
 use Rattle.gui_base.specs.Forest.{Forest, Empty, Tree, children_of, roots, size, tree_at}
 use Rattle.gui_tree.proofs.Below.{begins_below, steps_below, whole_tree, own_tree}
 use Rattle.gui_boxes.proofs.Listed.{told_short}
@@ -14,6 +15,8 @@ use Rattle.gui_boxes.specs.declared.measuring.Run.{Run}
 use Rattle.gui_boxes.specs.Totals.{Sum, total_of, run_down, down_kid, with_kid, sum_of}
 use Rattle.gui_boxes.proofs.Kids.{named, kid_told}
 use Rattle.gui_boxes.proofs.Passes.{Pass, Finds, finds_none, finds_top, Gathers, gathers_none, gathers_more, trees_by, heights_pass}
+use Rattle.gui_boxes.specs.Touched.{is_touched, IfTouched, IsClosed}
+use Rattle.gui_boxes.proofs.Touched.{touched_pass, calm_at, closed_kids}
 use Rattle.gui_boxes.proofs.heights.+find_natural_heights.Goals as goal
 use Rattle.gui_boxes.proofs.heights.+find_natural_heights.Goals.{In-None, After-set_natural_height}
 
@@ -30,18 +33,24 @@ loop-child-init t c =
       few = omega arith;
       listed = refl;
       rest = refl;
-      gathered = rw begins.all (gathers_none (heights_pass was) tall_of down_kid c.run_down-run.result was.natural_heights (children_of f c.args.h.0) (total_of c.no_kids-total.result) c.no_kids-total.ensures);
+      closed = rw begins.all (closed_kids (is_touched was) f c.args.h.0 c.requires.there c.requires.closed);
+      calm = λ k none. refl;
+      gathered = rw begins.all (gathers_none (touched_pass (is_touched was) (heights_pass was)) tall_of down_kid c.run_down-run.result was.natural_heights (children_of f c.args.h.0) (total_of c.no_kids-total.result) c.no_kids-total.ensures);
     }
 
 pub find_natural_heights-requires : goal.find_natural_heights-requires
 find_natural_heights-requires t c =
     let inv = c.loop-child.invariant in
+    let was = told c.args.entries.now in
     let f = c.args.tree.now.forest in
     let g = steps_below f c.args.h.0 _ _ _ inv.below c.in-Some.ensures.steps in
     let fewer = g.fewer in
     let listed : AreListed (listing_of c.loop-child.entries) (tree_at f c.in-Some.child.0) = λ k i. subst (λ (ks : Listing). IsListed ks k) (sym inv.listed) (c.requires.listed k (g.inside k i)) in
     let room = c.requires.enough in
-    (search rules, (listed, (c.requires.few, (g.there, omega arith))))
+    let closed : IsClosed (is_touched was) (Tree c.in-Some.child.0 g.children c.next.new.self.left) = subst (IsClosed (is_touched was)) g.left inv.closed in
+    let first : IsClosed (is_touched (told c.loop-child.entries)) (tree_at f c.in-Some.child.0) =
+    subst (λ (l : Layout). IsClosed (is_touched l) (tree_at f c.in-Some.child.0)) (sym inv.rest) (subst (IsClosed (is_touched was)) (sym g.tree) (closed.0, closed.1, tt)) in
+    (search rules, (listed, (c.requires.few, (g.there, (omega arith, first)))))
 
 pub entry_of-requires : goal.entry_of-requires
 entry_of-requires t c = c.requires.listed c.args.h.0 (own_tree c.args.tree.now.forest c.args.h.0 c.requires.there)
@@ -57,7 +66,8 @@ pub loop-child-preserved : goal.loop-child-preserved
 loop-child-preserved t c =
     let inv = c.loop-child.invariant in
     let was = told c.args.entries.now in
-    let p = heights_pass was in
+    let touched = is_touched was in
+    let p = touched_pass touched (heights_pass was) in
     let g = steps_below c.args.tree.now.forest c.args.h.0 _ _ _ inv.below c.in-Some.ensures.steps in
     let h = c.in-Some.child.0 in
     let trees = c.next.new.self.left in
@@ -66,11 +76,14 @@ loop-child-preserved t c =
     let now = told c.find_natural_heights.new.entries in
     let rest : now ≡ record was { natural_heights = now.natural_heights } = done.rest ∙ ap (λ (l : Layout). record l { natural_heights = now.natural_heights }) inv.rest in
     let first : Finds p a now.natural_heights (Tree h g.children Empty) = record {
-      found = subst (λ (l : Layout). EachKids NaturalHeightFits (told_trees l (Tree h g.children Empty))) rest (subst (λ (t : Forest ℕ). EachKids NaturalHeightFits (told_trees now t)) g.tree done.found);
+      found =
+          subst (λ (l : Layout). EachKids (IfTouched touched NaturalHeightFits) (told_trees l (Tree h g.children Empty))) rest
+          (subst (λ (t : Forest ℕ). EachKids (IfTouched touched NaturalHeightFits) (told_trees now t)) g.tree (subst (λ (l : Layout). EachKids (IfTouched (is_touched l) NaturalHeightFits) (told_trees now (tree_at c.args.tree.now.forest h))) inv.rest done.found));
       others = subst (KeepsOthers 0 a now.natural_heights) g.tree done.others;
     } in
     let few : c.loop-child.total.count + size (Tree h g.children trees) ≤ 4000 = rw g.left at inv.few in
     let more = c.with_kid-total.ensures.count in
+    let closed : IsClosed touched (Tree h g.children trees) = subst (IsClosed touched) g.left inv.closed in
     let kid = ap tall_of (kid_told now h c.entry_of-kid.result.now c.entry_of-kid.ensures.told ∙ ap (λ (l : Layout). known_at (box_at l.boxes) l h) rest) in
     let run = c.run_down-run.result in
     let cs = children_of c.args.tree.now.forest c.args.h.0 in
@@ -80,6 +93,8 @@ loop-child-preserved t c =
       few = omega arith;
       listed = done.listed ∙ inv.listed;
       rest = rest;
+      closed = closed.2;
+      calm = λ k none. done.calm k (ap (λ (l : Layout). is_touched l k) inv.rest ∙ none) ∙ inv.calm k none;
       gathered =
           gathers_more p tall_of down_kid run was.natural_heights cs a now.natural_heights total (total_of c.with_kid-total.result) h g.children trees g.once first
           (c.with_kid-total.ensures.value h ∙ ap (λ (k : Tall). with_kid run total (down_kid k)) kid)
@@ -100,8 +115,11 @@ module _ (t : ℕ) (c : In-None t) where
   abbrev was : Layout
   was = told c.args.entries.now
 
+  abbrev touched : ℕ → Bool
+  touched = is_touched was
+
   abbrev p : Pass ℕ
-  p = heights_pass was
+  p = touched_pass touched (heights_pass was)
 
   abbrev now : List ℕ
   now = (told c.loop-child.entries).natural_heights
@@ -151,11 +169,11 @@ module _ (t : ℕ) (c : After-set_natural_height t) where
       c.natural_height-natural.ensures.value
       ∙ (ap (λ (l : Layout). natural_height (box_at l.boxes (h t d)) (get_or l.widths (h t d) 0) (tall_kids l (f t d) (h t d))) c.loop-child.invariant.rest
       ∙ ap (λ (b : Box). natural_height b width (kids t d)) (sym (named (was t d).boxes (h t d)))) in
-      let fits : NaturalHeightFits ((p t d).by (set (now t d) (h t d) n) (h t d)) (roots (trees_by (p t d) (now t d) (cs t d))) =
+      let fits : NaturalHeightFits ((heights_pass (was t d)).by (set (now t d) (h t d) n) (h t d)) (roots (trees_by (p t d) (now t d) (cs t d))) =
       get_or-set_same (now t d) (h t d) n 0 (told_short natural_height_or c.loop-child.entries (h t d) (still_own t d)) ∙ is in
       let whole = whole_tree (f t d) (h t d) c.children-child-items.ensures.once c.requires.there in
       subst (Finds (p t d) (was t d).natural_heights (set (now t d) (h t d) n)) (sym whole.tree)
-      (finds_top (p t d) (was t d).natural_heights (now t d) (h t d) n (cs t d) whole.out fits ((gathered t d).found (now t d) (finds_none (p t d) (now t d))))
+      (finds_top (p t d) (was t d).natural_heights (now t d) (h t d) n (cs t d) whole.out (λ is. fits) ((gathered t d).found (now t d) (finds_none (p t d) (now t d))))
 
   rest : told c.set_natural_height.new.entries ≡ record (was t d) { natural_heights = set (now t d) (h t d) n }
   rest = c.set_natural_height.ensures.set ∙ ap (λ (l : Layout). record l { natural_heights = set (now t d) (h t d) n }) c.loop-child.invariant.rest
@@ -163,7 +181,15 @@ module _ (t : ℕ) (c : After-set_natural_height t) where
 pub returns-clause-found : goal.returns-clause-found
 returns-clause-found t c =
     let e = (goal.at.returns-clause-found t c).After-set_natural_height in
-    subst (λ (l : Layout). EachKids NaturalHeightFits (told_trees l (tree_at c.args.tree.now.forest c.args.h.0))) (sym (rest t e)) (top t e).found
+    subst (λ (l : Layout). EachKids (IfTouched (is_touched (told c.args.entries.now)) NaturalHeightFits) (told_trees l (tree_at c.args.tree.now.forest c.args.h.0))) (sym (rest t e)) (top t e).found
+
+-- the object is touched, so another natural height of it may be written
+pub returns-clause-calm : goal.returns-clause-calm
+returns-clause-calm t c =
+    let e = (goal.at.returns-clause-calm t c).After-set_natural_height in
+    let d = (goal.at.returns-clause-calm t c).In-None in
+    let is : touched t d (h t d) ≡ true = search rules in
+    λ k none. ap (λ (l : Layout). get_or l.natural_heights k 0) (rest t e) ∙ (get_or-set_other (now t d) (h t d) k (n t e) 0 (λ e. false≢true (sym none ∙ (ap (touched t d) e ∙ is))) ∙ c.loop-child.invariant.calm k none)
 
 pub returns-clause-others : goal.returns-clause-others
 returns-clause-others t c =
@@ -174,3 +200,12 @@ pub returns-clause-rest : goal.returns-clause-rest
 returns-clause-rest t c =
     let e = (goal.at.returns-clause-rest t c).After-set_natural_height in
     rest t e ∙ ap (λ (ns : List ℕ). record (told c.args.entries.now) { natural_heights = ns }) (sym (ap (λ (l : Layout). l.natural_heights) (rest t e)))
+
+-- an object that is not touched
+pub is_touched-requires : goal.is_touched-requires
+is_touched-requires t c = c.requires.listed c.args.h.0 (own_tree c.args.tree.now.forest c.args.h.0 c.requires.there)
+
+pub returns-then-not-is_touched-clause-found : goal.returns-then-not-is_touched-clause-found
+returns-then-not-is_touched-clause-found t c =
+    let l = told c.args.entries.now in
+    calm_at (is_touched l) c.args.tree.now.forest c.args.h.0 c.requires.there c.requires.closed NaturalHeightFits l (search rules)

@@ -4,6 +4,8 @@ use Rattle.gui_tree.proofs.Below.{IsBelow}
 use Rattle.gui_boxes.specs.Totals.{total_of, down_kid}
 use Rattle.gui_boxes.specs.Settled.{tall_of}
 use Rattle.gui_boxes.specs.Tables.{told, listing_of}
+use Rattle.gui_boxes.specs.Touched.{is_touched, IsClosed, KeepsCalm}
+use Rattle.gui_boxes.proofs.Touched.{touched_pass}
 use Rattle.gui_boxes.specs.Layouts.{ButNaturalHeights}
 use Rattle.gui_boxes.proofs.Passes.{Gathers, heights_pass}
 use Rattle.gui_boxes.proofs.heights.+find_natural_heights.Given as goal
@@ -21,5 +23,7 @@ invariant-loop-child l =
       few : l.total.count + size trees ≤ 4000;
       listed : listing_of l.entries ≡ listing_of l.fn.entries;
       rest : ButNaturalHeights was (told l.entries);
-      gathered : Gathers (heights_pass was) tall_of down_kid l.run was.natural_heights (children_of f l.h.0) (told l.entries).natural_heights (total_of l.total) trees;
+      closed : IsClosed (is_touched was) trees;
+      calm : KeepsCalm 0 (is_touched was) was.natural_heights (told l.entries).natural_heights;
+      gathered : Gathers (touched_pass (is_touched was) (heights_pass was)) tall_of down_kid l.run was.natural_heights (children_of f l.h.0) (told l.entries).natural_heights (total_of l.total) trees;
     }

@@ -5,6 +5,8 @@ use Rattle.gui_boxes.specs.Layouts.{ButNaturalWidths}
 use Rattle.gui_boxes.specs.Totals.{total_of, across_kid}
 use Rattle.gui_boxes.specs.Settled.{wide_of}
 use Rattle.gui_boxes.specs.Tables.{told, listing_of}
+use Rattle.gui_boxes.specs.Touched.{is_touched, IsClosed, KeepsCalm}
+use Rattle.gui_boxes.proofs.Touched.{touched_pass}
 use Rattle.gui_boxes.proofs.Passes.{Gathers, naturals_pass}
 use Rattle.gui_boxes.proofs.natural.+find_natural_widths.Given as goal
 
@@ -21,5 +23,7 @@ invariant-loop-child l =
       listed : listing_of l.entries ≡ listing_of l.fn.entries;
       rest : ButNaturalWidths was (told l.entries);
       few : l.total.count + size trees ≤ 4000;
-      gathered : Gathers (naturals_pass was) wide_of across_kid l.run was.natural_widths (children_of f l.h.0) (told l.entries).natural_widths (total_of l.total) trees;
+      closed : IsClosed (is_touched was) trees;
+      calm : KeepsCalm 0 (is_touched was) was.natural_widths (told l.entries).natural_widths;
+      gathered : Gathers (touched_pass (is_touched was) (naturals_pass was)) wide_of across_kid l.run was.natural_widths (children_of f l.h.0) (told l.entries).natural_widths (total_of l.total) trees;
     }

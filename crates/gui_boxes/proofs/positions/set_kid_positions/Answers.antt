@@ -1,8 +1,8 @@
-use Rattle.std.proofs.Common.{◌≡◌, ◌∙◌, ℕ, sym, ap, subst, map, set, take, false, List, arith}
+use Rattle.std.proofs.Common.{◌≡◌, ◌∙◌, refl, ℕ, sym, ap, subst, map, set, take, List, arith}
 use Rattle.std.specs.List.{All}
 use Rattle.std.proofs.lemmas.Int.{ints}
 use Rattle.std.proofs.lemmas.List.Elements.{All-weaker}
-use Rattle.gui_base.specs.Forest.{Forest, has, children_of, tree_at}
+use Rattle.gui_base.specs.Forest.{Forest, children_of, tree_at}
 use Rattle.layout_defs.specs.Boxes.{Box}
 use Rattle.layout_defs.specs.Scrolling.{moved_room}
 use Rattle.layout_defs.specs.Solving.{Tall, Slot, Room, nowhere, tall_box, own_slot, dealt, taking_part, flow_slots, flat_slots, kid_reach, moved, reach_in, room_of}
@@ -15,20 +15,17 @@ use Rattle.gui_boxes.specs.Sizings.{kid_by}
 use Rattle.gui_boxes.specs.Tables.{Listing, AreListed, IsListed, listing_of, told}
 use Rattle.gui_boxes.specs.Views.{box_at, box_of}
 use Rattle.gui_boxes.specs.Slots.{slot_at, at_roots, room_in, item_slot, tall_at, IsAtCorner, IsBelow, IsClose, HasRoom}
-use Rattle.gui_boxes.proofs.Keeps.{keeps_then}
+use Rattle.gui_boxes.specs.Touched.{is_touched, AtRoots, Touches}
 use Rattle.gui_boxes.proofs.Kids.{kid_told, named}
-use Rattle.gui_boxes.proofs.Moving.{moved_below}
+use Rattle.layout_defs.proofs.Scrolling.{dealt-moved}
+use Rattle.gui_boxes.proofs.Moving.{items-moved, moved_below}
 use Rattle.gui_boxes.proofs.Passes.{roots_read}
-use Rattle.gui_tree.proofs.Below.{own_tree, whole_tree}
+use Rattle.gui_tree.proofs.Below.{own_tree}
 use Rattle.gui_boxes.proofs.Stands.{flat_slots_are}
 use Rattle.gui_boxes.proofs.positions.set_kid_positions.Goals as goal
-use Rattle.gui_boxes.proofs.positions.set_kid_positions.Goals.{After-deal_positions, After-scrolled_by-scrolled, After-set_scrolled}
+use Rattle.gui_boxes.proofs.positions.set_kid_positions.Goals.{After-deal_positions, After-flat_reach-reach, After-scrolled_by-scrolled, After-set_scrolled}
 
-own_is : (c : After-deal_positions) → IsListed (listing_of c.args.entries.now) c.args.h.0
-own_is c = c.requires.listed c.args.h.0 (own_tree c.args.tree.now.forest c.args.h.0 c.requires.there)
-
--- where the children stand flat
-module _ (c : After-deal_positions) where
+module _ (c : After-flat_reach-reach) where
   abbrev f : Forest ℕ
   f = c.args.tree.now.forest
 
@@ -37,9 +34,6 @@ module _ (c : After-deal_positions) where
 
   abbrev l : Layout
   l = told c.args.entries.now
-
-  abbrev flat : Layout
-  flat = told c.deal_positions.new.entries
 
   abbrev kids : List Tall
   kids = tall_kids l f h
@@ -53,28 +47,32 @@ module _ (c : After-deal_positions) where
   abbrev room : Room
   room = room_in c.inside_of-inside.result
 
-  -- where the children stand does not matter to their sizes
-  same_kids : (ss : List Slot) (rs : List Scrolled) → tall_kids (record l { slots = ss; scrolls = rs }) f h ≡ kids
-  same_kids ss rs = roots_read tall_of (known_at (box_at l.boxes) (record l { slots = ss })) (children_of f h) ∙ sym (roots_read tall_of (known_at (box_at l.boxes) l) (children_of f h))
+  abbrev flow : List Slot
+  flow = map (item_slot c.course_of-course.result room) (take c.place_flow-count.result c.place_flow-count.new.items)
 
-  stand : at_roots flat.slots (children_of f h) ≡ flat_slots tall slot kids
+  -- where the children stand flat
+  abbrev flat : List Slot
+  flat = dealt tall_box (own_slot room) kids flow
+
+  own_is : IsListed (listing_of c.args.entries.now) h
+  own_is = c.requires.listed h (own_tree f h c.requires.there)
+
+  room_is : room ≡ room_of tall slot
+  room_is =
+      let own = kid_by h c.entry_of-own.result.now in
+      subst (λ (k : Known). room ≡ room_of (tall_of k) k.slot) (kid_told l h c.entry_of-own.result.now c.entry_of-own.ensures.told) (c.inside_of-inside.ensures.value h own.natural_height)
+
+  stand : flat ≡ flat_slots tall slot kids
   stand =
       let own = kid_by h c.entry_of-own.result.now in
       let items = take c.place_flow-count.result c.place_flow-count.new.items in
-      let flow : map (item_slot c.course_of-course.result room) items ≡ flow_slots own.box room (taking_part tall_box kids) =
+      let is : flow ≡ flow_slots own.box room (taking_part tall_box kids) =
       ap (λ (course : Course). map (item_slot course room) items) c.course_of-course.ensures ∙ c.place_flow-count.ensures.slots in
-      subst (λ (k : Known). at_roots flat.slots (children_of f h) ≡ flat_slots (tall_of k) k.slot kids) (kid_told l h c.entry_of-own.result.now c.entry_of-own.ensures.told)
-      (flat_slots_are (tall_of own) own.slot room kids (map (item_slot c.course_of-course.result room) items) (at_roots flat.slots (children_of f h)) (c.inside_of-inside.ensures.value h own.natural_height)
-      c.deal_positions.ensures.deals.dealt flow)
+      subst (λ (k : Known). flat ≡ flat_slots (tall_of k) k.slot kids) (kid_told l h c.entry_of-own.result.now c.entry_of-own.ensures.told)
+      (flat_slots_are (tall_of own) own.slot room kids flow flat (c.inside_of-inside.ensures.value h own.natural_height) refl is)
 
-  own_out : has (children_of f h) h ≡ false
-  own_out = (whole_tree f h c.requires.once c.requires.there).out
-
-  stays : slot_at flat.slots h ≡ slot
-  stays = c.deal_positions.ensures.deals.others.others h own_out
-
-  still_listed : AreListed (listing_of c.deal_positions.new.entries) (tree_at f h)
-  still_listed = subst (λ (ks : Listing). AreListed ks (tree_at f h)) (sym c.deal_positions.ensures.listed) c.requires.listed
+  corner_of : IsAtCorner slot room
+  corner_of = subst (λ (s : Slot). IsAtCorner s room) c.entry_of-own.ensures.told.slot c.inside_of-inside.ensures.near
 
 pub entry_of-own-requires : goal.entry_of-own-requires
 entry_of-own-requires c = c.requires.listed c.args.h.0 (own_tree c.args.tree.now.forest c.args.h.0 c.requires.there)
@@ -82,133 +80,120 @@ entry_of-own-requires c = c.requires.listed c.args.h.0 (own_tree c.args.tree.now
 pub inside_of-inside-requires-clause-room : goal.inside_of-inside-requires-clause-room
 inside_of-inside-requires-clause-room c = subst (λ (s : Slot). HasRoom s 1) (sym c.entry_of-own.ensures.told.slot) c.requires.room
 
-pub reach_of-reach-requires-clause-listed : goal.reach_of-reach-requires-clause-listed
-reach_of-reach-requires-clause-listed c = still_listed (goal.at.reach_of-reach-requires-clause-listed c).After-deal_positions
-
 pub entry_of-requires : goal.entry_of-requires
-entry_of-requires c =
-    let d = (goal.at.entry_of-requires c).After-deal_positions in
-    still_listed d c.args.h.0 (own_tree c.args.tree.now.forest c.args.h.0 c.requires.there)
+entry_of-requires c = own_is (goal.at.entry_of-requires c).After-flat_reach-reach
 
 pub set_scrolled-requires : goal.set_scrolled-requires
-set_scrolled-requires c =
-    let d = (goal.at.set_scrolled-requires c).After-deal_positions in
-    still_listed d c.args.h.0 (own_tree c.args.tree.now.forest c.args.h.0 c.requires.there)
+set_scrolled-requires c = own_is (goal.at.set_scrolled-requires c).After-flat_reach-reach
+
+pub moved_inside-requires-clause-left : goal.moved_inside-requires-clause-left
+moved_inside-requires-clause-left c =
+    let a = (corner_of (goal.at.moved_inside-requires-clause-left c).After-flat_reach-reach).left in let b = c.requires.room.left in omega (arith, ints)
+
+pub moved_inside-requires-clause-top : goal.moved_inside-requires-clause-top
+moved_inside-requires-clause-top c =
+    let a = (corner_of (goal.at.moved_inside-requires-clause-top c).After-flat_reach-reach).top in let b = c.requires.room.top in omega (arith, ints)
+
+pub deal_positions-requires : goal.deal_positions-requires
+deal_positions-requires c = record { listed = subst (λ (ks : Listing). AreListed ks (tree_at c.args.tree.now.forest c.args.h.0)) (sym c.set_scrolled.ensures.listed) c.requires.listed }
 
 -- how far they reach, and how far they are moved
 module _ (c : After-scrolled_by-scrolled) where
-  abbrev d : After-deal_positions
-  d = (goal.at.After-scrolled_by-scrolled c).After-deal_positions
+  abbrev d : After-flat_reach-reach
+  d = (goal.at.After-scrolled_by-scrolled c).After-flat_reach-reach
 
-  reaches : span_of c.reach_of-reach.result ≡ kid_reach (tall d) (slot d) (kids d)
-  reaches =
-      let k = told c.args.entries.now in
-      let g = c.args.tree.now.forest in
-      let i = c.args.h.0 in
-      let at = at_roots (flat d).slots (children_of g i) in
-      c.reach_of-reach.ensures
-      ∙ (ap (λ (m : Layout). reach_in (room_of (tall_at (box_at m.boxes) m.widths m.natural_heights i) (slot_at (flat d).slots i)) (tall_kids m g i) at) c.deal_positions.ensures.rest
-      ∙ (ap (λ (ts : List Tall). reach_in (room_of (tall d) (slot_at (flat d).slots i)) ts at) (same_kids d (flat d).slots (told c.args.entries.now).scrolls)
-      ∙ (ap (λ (s : Slot). reach_in (room_of (tall d) s) (kids d) at) (stays d) ∙ ap (λ (ss : List Slot). reach_in (room_of (tall d) (slot d)) (kids d) ss) (stand d))))
+  reaches : span_of c.flat_reach-reach.result ≡ kid_reach (tall d) (slot d) (kids d)
+  reaches = c.flat_reach-reach.ensures ∙ (ap (λ (r : Room). reach_in r (kids d) (flat d)) (room_is d) ∙ ap (reach_in (room_of (tall d) (slot d)) (kids d)) (stand d))
 
   is_scrolled : scrolled_of c.scrolled_by-scrolled.result ≡ scrolled_in (tall d) (slot d) (kids d)
   is_scrolled =
-      let own = c.entry_of.ensures.told in
       let i = c.args.h.0 in
-      let boxes = (told c.args.entries.now).boxes in
-      let is : box_of i c.entry_of.result.now.wanted ≡ (tall d).box = own.wanted ∙ (ap (λ (m : Layout). box_at m.boxes i) c.deal_positions.ensures.rest ∙ sym (named boxes i)) in
-      c.scrolled_by-scrolled.ensures i ∙ (ap (λ (b : Box). scrolled_by b (span_of c.reach_of-reach.result)) is ∙ ap (scrolled_by (tall d).box) reaches)
+      let is : box_of i c.entry_of.result.now.wanted ≡ (tall d).box = c.entry_of.ensures.told.wanted ∙ sym (named (told c.args.entries.now).boxes i) in
+      c.scrolled_by-scrolled.ensures i ∙ (ap (λ (b : Box). scrolled_by b (span_of c.flat_reach-reach.result)) is ∙ ap (scrolled_by (tall d).box) reaches)
 
-module _ (c : After-set_scrolled) where
-  abbrev e : After-deal_positions
-  e = (goal.at.After-set_scrolled c).After-deal_positions
+-- once they are dealt
+module _ (c : After-deal_positions) where
+  abbrev b : After-scrolled_by-scrolled
+  b = (goal.at.After-deal_positions c).After-scrolled_by-scrolled
 
-  -- the reach alone is told since they were dealt
-  same_slots : (told c.set_scrolled.new.entries).slots ≡ (flat e).slots
-  same_slots = ap (λ (m : Layout). m.slots) c.set_scrolled.ensures.set
+  abbrev e : After-flat_reach-reach
+  e = (goal.at.After-deal_positions c).After-flat_reach-reach
 
-  told_now : told c.set_scrolled.new.entries ≡ record (told c.args.entries.now) { slots = (told c.set_scrolled.new.entries).slots; scrolls = (told c.set_scrolled.new.entries).scrolls }
-  told_now =
-      c.set_scrolled.ensures.set
-      ∙ (ap (λ (m : Layout). record m { scrolls = set (flat e).scrolls c.args.h.0 (scrolled_of c.scrolled_by-scrolled.result) }) c.deal_positions.ensures.rest
-      ∙ (ap (λ (ss : List Slot). record (told c.args.entries.now) { slots = ss; scrolls = set (flat e).scrolls c.args.h.0 (scrolled_of c.scrolled_by-scrolled.result) }) (sym same_slots)
-      ∙ ap (λ (rs : List Scrolled). record (told c.args.entries.now) { slots = (told c.set_scrolled.new.entries).slots; scrolls = rs }) (sym (ap (λ (m : Layout). m.scrolls) c.set_scrolled.ensures.set))))
+  abbrev set_own : Layout
+  set_own = told c.set_scrolled.new.entries
 
-pub move_kids-requires-clause-listed : goal.move_kids-requires-clause-listed
-move_kids-requires-clause-listed c =
-    let d = (goal.at.move_kids-requires-clause-listed c).After-deal_positions in
-    subst (λ (ks : Listing). AreListed ks (tree_at c.args.tree.now.forest c.args.h.0)) (sym c.set_scrolled.ensures.listed) (still_listed d)
+  abbrev new : Layout
+  new = told c.deal_positions.new.entries
 
-corner_of : (c : After-deal_positions) → IsAtCorner (slot c) (room c)
-corner_of c = subst (λ (s : Slot). IsAtCorner s (room c)) c.entry_of-own.ensures.told.slot c.inside_of-inside.ensures.near
+  set_is : set_own ≡ record (l e) { scrolls = set (l e).scrolls (h e) (scrolled_of c.scrolled_by-scrolled.result) }
+  set_is = c.set_scrolled.ensures.set
 
-pub move_kids-requires-clause-left : goal.move_kids-requires-clause-left
-move_kids-requires-clause-left c =
-    let d = (goal.at.move_kids-requires-clause-left c).After-deal_positions in
-    let a = (corner_of d).left in let b = c.requires.room.left in omega (arith, ints)
+  same_slots : set_own.slots ≡ (l e).slots
+  same_slots = ap (λ (m : Layout). m.slots) set_is
 
-pub move_kids-requires-clause-top : goal.move_kids-requires-clause-top
-move_kids-requires-clause-top c =
-    let d = (goal.at.move_kids-requires-clause-top c).After-deal_positions in
-    let a = (corner_of d).top in let b = c.requires.room.top in omega (arith, ints)
+  same_touched : set_own.touched ≡ (l e).touched
+  same_touched = ap (λ (m : Layout). m.touched) set_is
 
-pub move_kids-requires-clause-flat : goal.move_kids-requires-clause-flat
-move_kids-requires-clause-flat c =
-    let e = (goal.at.move_kids-requires-clause-flat c).After-set_scrolled in
-    let d = (goal.at.move_kids-requires-clause-flat c).After-deal_positions in
-    let i = c.args.h.0 in
-    let g = c.args.tree.now.forest in
-    let items = map (item_slot c.course_of-course.result (room d)) (take c.place_flow-count.result c.place_flow-count.new.items) in
-    ap (λ (ss : List Slot). at_roots ss (children_of g i)) (same_slots e)
-    ∙ (c.deal_positions.ensures.deals.dealt
-    ∙ (ap (λ (ts : List Tall). dealt tall_box (own_slot (room d)) ts items) (sym (same_kids d (told c.set_scrolled.new.entries).slots (told c.set_scrolled.new.entries).scrolls))
-    ∙ ap (λ (m : Layout). dealt tall_box (own_slot (room d)) (tall_kids m g i) items) (sym (told_now e))))
+  same_kids : tall_kids set_own (f e) (h e) ≡ kids e
+  same_kids =
+      let cs = children_of (f e) (h e) in
+      ap (λ (m : Layout). tall_kids m (f e) (h e)) set_is
+      ∙ (roots_read tall_of (known_at (box_at (l e).boxes) (l e)) cs ∙ sym (roots_read tall_of (known_at (box_at (l e).boxes) (l e)) cs))
 
-pub move_kids-requires-clause-close : goal.move_kids-requires-clause-close
-move_kids-requires-clause-close c =
-    let e = (goal.at.move_kids-requires-clause-close c).After-set_scrolled in
-    subst (λ (ss : List Slot). All (IsClose c.inside_of-inside.result.x c.inside_of-inside.result.y) (at_roots ss (children_of c.args.tree.now.forest c.args.h.0))) (sym (same_slots e)) c.deal_positions.ensures.deals.close
+  moved_is : at_roots new.slots (children_of (f e) (h e)) ≡ map (moved (moves_of c.scrolled_by-scrolled.result.offset)) (flat e)
+  moved_is =
+      let offset = moves_of c.scrolled_by-scrolled.result.offset in
+      let course = c.course_of-course.result in
+      let items = take c.place_flow-count.result c.place_flow-count.new.items in
+      let later = moved_room offset (room e) in
+      c.deal_positions.ensures.deals.dealt
+      ∙ (ap (λ (r : Room). dealt tall_box (own_slot r) (tall_kids set_own (f e) (h e)) (map (item_slot course r) items)) c.moved_inside.ensures
+      ∙ (ap (λ (ks : List Tall). dealt tall_box (own_slot later) ks (map (item_slot course later) items)) same_kids
+      ∙ (ap (dealt tall_box (own_slot later) (kids e)) (items-moved course offset (room e) items) ∙ dealt-moved offset (room e) (kids e) (flow e))))
 
 pub returns-clause-kids : goal.returns-clause-kids
 returns-clause-kids c =
     let d = (goal.at.returns-clause-kids c).After-deal_positions in
-    let e = (goal.at.returns-clause-kids c).After-set_scrolled in
-    let b = (goal.at.returns-clause-kids c).After-scrolled_by-scrolled in
-    let offset = moves_of c.scrolled_by-scrolled.result.offset in
-    c.move_kids.ensures.moved
-    ∙ (ap (λ (ss : List Slot). map (moved offset) (at_roots ss (children_of c.args.tree.now.forest c.args.h.0))) (same_slots e)
-    ∙ (ap (map (moved offset)) (stand d) ∙ ap (λ (s : Scrolled). map (moved s.offset) (flat_slots (tall d) (slot d) (kids d))) (is_scrolled b)))
+    moved_is d
+    ∙ (ap (map (moved (moves_of c.scrolled_by-scrolled.result.offset))) (stand (e d)) ∙ ap (λ (s : Scrolled). map (moved s.offset) (flat_slots (tall (e d)) (slot (e d)) (kids (e d)))) (is_scrolled (b d)))
 
 pub returns-clause-others : goal.returns-clause-others
 returns-clause-others c =
-    let e = (goal.at.returns-clause-others c).After-set_scrolled in
-    let g = children_of c.args.tree.now.forest c.args.h.0 in
-    keeps_then nowhere (told c.args.entries.now).slots (told c.deal_positions.new.entries).slots (told c.move_kids.new.entries).slots g c.deal_positions.ensures.deals.others
-    (subst (λ (ss : List Slot). KeepsOthers nowhere ss (told c.move_kids.new.entries).slots g) (same_slots e) c.move_kids.ensures.others)
+    let d = (goal.at.returns-clause-others c).After-deal_positions in
+    subst (λ (ss : List Slot). KeepsOthers nowhere ss (new d).slots (children_of (f (e d)) (h (e d)))) (same_slots d) c.deal_positions.ensures.deals.others
 
 pub returns-clause-near : goal.returns-clause-near
 returns-clause-near c =
     let d = (goal.at.returns-clause-near c).After-deal_positions in
     let o = c.scrolled_by-scrolled.result.offset in
-    let later = moved_room (moves_of o) (room d) in
-    All-weaker (IsClose later.x later.y) (IsBelow (slot d)) (moved_below (slot d) (room d) (moves_of o) (corner_of d) o.across_fits o.down_fits) (at_roots (told c.move_kids.new.entries).slots (children_of c.args.tree.now.forest c.args.h.0)) c.move_kids.ensures.close
+    let later = moved_room (moves_of o) (room (e d)) in
+    let ss = at_roots (new d).slots (children_of (f (e d)) (h (e d))) in
+    All-weaker (IsClose later.x later.y) (IsBelow (slot (e d))) (moved_below (slot (e d)) (room (e d)) (moves_of o) (corner_of (e d)) o.across_fits o.down_fits) ss
+    (subst (λ (r : Room). All (IsClose r.x r.y) ss) c.moved_inside.ensures c.deal_positions.ensures.deals.close)
 
 pub returns-clause-scrolled : goal.returns-clause-scrolled
 returns-clause-scrolled c =
     let d = (goal.at.returns-clause-scrolled c).After-deal_positions in
-    let b = (goal.at.returns-clause-scrolled c).After-scrolled_by-scrolled in
-    let h = c.args.h.0 in
-    ap (λ (m : Layout). m.scrolls) c.move_kids.ensures.rest
-    ∙ (ap (λ (m : Layout). m.scrolls) c.set_scrolled.ensures.set
-    ∙ (ap (λ (m : Layout). set m.scrolls h (scrolled_of c.scrolled_by-scrolled.result)) c.deal_positions.ensures.rest
-    ∙ ap (set (told c.args.entries.now).scrolls h) (is_scrolled b)))
+    ap (λ (m : Layout). m.scrolls) c.deal_positions.ensures.rest
+    ∙ (ap (λ (m : Layout). m.scrolls) (set_is d) ∙ ap (set (l (e d)).scrolls (h (e d))) (is_scrolled (b d)))
+
+pub returns-clause-touches : goal.returns-clause-touches
+returns-clause-touches c =
+    let d = (goal.at.returns-clause-touches c).After-deal_positions in
+    subst (λ (m : Layout). Touches nowhere (is_touched m) (is_touched (new d)) m.slots (new d).slots (children_of (f (e d)) (h (e d)))) (set_is d) c.deal_positions.ensures.touches
+
+pub returns-clause-roots : goal.returns-clause-roots
+returns-clause-roots c =
+    let d = (goal.at.returns-clause-roots c).After-deal_positions in
+    subst (λ (m : Layout). AtRoots (is_touched m) (is_touched (new d)) (children_of (f (e d)) (h (e d)))) (set_is d) c.deal_positions.ensures.roots
 
 pub returns-clause-rest : goal.returns-clause-rest
 returns-clause-rest c =
-    let e = (goal.at.returns-clause-rest c).After-set_scrolled in
-    c.move_kids.ensures.rest
-    ∙ (ap (λ (m : Layout). record m { slots = (told c.move_kids.new.entries).slots }) (told_now e)
-    ∙ ap (λ (rs : List Scrolled). record (told c.args.entries.now) { slots = (told c.move_kids.new.entries).slots; scrolls = rs }) (sym (ap (λ (m : Layout). m.scrolls) c.move_kids.ensures.rest)))
+    let d = (goal.at.returns-clause-rest c).After-deal_positions in
+    let n = new d in
+    c.deal_positions.ensures.rest
+    ∙ (ap (λ (m : Layout). record m { slots = n.slots; touched = n.touched }) (set_is d)
+    ∙ ap (λ (rs : List Scrolled). record (l (e d)) { slots = n.slots; scrolls = rs; touched = n.touched }) (sym (ap (λ (m : Layout). m.scrolls) c.deal_positions.ensures.rest ∙ ap (λ (m : Layout). m.scrolls) (set_is d))))
 
 pub returns-clause-listed : goal.returns-clause-listed
-returns-clause-listed c = c.move_kids.ensures.listed ∙ (c.set_scrolled.ensures.listed ∙ c.deal_positions.ensures.listed)
+returns-clause-listed c = c.deal_positions.ensures.listed ∙ c.set_scrolled.ensures.listed

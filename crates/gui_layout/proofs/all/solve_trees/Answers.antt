@@ -1,5 +1,5 @@
 use Rattle.std.proofs.Common.{◌∙◌, sym, ap, subst, refl}
-use Rattle.gui_base.specs.Forest.{Empty, Tree}
+use Rattle.gui_base.specs.Forest.{Empty, Tree, tree_at}
 use Rattle.gui_tree.specs.Walks.{Walk}
 use Rattle.gui_tree.proofs.Steps.{child_in}
 use Rattle.gui_boxes.specs.Layouts.{KeepsRest}
@@ -10,6 +10,7 @@ use Rattle.gui_layout.specs.Scenes.{scene_box}
 use Rattle.gui_layout.proofs.Renewals.{holds-still, renewed-in}
 use Rattle.gui_boxes.specs.Tables.{Listing, IsListed, AreListed, told}
 use Rattle.gui_boxes.proofs.InTrees.{tree-in}
+use Rattle.gui_layout.proofs.Ready.{calm-touched}
 use Rattle.gui_layout.proofs.Solves.{Solves, solves_none, solves_first}
 use Rattle.gui_layout.proofs.all.solve_trees.Goals as goal
 use Rattle.gui_layout.proofs.all.solve_trees.Goals.{In-None}
@@ -20,6 +21,7 @@ loop-root-init c =
     record {
       same = ap (λ (w : Walk). w.forest) is;
       boxes = c.requires.boxes;
+      touched = c.requires.touched;
       listed = refl;
       later = λ (now : Layout) all.
           subst (Solves (scene_box (scene_of c.args.store.now)) c.args.width.pixels c.args.height.pixels (told c.args.entries.now) now) (ap (λ (w : Walk). w.left) is) all;
@@ -39,6 +41,14 @@ solve_tree-requires-clause-once c = c.roots-root-items.ensures.once
 
 pub solve_tree-requires-clause-there : goal.solve_tree-requires-clause-there
 solve_tree-requires-clause-there c = (child_in c.args.tree.now.forest _ _ _ c.loop-root.invariant.same c.in-Some.ensures.steps).there
+
+pub solve_tree-requires-clause-own : goal.solve_tree-requires-clause-own
+solve_tree-requires-clause-own c = c.loop-root.invariant.touched c.in-Some.root.0 (child_in c.args.tree.now.forest _ _ _ c.loop-root.invariant.same c.in-Some.ensures.steps).there
+
+pub solve_tree-requires-clause-calm : goal.solve_tree-requires-clause-calm
+solve_tree-requires-clause-calm c =
+    let f = c.args.tree.now.forest in
+    calm-touched (scene_box (scene_of c.args.store.now)) (told c.loop-root.entries) (tree_at f c.in-Some.root.0) (λ k i. c.loop-root.invariant.touched k (tree-in c.in-Some.root.0 k f i))
 
 pub loop-root-preserved : goal.loop-root-preserved
 loop-root-preserved c =
@@ -62,6 +72,7 @@ loop-root-preserved c =
     record {
       same = g.forest;
       boxes = holds-still (scene_of c.args.store.now) c.loop-root.entries c.solve_tree.new.entries inv.boxes done.boxes done.listed;
+      touched = λ k i. done.moves.more k (inv.touched k i);
       listed = done.listed ∙ inv.listed;
       later = λ (last : Layout) all. inv.later last (subst (Solves box w n was last) (sym g.left) (solves_first box w n was now last h g.children _ g.once first all));
     }

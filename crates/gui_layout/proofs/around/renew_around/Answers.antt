@@ -2,7 +2,9 @@ use Rattle.std.proofs.Common.{◌≡◌, ◌∙◌, ◌<◌, ap, sym, subst, fal
 use Rattle.std.proofs.lemmas.Bool.{or_parts}
 use Rattle.gui_base.specs.Forest.{parent_of}
 use Rattle.gui_boxes.specs.Listing.{times}
+use Rattle.gui_boxes.specs.Tables.{told}
 use Rattle.gui_layout.specs.Tops.{is_it, is_over}
+use Rattle.gui_layout.proofs.Overs.{if-parent}
 use Rattle.gui_layout.proofs.Siblings.{one-only, one-times}
 use Rattle.gui_layout.proofs.around.renew_around.Goals as goal
 
@@ -32,3 +34,8 @@ returns-then-is_only-clause-others c k off =
     let f = c.args.tree.now.forest in
     let parts : (is_it k (parent_of f c.in-Some.h.0) ≡ false) × (false ≡ false) = or_parts (is_it k (parent_of f c.in-Some.h.0)) false (subst (λ us. is_over f us k ≡ false) only off) in
     c.renew_with.ensures.others k parts.0
+
+pub returns-then-is_only-clause-last : goal.returns-then-is_only-clause-last
+returns-then-is_only-clause-last c =
+    let f = c.args.tree.now.forest in
+    if-parent f (told c.args.entries.now) (told c.renew_with.new.entries) c.parent-parent.result (parent_of f c.in-Some.h.0) c.parent-parent.ensures (λ q up. c.renew_with.ensures.own q up)

@@ -1,6 +1,9 @@
-use Rattle.std.proofs.Common.{◌<◌, ◌++◌, ◌∷◌, [], sym, subst, List, length, arith}
+use Rattle.std.proofs.Common.{◌<◌, ◌∙◌, ◌++◌, ◌∷◌, [], sym, ap, subst, List, length, arith}
+use Rattle.std.specs.Prelude.{Some, None}
+use Rattle.std.proofs.lemmas.List.{get_or-set_same}
 use Rattle.gui_base.specs.declared.Handle.{Handle}
-use Rattle.gui_pool.specs.Table.{Table}
+use Rattle.gui_pool.specs.Table.{Table, value_at}
+use Rattle.gui_boxes.specs.Tables.{touched_or}
 use Rattle.gui_boxes.specs.declared.entry.Entry.{Entry}
 use Rattle.gui_boxes.specs.Listing.{AddsValue, HasThese}
 use Rattle.gui_boxes.proofs.Adding.{adds, these_joined, vacant_is}
@@ -38,3 +41,10 @@ returns-clause-added c =
 
 pub put-requires-clause-vacant : goal.put-requires-clause-vacant
 put-requires-clause-vacant c = let self = c.args.self.now in vacant_is self.limits.objects self.entries self.listed.items c.args.h.0 self.kept c.requires.new
+
+pub returns-clause-rests : goal.returns-clause-rests
+returns-clause-rests c =
+    let self = c.args.self.now in
+    let h = c.args.h.0 in
+    let d = (goal.at.returns-clause-rests c).After-put in
+    ap (λ (t : Table Entry). touched_or (value_at t h)) c.put.ensures ∙ (ap touched_or (get_or-set_same self.entries.values h (Some c.new_entry.result) None (within d)) ∙ c.new_entry.ensures.rests)

@@ -18,6 +18,7 @@ loop-h-init c = record {
   own = λ k some left there. absurd (omega arith);
   kept = λ k there was. refl;
   others = λ k there off. refl;
+  calm = λ k there was. was;
   none = λ k out was. was;
   limits = refl;
 }
@@ -51,6 +52,7 @@ loop-h-preserved c =
           let some = first-times hs i c.loop-h-test.true in
           let no : times hs h.0 ≡ 0 = subst (λ j. times hs j ≡ 0) (eqb-true k h.0 e) off in absurd (omega arith)) in
           done.others k there other ∙ inv.others k there off;
+      calm = λ k there was. done.calm k there (inv.calm k there was);
       none = λ k out was. done.none k out (inv.none k out was);
       limits = done.limits ∙ inv.limits;
     }

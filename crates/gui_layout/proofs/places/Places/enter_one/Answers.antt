@@ -1,10 +1,11 @@
-use Rattle.std.proofs.Common.{◌≡◌, ◌∙◌, refl, sym, ap, subst, ℕ, true, false, eqb, cond}
+use Rattle.std.proofs.Common.{◌≡◌, ◌∙◌, refl, sym, ap, subst, ℕ, true, false, eqb, cond, inl, inr}
 use Rattle.std.specs.Prelude.{is_some}
-use Rattle.std.proofs.lemmas.Bool.{eqb-true, both_ways, false_from_ne_true}
+use Rattle.std.proofs.lemmas.Bool.{cases_Bool, eqb-true, both_ways, false_from_ne_true}
 use Rattle.gui_base.specs.Forest.{Forest, has}
 use Rattle.gui_pool.specs.Table.{value_at}
 use Rattle.gui_store.specs.Views.{scene_of}
 use Rattle.scene_defs.specs.Scene.{handles_of}
+use Rattle.gui_boxes.specs.Tables.{touched_or}
 use Rattle.gui_layout.proofs.Entering.{low}
 use Rattle.gui_layout.proofs.places.Places.enter_one.Goals as goal
 use Rattle.gui_layout.proofs.places.Places.enter_one.Goals.{After-has_entry}
@@ -74,3 +75,9 @@ returns-clause-none c k out was =
     let d = (goal.at.returns-clause-none c).After-has_entry in
     let other : eqb k h ≡ false = false_from_ne_true (eqb k h) (λ e. both_ways (has f k) out (subst (λ j. has f j ≡ true) (sym (eqb-true k h e)) (there d))) in
     ap is_some (c.add_entries.ensures.added.same k other) ∙ c.make_room.ensures.none k was
+
+pub returns-clause-calm : goal.returns-clause-calm
+returns-clause-calm c k is was = elim (cases_Bool (eqb k c.args.h.0)) [
+  | inl same ↦ subst (λ j. touched_or (value_at c.add_entries.new.self.entries j) ≡ false) (sym (eqb-true k c.args.h.0 same)) c.add_entries.ensures.rests
+  | inr other ↦ ap touched_or (c.add_entries.ensures.added.same k other ∙ c.make_room.ensures.kept k is) ∙ was
+]

@@ -1,4 +1,4 @@
-use Rattle.std.proofs.Common.{◌≡◌, ◌∙◌, ◌≤◌, sym, ap, subst, ℕ, true, Some, option_map, arith}
+use Rattle.std.proofs.Common.{◌≡◌, ◌∙◌, ◌≤◌, sym, ap, subst, ℕ, true, inl, inr, Some, option_map, arith}
 use Rattle.gui_tree.proofs.Below.{own_tree}
 use Rattle.gui_base.specs.Forest.{Forest, has, map_forest, parent_of, size, tree_at}
 use Rattle.gui_base.specs.Limits.{Bounds}
@@ -20,7 +20,18 @@ use Rattle.gui_layout.proofs.Climbing.{is_above}
 use Rattle.gui_layout.proofs.Entering.{few, flat}
 use Rattle.gui_layout.proofs.Stepping.{lets-stand, root-fills}
 use Rattle.gui_boxes.proofs.These.{these_kept}
+use Rattle.std.proofs.lemmas.Bool.{cases_Bool, false≢true}
+use Rattle.gui_boxes.specs.Pending.{is_pending}
+use Rattle.gui_boxes.specs.Touched.{is_touched}
+use Rattle.gui_boxes.proofs.Touched.{calm_all}
+use Rattle.gui_layout.specs.Calm.{IsCalm, MovesTouched}
+use Rattle.gui_layout.specs.SettledBut.{in_marked}
+use Rattle.gui_layout.proofs.ClosedUp.{closed_in}
+use Rattle.gui_layout.proofs.Ready.{calm-at}
+use Rattle.gui_layout.proofs.Readying.{marked-up}
+use Rattle.gui_layout.proofs.Stepping.{mark-inside}
 use Rattle.gui_layout.proofs.places.Places.settle_at.Goals as goal
+use Rattle.gui_layout.proofs.places.Places.settle_at.Goals.{After-frame_of-frame}
 
 pub frame_of-frame-requires-clause-listed : goal.frame_of-frame-requires-clause-listed
 frame_of-frame-requires-clause-listed c k encloses there =
@@ -63,6 +74,51 @@ solve_tree-requires-clause-enough c =
     let long = c.as_mut_slice.ensures.len in
     rw c.tree-tree.ensures.forest (omega arith)
 
+-- what lies in the trees above a marked object is looked at
+encloses-top : (c : After-frame_of-frame) → Encloses (handles_of (scene_of c.args.store.now).trees) c.frame_of-frame.result.0.0 c.args.h.0
+encloses-top c = subst (λ (g : Forest ℕ). Encloses g c.frame_of-frame.result.0.0 c.args.h.0) c.tree-tree.ensures.forest c.frame_of-frame.ensures.encloses
+
+pub solve_tree-requires-clause-calm : goal.solve_tree-requires-clause-calm
+solve_tree-requires-clause-calm c =
+    let scene = scene_of c.args.store.now in
+    let f = handles_of scene.trees in
+    let l = layout_of c.args.self.now in
+    let m = is_pending c.args.pending.now in
+    let h = c.args.h.0 in
+    let u = c.frame_of-frame.result.0.0 in
+    let forest = c.tree-tree.ensures.forest in
+    let encloses = encloses-top (goal.at.solve_tree-requires-clause-calm c).After-frame_of-frame in
+    let is : has f u ≡ true = subst (λ (g : Forest ℕ). has g u ≡ true) forest c.frame_of-frame.ensures.there in
+    let own = own_tree f h c.requires.there in
+    subst (λ (g : Forest ℕ). IsCalm (scene_box scene) l (tree_at g u)) (sym forest)
+    (calm-at (scene_box scene) l f (in_marked m scene) m u c.tree-tree.ensures.valid.trees.once is
+    (λ k p there looked up. marked-up m k p f (distinct_once f c.tree-tree.ensures.valid.trees.once) there looked up) (λ k i. mark-inside m h u k f c.requires.marked (encloses h own) i) c.requires.ready)
+
+-- and so the object at the top is touched
+top-touched : (c : After-frame_of-frame) → is_touched (layout_of c.args.self.now) c.frame_of-frame.result.0.0 ≡ true
+top-touched c =
+    let f = handles_of (scene_of c.args.store.now).trees in
+    let t = is_touched (layout_of c.args.self.now) in
+    let u = c.frame_of-frame.result.0.0 in
+    let h = c.args.h.0 in
+    let is : has f u ≡ true = subst (λ (g : Forest ℕ). has g u ≡ true) c.tree-tree.ensures.forest c.frame_of-frame.ensures.there in
+    let once = c.tree-tree.ensures.valid.trees.once in
+    let m = is_pending c.args.pending.now in
+    let s = in_marked m (scene_of c.args.store.now) in
+    let inside : has (tree_at f u) h ≡ true = encloses-top c h (own_tree f h c.requires.there) in
+    let closed = closed_in f s t u once (λ k p there looked up. marked-up m k p f (distinct_once f once) there looked up) c.requires.ready.closed (λ k i. mark-inside m h u k f c.requires.marked inside i) in
+    elim (cases_Bool (t u)) [ inl on ↦ on | inr none ↦ absurd (false≢true (sym (calm_all t f u is closed none h inside) ∙ c.requires.own)) ]
+
+pub solve_tree-requires-clause-own : goal.solve_tree-requires-clause-own
+solve_tree-requires-clause-own c = top-touched (goal.at.solve_tree-requires-clause-own c).After-frame_of-frame
+
+pub returns-clause-top : goal.returns-clause-top
+returns-clause-top c = top-touched (goal.at.returns-clause-top c).After-frame_of-frame
+
+pub returns-clause-moves : goal.returns-clause-moves
+returns-clause-moves c =
+    subst (λ (g : Forest ℕ). MovesTouched (scene_box (scene_of c.args.store.now)) (layout_of c.args.self.now) (told c.solve_tree.new.entries) (tree_at g c.frame_of-frame.result.0.0)) c.tree-tree.ensures.forest c.solve_tree.ensures.moves
+
 pub invariant_of-self : goal.invariant_of-self
 invariant_of-self c =
     let self = c.args.self.now in
@@ -74,8 +130,8 @@ invariant_of-self c =
       items_room = self.items_room;
     }
 
-pub returns : goal.returns
-returns c =
+pub returns-clause-solves : goal.returns-clause-solves
+returns-clause-solves c =
     let scene = scene_of c.args.store.now in
     let self = c.args.self.now in
     let now = c.solve_tree.new in

@@ -1,11 +1,21 @@
-use Rattle.std.proofs.Common.{◌≡◌, ◌<◌, ◌∙◌, refl, sym, ap, subst, ℕ, zero, suc, true, false, ◌⊎◌, inl, inr, arith}
+use Rattle.std.proofs.Common.{◌≡◌, ◌<◌, ◌∙◌, refl, sym, ap, subst, ℕ, zero, suc, Bool, true, false, None, ◌⊎◌, inl, inr, arith}
 use Rattle.std.specs.Prelude.{is_some}
-use Rattle.std.proofs.lemmas.Bool.{cases_Bool, both_ways, false_from_ne_true}
-use Rattle.gui_base.specs.Forest.{Forest, has}
+use Rattle.std.proofs.lemmas.Bool.{cases_Bool, both_ways, false≢true, false_from_ne_true}
+use Rattle.gui_base.specs.Forest.{Forest, StandsOnce, children_of, has}
+use Rattle.gui_tree.proofs.Parts.{distinct_once}
+use Rattle.gui_boxes.specs.Frames.{Encloses}
+use Rattle.gui_boxes.specs.Touched.{is_touched}
+use Rattle.gui_layout.specs.Calm.{IsClosedUp, IsReady}
+use Rattle.gui_layout.specs.Marked.{is_root}
+use Rattle.gui_layout.specs.Scrolled.{IsScrolledIn}
+use Rattle.gui_layout.specs.declared.places.Places.{Places}
+use Rattle.gui_layout.proofs.Before.{marked-closed}
+use Rattle.gui_layout.proofs.Overs.{kid-parent, root-in, scrolled-same}
+use Rattle.gui_layout.proofs.Rescrolled.{no-roots}
 use Rattle.gui_pool.specs.Table.{value_at}
 use Rattle.gui_store.specs.Views.{scene_of}
 use Rattle.layout_defs.specs.OwnHeights.{but_height}
-use Rattle.scene_defs.specs.Scene.{handles_of}
+use Rattle.scene_defs.specs.Scene.{Scene, handles_of}
 use Rattle.gui_boxes.specs.Listing.{times}
 use Rattle.gui_boxes.specs.Pending.{is_pending}
 use Rattle.gui_layout.specs.Renewed.{IsRenewed}
@@ -15,12 +25,12 @@ use Rattle.gui_boxes.specs.Settled.{Layout, known_at}
 use Rattle.gui_layout.specs.Naturals.{naturals_in}
 use Rattle.gui_layout.specs.Settles.{known_in}
 use Rattle.gui_layout.specs.Solved.{layout_of}
-use Rattle.gui_boxes.specs.Tables.{area_in}
+use Rattle.gui_boxes.specs.Tables.{area_in, touched_or}
 use Rattle.gui_layout.specs.Tops.{in_trees_at}
 use Rattle.gui_layout.proofs.Apart.{naturals-alike, none-of, place-alike}
 use Rattle.gui_layout.proofs.Closing.{all-settled, marked-places, marked-sizes, right}
-use Rattle.gui_boxes.proofs.Listed.{some_listed}
-use Rattle.gui_layout.proofs.Marking.{marked-has}
+use Rattle.gui_boxes.proofs.Listed.{some_listed, told_at}
+use Rattle.gui_layout.proofs.Marking.{all-alike, marked-has}
 use Rattle.gui_layout.proofs.Renewals.{some-kept}
 use Rattle.gui_layout.specs.SettledBut.{in_marked}
 use Rattle.gui_boxes.specs.Scrolls.{scrolled_at}
@@ -50,8 +60,22 @@ entered c k there had = elim (cases_Bool (is_pending c.args.pending.now k)) [
   | inr un ↦ ap is_some (same c k there un) ∙ had un
 ]
 
-pub renew_marked-requires : goal.renew_marked-requires
-renew_marked-requires c = record { entries = λ k some on there. c.enter_marked.ensures.own k some there }
+-- all above what is listed has entries
+above : (c : After-enter_marked) (h k : ℕ) → 0 < times c.args.marked.now h → let f = handles_of (scene_of c.args.store.now).trees in has f h ≡ true → Encloses f k h → has f k ≡ true → is_some (value_at c.enter_marked.new.self.entries k) ≡ true
+above c h k some is encloses there = entered c k there (λ un. c.requires.above h k some is encloses there un)
+
+pub renew_marked-requires-clause-entries : goal.renew_marked-requires-clause-entries
+renew_marked-requires-clause-entries c = λ k some on there. c.enter_marked.ensures.own k some there
+
+pub renew_marked-requires-clause-above : goal.renew_marked-requires-clause-above
+renew_marked-requires-clause-above c h k some is encloses there = above (goal.at.renew_marked-requires-clause-above c).After-enter_marked h k some is encloses there
+
+-- what is not touched is not once others have come and gone
+untouched : (c : After-enter_marked) (k : ℕ) → has (handles_of (scene_of c.args.store.now).trees) k ≡ true → is_touched (layout_of c.args.self.now) k ≡ false → is_touched (layout_of c.enter_marked.new.self) k ≡ false
+untouched c k there was =
+    let here = subst (λ (f : Forest ℕ). has f k ≡ true) (sym c.tree-tree.ensures.forest) there in
+    let first : touched_or (value_at c.args.self.now.entries k) ≡ false = sym (told_at touched_or c.args.self.now.entries k) ∙ was in
+    told_at touched_or c.enter_marked.new.self.entries k ∙ c.enter_marked.ensures.calm k there (ap touched_or (c.leave_gone.ensures.kept k here) ∙ first)
 
 -- what is known of it is the same, and so is its box
 alike : (c : After-renew_marked) (k : ℕ) → has (handles_of (scene_of c.args.store.now).trees) k ≡ true → is_pending c.args.pending.now k ≡ false → known_in c.renew_marked.new.self (scene_of c.args.store.now) k ≡ known_in c.args.self.now (scene_of c.args.store.now) k
@@ -84,6 +108,82 @@ settle_marked-requires-clause-boxes c k is =
     elim (cases_Bool (is_pending c.args.pending.now k)) [
       | inl on ↦ renewed d k there on
       | inr un ↦ boxed d k there un (c.requires.but.boxes k there is un)
+    ]
+
+pub settle_marked-requires-clause-above : goal.settle_marked-requires-clause-above
+settle_marked-requires-clause-above c h k some is encloses there =
+    let d = (goal.at.settle_marked-requires-clause-above c).After-enter_marked in
+    some_listed c.renew_marked.new.self.entries k (some-kept c.enter_marked.new.self.entries c.renew_marked.new.self.entries k c.renew_marked.ensures.listed ∙ above d h k some is encloses there)
+
+-- all is ready: what is not touched is not listed, and none of its children is pending
+module _ (c : After-renew_marked) where
+  abbrev d : After-enter_marked
+  d = (goal.at.After-renew_marked c).After-enter_marked
+
+  abbrev scene : Scene
+  scene = scene_of c.args.store.now
+
+  abbrev f : Forest ℕ
+  f = handles_of scene.trees
+
+  abbrev m : ℕ → Bool
+  m = is_pending c.args.pending.now
+
+  abbrev s : ℕ → Bool
+  s = in_marked m scene
+
+  abbrev mid : Places
+  mid = c.renew_marked.new.self
+
+  closed : IsClosedUp f s (is_touched (layout_of mid))
+  closed = c.renew_marked.ensures.closed s (λ k p there looked is up. absurd (false≢true (sym (untouched d k there (c.requires.calm k there looked)) ∙ is)))
+
+  touched : (k : ℕ) → has f k ≡ true → m k ≡ true → is_touched (layout_of mid) k ≡ true
+  touched k there on = c.renew_marked.ensures.touched k (c.requires.listed k on) there
+
+  unlisted : (k : ℕ) → has f k ≡ true → is_touched (layout_of mid) k ≡ false → times c.args.marked.now k ≡ 0
+  unlisted k there none = elim (none-or-some (times c.args.marked.now k)) [
+    | inl off ↦ off
+    | inr some ↦ absurd (false≢true (sym none ∙ c.renew_marked.ensures.touched k some there))
+  ]
+
+  once : StandsOnce f
+  once = c.args.store.now.kept.valid.trees.once
+
+  still : (k j : ℕ) → has f k ≡ true → s k ≡ true → is_touched (layout_of mid) k ≡ false → is_root j (children_of f k) ≡ true → m j ≡ false
+  still k j there looked none kid =
+      let in_f : has f j ≡ true = root-in f j k kid in
+      let low : s j ≡ true = marked-closed m k j f (distinct_once f once) looked kid in
+      false_from_ne_true (m j) (λ on. false≢true (sym none ∙ closed j k in_f low (touched j in_f on) (kid-parent f None j k (distinct_once f once) kid)))
+
+  scrolled : (k : ℕ) → has f k ≡ true → s k ≡ true → is_touched (layout_of mid) k ≡ false → IsScrolledIn (known_in mid scene) (layout_of mid).scrolls f k
+  scrolled k there looked none =
+      let off = unlisted k there none in
+      let un : m k ≡ false = false_from_ne_true (m k) (λ on. false≢true (sym none ∙ touched k there on)) in
+      let kids = still k in
+      let was = c.requires.scrolled k there looked off (no-roots m (children_of f k) (λ j kid. kids j there looked none kid)) in
+      scrolled-same (known_in c.args.self.now scene) (known_in mid scene) (layout_of c.args.self.now).scrolls (layout_of mid).scrolls f k (alike c k there un) (λ j kid. alike c j (root-in f j k kid) (kids j there looked none kid))
+      (ap (λ (l : Layout). scrolled_at l.scrolls k) c.renew_marked.ensures.rest ∙ scrolled-alike k c.args.self.now.entries c.enter_marked.new.self.entries (same d k there un)) was
+
+  ready : IsReady (scene_box scene) (layout_of mid) f s m
+  ready = record {
+    fit = all-alike s m (known_in c.args.self.now scene) (known_in mid scene) f (λ k there un. alike c k there un) c.requires.but.fit;
+    closed = closed;
+    marked = touched;
+    scrolled = scrolled;
+  }
+
+pub settle_marked-requires-clause-ready : goal.settle_marked-requires-clause-ready
+settle_marked-requires-clause-ready c = ready (goal.at.settle_marked-requires-clause-ready c).After-renew_marked
+
+-- what was not touched is not, though it was for a while
+pub returns-clause-calm : goal.returns-clause-calm
+returns-clause-calm c k there was =
+    let e = (goal.at.returns-clause-calm c).After-enter_marked in
+    let first = untouched e k there was in
+    elim (cases_Bool (is_touched (layout_of c.renew_marked.new.self) k)) [
+      | inl on ↦ c.settle_marked.ensures.rests k (c.renew_marked.ensures.over k first on)
+      | inr off ↦ c.settle_marked.ensures.calm k off
     ]
 
 -- an object has a place where it has a box

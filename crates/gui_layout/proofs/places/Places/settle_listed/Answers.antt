@@ -15,6 +15,7 @@ use Rattle.gui_boxes.specs.Settled.{IsSettled, Known, Layout, known_at}
 use Rattle.gui_layout.specs.Settles.{known_in}
 use Rattle.gui_layout.specs.Solved.{AreStanding, layout_of, offset_in, place_at, reach_in}
 use Rattle.gui_boxes.specs.Tables.{IsListed, area_in, listing_of}
+use Rattle.gui_boxes.specs.Touched.{is_touched}
 use Rattle.gui_layout.specs.Tops.{ScrollsAt, in_trees_at, is_over}
 use Rattle.gui_boxes.specs.Views.{box_at}
 use Rattle.gui_layout.proofs.Apart.{naturals-alike, none-of, place-alike}
@@ -23,7 +24,7 @@ use Rattle.gui_layout.proofs.Marking.{marked-has}
 use Rattle.gui_layout.proofs.Overs.{over-is}
 use Rattle.gui_layout.proofs.ReachSizes.{all-reached, marked-reached, offset-alike, reach-alike}
 use Rattle.gui_layout.proofs.Renewals.{some-kept}
-use Rattle.gui_layout.proofs.Rescrolled.{nobody-root, right-scrolled}
+use Rattle.gui_layout.proofs.Rescrolled.{no-roots, nobody-root, right-scrolled, unmarked-root}
 use Rattle.gui_layout.proofs.Before.{marked-closed}
 use Rattle.gui_layout.proofs.Siblings.{around, one-only, one-times, without-kept}
 use Rattle.std.proofs.lemmas.Bool.{cases_Bool, both_ways, false_from_ne_true}
@@ -77,6 +78,38 @@ settle_changed-requires-clause-but c =
     let n = is_pending c.raise_marks.new.pending in
     narrowed c.args.self.now scene (in_marked w scene) (in_marked n scene) n (λ k i. marked-fewer w n k (handles_of scene.trees) (were d) i)
     (right-raised c.args.self.now scene (is_pending c.args.pending.now) (is_partly c.args.pending.now) n c.raise_marks.ensures.more (half d) (in_marked w scene) c.requires.but)
+
+-- what has not changed was not marked
+unpending : (c : After-raise_marks) (k : ℕ) → is_pending c.raise_marks.new.pending k ≡ false → is_pending c.args.pending.now k ≡ false
+unpending c k none = false_from_ne_true (is_pending c.args.pending.now k) (λ on. both_ways (is_pending c.raise_marks.new.pending k) none (c.raise_marks.ensures.more k on))
+
+pub settle_changed-requires-clause-above : goal.settle_changed-requires-clause-above
+settle_changed-requires-clause-above c h k some is encloses there none =
+    let d = (goal.at.settle_changed-requires-clause-above c).After-raise_marks in
+    let f = handles_of (scene_of c.args.store.now).trees in
+    let w = is_marked_in c.args.pending.now in
+    c.requires.but.placed k there (mark-inside w h k k f (c.requires.marked h some) (encloses h (own_tree f h is)) (own_tree f k there)) (unpending d k none)
+
+pub settle_changed-requires-clause-calm : goal.settle_changed-requires-clause-calm
+settle_changed-requires-clause-calm c k there looked =
+    let d = (goal.at.settle_changed-requires-clause-calm c).After-raise_marks in
+    c.requires.but.calm k there (marked-fewer (is_marked_in c.args.pending.now) (is_pending c.raise_marks.new.pending) k (handles_of (scene_of c.args.store.now).trees) (were d) looked)
+
+pub settle_changed-requires-clause-scrolled : goal.settle_changed-requires-clause-scrolled
+settle_changed-requires-clause-scrolled c k there looked unlisted none =
+    let d = (goal.at.settle_changed-requires-clause-scrolled c).After-raise_marks in
+    let f = handles_of (scene_of c.args.store.now).trees in
+    let w = is_marked_in c.args.pending.now in
+    let n = is_pending c.raise_marks.new.pending in
+    let distinct = distinct_once f c.args.store.now.kept.valid.trees.once in
+    let in_w : has (marked_trees w f) k ≡ true = marked-fewer w n k f (were d) looked in
+    let unmarked : w k ≡ false = false_from_ne_true (w k) (λ is. let some = c.requires.listed k is in absurd (omega arith)) in
+    let un : is_pending c.args.pending.now k ≡ false = false_from_ne_true (is_pending c.args.pending.now k) (λ is. both_ways (w k) unmarked (all-any (value_at c.args.pending.now k) is)) in
+    let off : is_partly c.args.pending.now k ≡ false = false_from_ne_true (is_partly c.args.pending.now k) (λ is. both_ways (w k) unmarked (part-any (value_at c.args.pending.now k) is)) in
+    c.requires.but.scrolled k there in_w un off (record {
+      looked = λ j kid. marked-closed w k j f distinct in_w kid;
+      unchanged = no-roots (is_pending c.args.pending.now) (children_of f k) (λ j kid. unpending d j (unmarked-root n (children_of f k) j none kid));
+    })
 
 -- all objects of the marked trees have entries then
 module _ (c : After-settle_changed) where
@@ -169,6 +202,10 @@ module _ (c : After-renew_reaches) where
 
   knows : known_in last (scene d) ≡ known_in (mid d) (scene d)
   knows = ap (λ (l : Layout). known_at (scene_box (scene d)) l) but_scrolls
+
+  -- what was not touched is not
+  calm : (k : ℕ) → has (f d) k ≡ true → is_touched (layout_of c.args.self.now) k ≡ false → is_touched (layout_of last) k ≡ false
+  calm k there was = ap (λ (l : Layout). is_touched l k) but_scrolls ∙ c.settle_changed.ensures.calm k there was
 
   known-last : (k : ℕ) → known_in last (scene d) k ≡ known_in (mid d) (scene d) k
   known-last k = ap (λ (l : Layout). known_at (scene_box (scene d)) l k) but_scrolls
@@ -296,7 +333,7 @@ returns-clause-settles c =
         other_reaches = λ k there out. reach-alike k old.entries new.entries (kept e k there out) (same k there out);
         other_offsets = λ k there out. offset-alike k old.entries new.entries (kept e k there out) (same k there out);
       };
-      right = λ s was. right-both new scene s (right-last e s (right-mid d s was)) (scrolled e s was);
+      right = λ s was. right-both new scene s (right-last e s (right-mid d s was)) (scrolled e s was) (λ k there looked. calm e k there (was.calm k there looked));
       settled = λ was.
           let stand = done.settled (settled-raised old scene m p n more (half raised) was) in
           let stands_now = standing-last e stand in
@@ -308,6 +345,7 @@ returns-clause-settles c =
             there = stands_now.there;
             solved = stands_now.solved;
             scrolled = told_right;
+            calm = λ k there. calm e k there (was.right.calm k there refl);
             reached = record { reaches = λ h. (shown h).reaches; offsets = λ h. (shown h).offsets };
             naturals = all-naturals scene valid new.entries stands_now.settled stands_now.there;
           };

@@ -1,0 +1,42 @@
+use Rattle.std.proofs.Common.{◌≡◌, ◌∙◌, ◌<◌, refl, sym, ap, subst, true, false, eqb, length, set, get_or, inl, inr, arith}
+use Rattle.std.proofs.lemmas.Bool.{cases_Bool, eqb-true}
+use Rattle.gui_boxes.specs.Settled.{Layout}
+use Rattle.gui_boxes.specs.Tables.{IsListed, Listing, listing_of, told, touched_or}
+use Rattle.gui_boxes.specs.Touched.{is_touched}
+use Rattle.gui_boxes.proofs.Entered.{nothing, first-times, next-times, none-left}
+use Rattle.gui_boxes.proofs.Listed.{told_short}
+use Rattle.gui_layout.proofs.ClosedUp.{now_more, now_own}
+use Rattle.gui_layout.proofs.touching.touch_all.Goals as goal
+
+pub loop-h-init : goal.loop-h-init
+loop-h-init c = record { own = λ k some left. absurd (omega arith); rest = refl; listed = refl }
+
+pub touch-requires : goal.touch-requires
+touch-requires c =
+    let hs = c.args.listed.now in
+    let i = c.loop-h.h-index in
+    let h = get_or hs i nothing in
+    subst (λ (ks : Listing). IsListed ks h.0) (sym c.loop-h.invariant.listed) (c.requires h.0 (first-times hs i c.loop-h-test.true))
+
+pub loop-h-preserved : goal.loop-h-preserved
+loop-h-preserved c =
+    let hs = c.args.listed.now in
+    let i = c.loop-h.h-index in
+    let h = get_or hs i nothing in
+    let inv = c.loop-h.invariant in
+    let was = told c.loop-h.entries in
+    let now = told c.touch.new.entries in
+    let listed : IsListed (listing_of c.loop-h.entries) h.0 = subst (λ (ks : Listing). IsListed ks h.0) (sym inv.listed) (c.requires h.0 (first-times hs i c.loop-h-test.true)) in
+    let short : h.0 < length was.touched = told_short touched_or c.loop-h.entries h.0 listed in
+    let is : now.touched ≡ set was.touched h.0 true = ap (λ (l : Layout). l.touched) c.touch.ensures.set in
+    record {
+      own = λ k some left. elim (cases_Bool (eqb h.0 k)) [
+        | inl same ↦ subst (λ j. is_touched now j ≡ true) (eqb-true h.0 k same) (ap (λ us. get_or us h.0 false) is ∙ now_own was.touched h.0 short)
+        | inr other ↦ ap (λ us. get_or us k false) is ∙ now_more was.touched h.0 short k (inv.own k some (next-times hs i k c.loop-h-test.true other ∙ left))
+      ];
+      rest = subst (λ us. now ≡ record (told c.args.entries.now) { touched = us }) (sym is) (c.touch.ensures.set ∙ ap (λ (l : Layout). record l { touched = set was.touched h.0 true }) inv.rest);
+      listed = c.touch.ensures.listed ∙ inv.listed;
+    }
+
+pub returns-clause-own : goal.returns-clause-own
+returns-clause-own c k some = c.loop-h.invariant.own k some (none-left c.args.listed.now c.loop-h.h-index k c.loop-h-test.false)

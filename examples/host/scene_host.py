@@ -134,7 +134,8 @@ def text_of(quoted):
 
 
 def answer_of(said, question):
-    """What is told by the answer to a question: a number, several as a tuple, a text, or None where there is none."""
+    """What is told by the answer to a question: a number, several as a tuple, a text, how many slots of each pool are in use and how many
+    it has by the pool's name, or None where there is none."""
     if said == "unknown":
         raise Unknown(question)
     rest = said.partition(" ")[2]
@@ -143,6 +144,8 @@ def answer_of(said, question):
     words = rest.split()
     if words == ["none"]:
         return None
+    if question == "used":
+        return {pool: (int(used), int(slots)) for pool, used, slots in zip(words[0::3], words[1::3], words[2::3])}
     numbers = tuple(int(word) if word.lstrip("-").isdigit() else word for word in words)
     return numbers[0] if len(numbers) == 1 and question != "children" else numbers
 
@@ -294,6 +297,18 @@ class Scene:
         said, _ = self.exchange(" ".join(["#?", question, *map(str, words)]))
         return answer_of(said, question)
 
+    def children(self, handle):
+        """The children of an object in their order, or None where it is not there."""
+        return self.ask("children", handle)
+
+    def pending(self):
+        """How many pixels are to be sent by the next frame."""
+        return self.ask("pending")
+
+    def used(self, pool=None):
+        """How many slots of a pool are in use, and how many it has; of each pool by its name where none is named."""
+        return self.ask("used") if pool is None else self.ask("used", pool)[pool]
+
     def run(self, script):
         """Says the lines of a script."""
         for line in script.removesuffix("\n").split("\n") if script else []:
@@ -348,10 +363,9 @@ class Scene:
         return said, events
 
     def in_use(self, said):
-        """How much of a pool that is full is in use, where the program tells it."""
+        """How much of a pool that is full is in use."""
         pool = said.removeprefix("refused full ")
-        used = None if pool == said else self.answer(("used", pool))
-        return "" if used is None else f", {used} in use"
+        return "" if pool == said else ", {} of {} in use".format(*self.used(pool))
 
     def next_line(self):
         """The next line of the log."""

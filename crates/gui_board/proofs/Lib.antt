@@ -14,4 +14,5 @@ pub mod Regrouped
 pub mod Removals
 pub mod Sending
 pub mod Shown
+pub mod Totals
 pub mod Writes

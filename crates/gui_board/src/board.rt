@@ -45,7 +45,7 @@ use std::sync::ledger::Ledger;
 /// focus groups, the animations, the time and the input devices, and how the log goes in this step.
 pub struct Board {
     pub(crate) canvas: Canvas,
-    damage: Damage<Grid>,
+    pub(crate) damage: Damage<Grid>,
     pub(crate) handlers: Handlers,
     pub(crate) groups: Groups,
     pub(crate) anims: Anims,

@@ -9,6 +9,7 @@ mod focus;
 mod held;
 mod hits;
 mod inputs;
+mod pending;
 mod refusals;
 mod scribe;
 

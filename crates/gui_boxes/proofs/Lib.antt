@@ -21,5 +21,6 @@ pub mod Reached
 pub mod Rests
 pub mod Stands
 pub mod Sums
+mod Taking
 pub mod These
 pub mod Touched

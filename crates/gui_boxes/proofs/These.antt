@@ -25,7 +25,7 @@ module _ {T : Type 0} where
     pub inserted-count : (v : T) → h < length t.values → value_at t h ≡ None → value_count (value_inserted t h v) k ≡ cond (eqb h k) 1 0 + value_count t k
     inserted-count v within vacant = grind (arith, nat_tests, value-set t.values h k (Some v) within, vacant)
 
-    removed-count : IsSome (value_at t h) → value_count (value_removed t h) k + cond (eqb h k) 1 0 ≡ value_count t k
+    pub removed-count : IsSome (value_at t h) → value_count (value_removed t h) k + cond (eqb h k) 1 0 ≡ value_count t k
     removed-count some = grind (arith, nat_tests, value-set t.values h k None (within_of t h some), some)
 
   pub count-some : (t : Table T) (k : ℕ) → 0 < value_count t k → IsSome (value_at t k)

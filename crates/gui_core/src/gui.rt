@@ -1,8 +1,10 @@
 //! The machine.
-ghost use Rattle.std.specs.Prelude.{◌≡◌, ◌↔◌, ◌<◌, ◌∷◌, [], IfOk, OnOk, OnErr, None, false};
+ghost use Rattle.std.specs.Prelude.{◌≡◌, ◌↔◌, ◌<◌, ◌≤◌, ◌*◌, ◌∷◌, [], IfOk, OnOk, OnErr, None, false};
 ghost use Rattle.gui_base.specs.declared.refusal.Refusal.{Refusal};
 ghost use Rattle.gui_edge.specs.Panel.{PanelState, HasSizes};
+ghost use Rattle.gui_base.specs.Area.{size_of};
 ghost use Rattle.gui_board.specs.Slots.{used_in};
+ghost use Rattle.gui_damage.specs.Pending.{most_areas, total};
 ghost use Rattle.gui_store.specs.Views.{scene_of};
 ghost use Rattle.gui_layout.specs.Naturals.{AreNatural};
 ghost use Rattle.gui_layout.specs.Solved.{AreReached, AreSolved};
@@ -156,6 +158,14 @@ impl Gui {
         ensures { result ≡ used_in (machine_of self.now) pool }
     {
         self.board.used(pool)
+    }
+
+    /// How many pixels are pending, those of each listed area by themselves.
+    pub fn pending(&self) -> u64
+        ensures pixels { result ≡ total (pending_in self.now).areas }
+        ensures most { result ≤ most_areas * size_of (pending_in self.now).panel }
+    {
+        self.board.pending()
     }
 
     /// The sum of the numbers of the colours of all pixels of the scene's picture, modulo 65536. The picture

@@ -55,7 +55,7 @@ use gui_base::{Area, Flag, Handle, Limits, NoMemory};
 use gui_boxes::boxes::empty_box;
 use gui_boxes::entry::Entry;
 use gui_boxes::frame::Frame;
-use gui_boxes::gone::{have_left, take_gone};
+use gui_boxes::gone::{have_left, take_each, take_gone};
 use gui_boxes::inside::Inside;
 use gui_boxes::items::new_item;
 use gui_boxes::listing::{add_any, are_same, clear, fill, list_trees, put};
@@ -74,6 +74,9 @@ use gui_tree::Tree;
 use gui_widgets::{Item, Look, bars};
 use std::alloc::Global;
 use std::mem;
+
+/// Where no more are marked, the entries of those that are gone are taken out one by one, and else by one walk over all.
+const FEW: usize = 8;
 
 /// One more than the greatest handle.
 const HANDLES: u32 = HANDLE.high as u32 + 1;
@@ -505,7 +508,7 @@ impl Places {
         }
     }
 
-    /// Takes out the entries of objects that are gone, where a marked one is.
+    /// Takes out the entries of the marked objects that are gone, and may take out those of others that are.
     fn leave_gone(&mut self, tree: &Tree, marked: &[Handle])
         ensures kept { (k : ℕ) → has tree.now.forest k ≡ true →
             SameValue k self.old.entries self.new.entries }
@@ -518,7 +521,11 @@ impl Places {
         if have_left(tree, &self.entries, marked) {
             return;
         }
-        self.leave(tree);
+        if marked.len() > FEW {
+            self.leave(tree);
+            return;
+        }
+        take_each(tree, marked, &mut self.listed, &mut self.entries);
     }
 
     /// Makes room for the entries of an object that is there and has none.

@@ -1,21 +1,29 @@
 -- What questions are answered.
-use Rattle.std.specs.Prelude.{ℕ, ℤ, List, ◌∷◌, ◌++◌, codes, decimal, Some, None, if◌then◌else◌}
+use Rattle.std.specs.Prelude.{ℕ, ◌*◌, ℤ, Bool, true, false, List, ◌∷◌, ◌++◌, codes, decimal, flat_map, Some, None, if◌then◌else◌}
 use Rattle.std.specs.declared.option.Option.{Option}
 use Rattle.std.specs.Fmt.{signed_decimal}
-use Rattle.gui_base.specs.Area.{Rect}
+use Rattle.gui_base.specs.Area.{Rect, size_of}
+use Rattle.gui_base.specs.Forest.{children_of, roots}
+use Rattle.gui_base.specs.Limits.{slots}
+use Rattle.gui_base.specs.Pools.{pool_name}
 use Rattle.gui_base.specs.declared.Handle.{Handle}
+use Rattle.gui_base.specs.declared.limits.Pool.{Pool}
+use Rattle.gui_base.specs.declared.pools.TheConstants.{POOLS}
+use Rattle.gui_damage.specs.Pending.{most_areas}
+use Rattle.gui_board.specs.Slots.{used_in}
 use Rattle.line_texts.specs.Quoting.{quoted}
 use Rattle.play_defs.specs.Focus.{focused_in, group_at}
 use Rattle.scene_defs.specs.Edits.{text_at}
-use Rattle.scene_defs.specs.Place.{place, offset, reach}
-use Rattle.scene_defs.specs.Scene.{Scene, row_at, is_there, value}
+use Rattle.scene_defs.specs.Place.{panel_of, place, offset, reach}
+use Rattle.scene_defs.specs.Scene.{Scene, handles_of, row_at, is_there, value}
 use Rattle.scene_defs.specs.Visible.{visible}
 use Rattle.run_defs.specs.Machine.{Machine}
 use Rattle.run_defs.specs.Pointing.{hit}
 use Rattle.scene_script.specs.declared.questions.Fact.{Fact}
 use Rattle.scene_script.specs.declared.questions.Fact.TheVariants as fact
 use Rattle.scene_script.specs.declared.questions.Question.{Question}
-use Rattle.scene_script.specs.declared.questions.Question.TheVariants.{Of, Property, Active, Hit, Focused, Time}
+use Rattle.scene_script.specs.declared.questions.Question.TheVariants.{Of, Property, Children, Active, Hit}
+use Rattle.scene_script.specs.declared.questions.Question.TheVariants.{Focused, Time, Used, Pending}
 
 -- what is said of something that may be there
 abbrev pub says_of : {A : Type 0} → (A → List ℕ) → Option A → List ℕ
@@ -53,23 +61,51 @@ fact_says scene h fact.Offset =
 fact_says scene h fact.Reach =
     codes " reach" ++ says_of (λ span. counts_say span.across span.down) (reach scene h)
 
--- the words of the answer
-abbrev pub answer_words : Machine → Question → List ℕ
-answer_words machine (Of fact h) = fact_says machine.scene h.0 fact
-answer_words machine (Property h part prop) =
+-- the names of the children of an object that is there, in their order
+abbrev pub children_say : Scene → ℕ → List ℕ
+children_say scene h = flat_map count (roots (children_of (handles_of scene.trees) h))
+
+-- the name of a pool, how many of its slots are in use, and how many it has
+abbrev pub pool_says : Machine → Pool → List ℕ
+pool_says machine pool =
+    (32 ∷ pool_name pool) ++ counts_say (used_in machine pool) (slots machine.scene.limits pool)
+
+-- one pool, or all in their order
+abbrev pub pools_say : Machine → Option Pool → List ℕ
+pools_say machine None = flat_map (pool_says machine) POOLS
+pools_say machine (Some pool) = pool_says machine pool
+
+-- the words of the answer, where so many pixels are pending
+abbrev pub answer_words : Machine → ℕ → Question → List ℕ
+answer_words machine pending (Of fact h) = fact_says machine.scene h.0 fact
+answer_words machine pending (Property h part prop) =
     codes " property"
     ++ (if is_there machine.scene h.0 then integer (value machine.scene h.0 part prop) else codes " none")
-answer_words machine Active = codes " active" ++ count machine.scene.active
-answer_words machine (Hit x y) = codes " hit" ++ says_of handle_says (hit machine.scene x y)
-answer_words machine (Focused group) =
+answer_words machine pending (Children h) =
+    codes " children" ++ (if is_there machine.scene h.0 then children_say machine.scene h.0 else codes " none")
+answer_words machine pending Active = codes " active" ++ count machine.scene.active
+answer_words machine pending (Hit x y) = codes " hit" ++ says_of handle_says (hit machine.scene x y)
+answer_words machine pending (Focused group) =
     codes " focused" ++ says_of handle_says (focused_in (group_at machine.groups group))
-answer_words machine Time = codes " time" ++ count machine.time
+answer_words machine pending Time = codes " time" ++ count machine.time
+answer_words machine pending (Used pool) = codes " used" ++ pools_say machine pool
+answer_words machine pending Pending = codes " pending" ++ count pending
+
+-- whether the length of the answer has a bound: of children there may be many
+abbrev pub is_short : Option Question → Bool
+is_short (Some (Children h)) = false
+is_short question = true
 
 -- what is none is unknown
-abbrev pub asked_words : Machine → Option Question → List ℕ
-asked_words machine None = codes " unknown"
-asked_words machine (Some question) = answer_words machine question
+abbrev pub asked_words : Machine → ℕ → Option Question → List ℕ
+asked_words machine pending None = codes " unknown"
+asked_words machine pending (Some question) = answer_words machine pending question
 
 -- the line of the answer
-abbrev pub answer_line : ℕ → Machine → Option Question → List ℕ
-answer_line number machine question = decimal number ++ asked_words machine question ++ codes "\n"
+abbrev pub answer_line : ℕ → Machine → ℕ → Option Question → List ℕ
+answer_line number machine pending question =
+    decimal number ++ asked_words machine pending question ++ codes "\n"
+
+-- how many pixels are pending at most: those of the areas that may be listed, each of them the whole panel
+abbrev pub most_pending : Machine → ℕ
+most_pending machine = most_areas * size_of (panel_of machine.scene)

@@ -1,9 +1,11 @@
 //! Answers questions.
 ghost use Rattle.std.specs.Prelude.{◌≡◌, ◌+◌, ◌≤◌, ◌++◌, ◌∷◌, OnOk, OnErr, codes, option_map, if◌then◌else◌};
+ghost use Rattle.std.specs.Prelude.{Some, true};
 ghost use Rattle.std.specs.Io.KnownBytes.{Appends};
 ghost use Rattle.arrayvec.specs.ArrayVec.{array_vec_len};
 ghost use Rattle.gui_base.specs.Corners.{rect_of};
-ghost use Rattle.gui_core.specs.Machines.{machine_of};
+ghost use Rattle.gui_core.specs.Machines.{machine_of, pending_in};
+ghost use Rattle.gui_damage.specs.Pending.{total};
 ghost use Rattle.gui_edge.specs.Causes.{HasCause};
 ghost use Rattle.gui_edge.specs.Sink.{AppendsPrefix};
 ghost use Rattle.gui_boxes.specs.Scrolls.{span_from};
@@ -11,10 +13,13 @@ ghost use Rattle.line_texts.specs.Quoting.{quoted};
 ghost use Rattle.scene_defs.specs.Edits.{text_at};
 ghost use Rattle.scene_defs.specs.Scene.{is_there};
 ghost use Rattle.scene_defs.specs.Visible.{some_area};
-ghost use Rattle.scene_ask.specs.Asking.{fact_says, answer_words, asked_words, answer_line};
+ghost use Rattle.scene_ask.specs.Asking.{fact_says, answer_words, asked_words, answer_line, is_short};
+ghost use Rattle.scene_ask.specs.Asking.{most_pending};
 ghost use Rattle.scene_ask.specs.Asking.{says_of, handle_says, area_says, counts_say};
 
 use crate::adding::{AnswerLine, push_area, push_count, push_integer, push_quoted, push_span};
+use crate::children::put_children;
+use crate::slots::push_used;
 use arrayvec::ArrayVec;
 use gui_base::{Area, Handle};
 use gui_core::Gui;
@@ -30,22 +35,30 @@ pub fn ask<A: Sink>(
     answers: &mut A,
 ) -> Result<(), Failed>
     ensures ok { OnOk result (Appends (A.state answers.old).held (A.state answers.new).held
-        (answer_line number (machine_of gui.now) question)) }
+        (answer_line number (machine_of gui.now) (total (pending_in gui.now).areas) question)) }
     ensures err { OnErr result (AppendsPrefix (A.state answers.old).held (A.state answers.new).held
-        (answer_line number (machine_of gui.now) question)) }
+        (answer_line number (machine_of gui.now) (total (pending_in gui.now).areas) question)) }
     ensures cause { HasCause (A.state answers.old).faults (A.state answers.new).faults result }
+    ensures few { total (pending_in gui.now).areas ≤ most_pending (machine_of gui.now) }
 {
-    answers.put(answer_text(gui, question, number).as_slice())
+    // It tells how many pixels are pending at most.
+    let pending = gui.pending();
+    match question {
+        Some(Question::Children(h)) => put_children(gui, h, number, answers),
+        _ => answers.put(answer_text(gui, pending, question, number).as_slice()),
+    }
 }
 
-/// The line of an answer.
-fn answer_text(gui: &Gui, question: Option<Question>, number: u32) -> AnswerLine
-    ensures { result.items ≡ answer_line number (machine_of gui.now) question }
+/// The line of an answer whose length has a bound.
+fn answer_text(gui: &Gui, pending: u64, question: Option<Question>, number: u32) -> AnswerLine
+    requires pending { pending ≡ total (pending_in gui.now).areas }
+    requires short { is_short question ≡ true }
+    ensures { result.items ≡ answer_line number (machine_of gui.now) (total (pending_in gui.now).areas) question }
 {
     let mut text = ArrayVec::new();
     push_number(&mut text, number);
     match question {
-        Some(question) => push_answer(&mut text, gui, question),
+        Some(question) => push_answer(&mut text, gui, pending, question),
         None => push_bytes(&mut text, b" unknown"),
     }
     push_bytes(&mut text, b"\n");
@@ -53,9 +66,11 @@ fn answer_text(gui: &Gui, question: Option<Question>, number: u32) -> AnswerLine
 }
 
 /// Adds the words of an answer.
-fn push_answer(text: &mut AnswerLine, gui: &Gui, question: Question)
-    requires { array_vec_len text.old + 2060 ≤ 2100 }
-    ensures items { text.new.items ≡ text.old.items ++ answer_words (machine_of gui.now) question }
+fn push_answer(text: &mut AnswerLine, gui: &Gui, pending: u64, question: Question)
+    requires pending { pending ≡ total (pending_in gui.now).areas }
+    requires short { is_short (Some question) ≡ true }
+    requires room { array_vec_len text.old + 2060 ≤ 2100 }
+    ensures items { text.new.items ≡ text.old.items ++ answer_words (machine_of gui.now) (total (pending_in gui.now).areas) question }
     ensures len { array_vec_len text.new ≤ array_vec_len text.old + 2060 }
 {
     match question {
@@ -68,6 +83,7 @@ fn push_answer(text: &mut AnswerLine, gui: &Gui, question: Question)
                 push_bytes(text, b" none");
             }
         }
+        Question::Children(_) => unreachable!(),
         Question::Active => {
             push_bytes(text, b" active");
             push_count(text, u64::from(gui.store().active().0));
@@ -83,6 +99,14 @@ fn push_answer(text: &mut AnswerLine, gui: &Gui, question: Question)
         Question::Time => {
             push_bytes(text, b" time");
             push_count(text, gui.time());
+        }
+        Question::Used(pool) => {
+            push_bytes(text, b" used");
+            push_used(text, gui, pool);
+        }
+        Question::Pending => {
+            push_bytes(text, b" pending");
+            push_count(text, pending);
         }
     }
 }

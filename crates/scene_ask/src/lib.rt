@@ -3,5 +3,7 @@
 
 mod adding;
 mod asking;
+mod children;
+mod slots;
 
 pub use asking::ask;

@@ -27,8 +27,8 @@ pub adds_still : (old new : Answering) (text : List ℕ) → old.answered ≡ fa
 adds_still old new text was is same = record { adds = λ e. absurd (cc); stays = λ e. (is, same) }
 
 -- nothing is asked
-pub adds_none : (old new : Answering) (number : ℕ) (machine : Machine) (asked : Option (List ℕ)) → None ≡ asked → old.answered ≡ true → new.answered ≡ true → new.answers ≡ old.answers → Adds old new (reply_to number machine asked)
-adds_none old new number machine asked none was is same = rw (← none) (record {
+pub adds_none : (old new : Answering) (number : ℕ) (machine : Machine) (pending : ℕ) (asked : Option (List ℕ)) → None ≡ asked → old.answered ≡ true → new.answered ≡ true → new.answers ≡ old.answers → Adds old new (reply_to number machine pending asked)
+adds_none old new number machine pending asked none was is same = rw (← none) (record {
   adds = λ e. subst (λ (s : SinkState). IsAnswered old.answers s new.answered []) (sym same) (record {
     whole = λ f. Appends-nil old.answers.held;
     part = λ f. absurd (cc);
@@ -39,17 +39,17 @@ adds_none old new number machine asked none was is same = rw (← none) (record 
 })
 
 -- the answer was written
-pub adds_whole : (old new : Answering) (number : ℕ) (machine : Machine) (asked : Option (List ℕ)) (words : List ℕ) → Some words ≡ asked → old.answered ≡ true → new.answered ≡ true →
-    Appends old.answers.held new.answers.held (answer_line number machine (question_said (words_of words))) → old.answers.faults ≤ new.answers.faults → Adds old new (reply_to number machine asked)
-adds_whole old new number machine asked words some was is grows later = rw (← some) (record {
+pub adds_whole : (old new : Answering) (number : ℕ) (machine : Machine) (pending : ℕ) (asked : Option (List ℕ)) (words : List ℕ) → Some words ≡ asked → old.answered ≡ true → new.answered ≡ true →
+    Appends old.answers.held new.answers.held (answer_line number machine pending (question_said (words_of words))) → old.answers.faults ≤ new.answers.faults → Adds old new (reply_to number machine pending asked)
+adds_whole old new number machine pending asked words some was is grows later = rw (← some) (record {
   adds = λ e. record { whole = λ f. grows; part = λ f. absurd (cc); cause = λ f. absurd (cc); later = later };
   stays = λ e. absurd (cc);
 })
 
 -- a write of it failed
-pub adds_part : (old new : Answering) (number : ℕ) (machine : Machine) (asked : Option (List ℕ)) (words : List ℕ) → Some words ≡ asked → old.answered ≡ true → new.answered ≡ false →
-    AppendsPrefix old.answers.held new.answers.held (answer_line number machine (question_said (words_of words))) → Rose old.answers.faults new.answers.faults → old.answers.faults ≤ new.answers.faults → Adds old new (reply_to number machine asked)
-adds_part old new number machine asked words some was is grows rose later = rw (← some) (record {
+pub adds_part : (old new : Answering) (number : ℕ) (machine : Machine) (pending : ℕ) (asked : Option (List ℕ)) (words : List ℕ) → Some words ≡ asked → old.answered ≡ true → new.answered ≡ false →
+    AppendsPrefix old.answers.held new.answers.held (answer_line number machine pending (question_said (words_of words))) → Rose old.answers.faults new.answers.faults → old.answers.faults ≤ new.answers.faults → Adds old new (reply_to number machine pending asked)
+adds_part old new number machine pending asked words some was is grows rose later = rw (← some) (record {
   adds = λ e. record { whole = λ f. absurd (cc); part = λ f. grows; cause = λ f. rose; later = later };
   stays = λ e. absurd (cc);
 })

@@ -42,6 +42,8 @@ module _ (first : Machine) (old : Outside) (start : SinkState) (mid source : Sou
     split = append-nil h.gone.taken;
     all = λ e. sym (take_all max_script h.gone.taken (omega (arith, h.gone.many)));
     halted = λ e. inl refl;
+    pendings = h.heard.pendings;
+    pending = h.heard.pending;
     answers = h.heard.answered;
   }
 
@@ -93,6 +95,8 @@ module _ (first : Machine) (old : Outside) (start : SinkState) (mid source : Sou
         split = take-append-drop max_script (h.gone.taken ++ take count buffer);
         all = λ e. refl;
         halted = λ (e : TooLong ≡ WriteFault). absurd (cc);
+        pendings = (heard_within y hears).pendings;
+        pending = (heard_within y hears).pending;
         answers = (heard_within y hears).answered;
       };
     }
@@ -108,6 +112,8 @@ module _ (first : Machine) (old : Outside) (start : SinkState) (mid source : Sou
         split = parts;
         all = λ e. absurd (e refl);
         halted = λ e. inr (stops.stops.from first old.output h.gone.taken h.gone.read);
+        pendings = (stops.hears.from first old.output start h.gone.taken h.gone.read h.heard).pendings;
+        pending = (stops.hears.from first old.output start h.gone.taken h.gone.read h.heard).pending;
         answers = (stops.hears.from first old.output start h.gone.taken h.gone.read h.heard).answered;
       };
     } where
@@ -126,5 +132,5 @@ pub gone_first : (first : Machine) (source : SourceState) (log : SinkState) (bef
 unfolding gone_start
 gone_first first source log before panel runner is line number frame noted whole still can since asker answers heard all = record {
   gone = gone_start first source log before panel runner is line number frame noted whole still can since;
-  heard = record { line = heard; answered = rw all (answered_none answers) };
+  heard = record { line = heard; pendings = []; pending = record { each = refl; few = tt }; answered = rw all (answered_none answers) };
 }

@@ -3,6 +3,7 @@ use Rattle.std.specs.Prelude.{◌≡◌, ℕ, ◌≤◌, Bool, true, false, nat_
 use Rattle.std.specs.Prelude.{Some, None}
 use Rattle.std.specs.declared.option.Option.{Option}
 use Rattle.std.specs.Io.KnownBytes.{Appends}
+use Rattle.std.specs.List.{AllByRecursion}
 use Rattle.gui_edge.specs.Causes.{Rose}
 use Rattle.gui_edge.specs.Sink.{SinkState, AppendsPrefix}
 use Rattle.run_defs.specs.Language.{words_of}
@@ -13,28 +14,36 @@ use Rattle.scene_script.specs.Cutting.{Cutting, HasTaken}
 use Rattle.scene_script.specs.Questions.{asked_in, question_said}
 use Rattle.scene_script.specs.declared.cutter.Cut.{Cut}
 use Rattle.scene_script.specs.declared.cutter.Cut.TheVariants.{More, Line, Long}
-use Rattle.scene_ask.specs.Asking.{answer_line}
+use Rattle.scene_ask.specs.Asking.{answer_line, most_pending}
 use Rattle.scene_host.specs.declared.asker.Asker.{Asker}
 
--- what is answered at a line of this number, by the words of a question, where it asks one
-abbrev pub reply_to : ℕ → Machine → Option (List ℕ) → List ℕ
-reply_to number machine None = []
-reply_to number machine (Some words) = answer_line number machine (question_said (words_of words))
+-- what is answered at a line of this number, where so many pixels are pending, by the words of a question, where it
+-- asks one
+abbrev pub reply_to : ℕ → Machine → ℕ → Option (List ℕ) → List ℕ
+reply_to number machine pending None = []
+reply_to number machine pending (Some words) = answer_line number machine pending (question_said (words_of words))
 
 -- what is answered to a line that a newline ended
-abbrev pub answer_to : Moment → List ℕ → List ℕ
-answer_to now line =
+abbrev pub answer_to : Moment → ℕ → List ℕ → List ℕ
+answer_to now pending line =
     if nat_lt max_line (length line) then []
-    else reply_to now.number now.machine (asked_in (without_return line))
+    else reply_to now.number now.machine pending (asked_in (without_return line))
 
--- the answers to lines, each at the moment after the lines before it
-abbrev pub answers_of : Moment → List (List ℕ) → List ℕ
-answers_of now [] = []
-answers_of now (line ∷ lines) = answer_to now line ++ answers_of (after now (ended_says line)) lines
+-- the answers to lines, each at the moment after the lines before it, and each with how many pixels are pending at it
+abbrev pub answers_of : Moment → List ℕ → List (List ℕ) → List ℕ
+answers_of now [] lines = []
+answers_of now (pending ∷ pendings) [] = []
+answers_of now (pending ∷ pendings) (line ∷ lines) =
+    answer_to now pending line ++ answers_of (after now (ended_says line)) pendings lines
 
 -- the answers to the questions in these bytes, in order. A question that no newline ends is none
-abbrev pub answers_to : Machine → List ℕ → List ℕ
-answers_to first bytes = answers_of (first_moment first) (lines_of bytes)
+abbrev pub answers_to : Machine → List ℕ → List ℕ → List ℕ
+answers_to first pendings bytes = answers_of (first_moment first) pendings (lines_of bytes)
+
+-- a number of pixels for each line in these bytes
+pub record ArePending (first : Machine) (pendings bytes : List ℕ) : Type 0 where
+  pub each : length pendings ≡ length (lines_of bytes)
+  pub few : AllByRecursion (λ n. n ≤ most_pending first) pendings
 
 -- what the line asks that a cutter's last answer made whole, if it made one
 abbrev pub asks_by : Cut → Option (List ℕ) → Option (List ℕ)
@@ -70,4 +79,7 @@ pub record Adds (old new : Answering) (text : List ℕ) : Type 0 where
 -- These bytes were heard from the start on, and their questions answered.
 pub record HasHeard (first : Machine) (start : SinkState) (now : Answering) (bytes : List ℕ) : Type 0 where
   pub line : HasTaken now.cutter bytes
-  pub answered : IsAnswered start now.answers now.answered (answers_to first bytes)
+  -- how many pixels were pending at each line
+  pub pendings : List ℕ
+  pub pending : ArePending first pendings bytes
+  pub answered : IsAnswered start now.answers now.answered (answers_to first pendings bytes)

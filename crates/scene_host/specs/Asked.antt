@@ -11,7 +11,7 @@ use Rattle.scene_run.specs.Headline.{Outside, Runs}
 use Rattle.scene_run.specs.Running.{Reading, HasRead, Stops, Gone}
 use Rattle.scene_run.specs.declared.status.Status.{Status}
 use Rattle.scene_run.specs.declared.status.Status.TheVariants.{WriteFault, PanelFault, NoMemory}
-use Rattle.scene_host.specs.Answering.{IsAnswered, Answering, HasHeard, answers_to}
+use Rattle.scene_host.specs.Answering.{IsAnswered, Answering, ArePending, HasHeard, answers_to}
 
 -- What was answered to the bytes that were taken, by how the run ended. `answered` tells whether each write of
 -- an answer was done.
@@ -25,8 +25,11 @@ pub record Heard (first : Machine) (old new : Outside) (start end : SinkState) (
   pub all : status ≢ WriteFault → bytes ≡ take max_script taken
   -- and then they reach to the line of which it failed
   pub halted : status ≡ WriteFault → (bytes ≡ taken) ⊎ Halted first old.output new.output (says_cut bytes)
+  -- how many pixels were pending at each of their lines
+  pub pendings : List ℕ
+  pub pending : ArePending first pendings bytes
   -- the answers to their questions were written, or where that failed a prefix of them
-  pub answers : IsAnswered start end answered (answers_to first bytes)
+  pub answers : IsAnswered start end answered (answers_to first pendings bytes)
 
 -- A script was read and answered, from this machine on, and its questions too.
 pub record RunsAsked (first : Machine) (old new : Outside) (start end : SinkState) (answered : Bool)

@@ -1,6 +1,8 @@
 //! Hears the questions of a script, and has them answered.
-ghost use Rattle.std.specs.Prelude.{◌≡◌, [], true, false, option_map};
-ghost use Rattle.gui_core.specs.Machines.{machine_of};
+ghost use Rattle.std.specs.Prelude.{◌≡◌, ◌≤◌, [], true, false, is_some, option_map};
+ghost use Rattle.gui_core.specs.Machines.{machine_of, pending_in};
+ghost use Rattle.gui_damage.specs.Pending.{total};
+ghost use Rattle.scene_ask.specs.Asking.{most_pending};
 ghost use Rattle.scene_script.specs.Cutting.{HasTaken, pushed};
 ghost use Rattle.scene_host.specs.Answering.{answering, cut_asks, reply_to, Adds};
 
@@ -43,7 +45,9 @@ impl Asker {
     pub(crate) fn hear<A: Sink>(&mut self, byte: u8, gui: &Gui, number: u32, answers: &mut A)
         ensures line { self.new.cutter ≡ pushed self.old.cutter byte }
         ensures adds { Adds (answering self.old (A.state answers.old)) (answering self.new (A.state answers.new))
-            (reply_to number (machine_of gui.now) (cut_asks self.new.cutter)) }
+            (reply_to number (machine_of gui.now) (total (pending_in gui.now).areas) (cut_asks self.new.cutter)) }
+        ensures few { self.old.answered ≡ true → is_some (cut_asks self.new.cutter) ≡ true →
+            total (pending_in gui.now).areas ≤ most_pending (machine_of gui.now) }
     {
         let cut = self.cutter.push(byte);
         if !self.answered {

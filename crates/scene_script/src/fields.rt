@@ -9,11 +9,12 @@ ghost use Rattle.run_defs.specs.Commands.{color_value, align_value, value_for};
 ghost use Rattle.run_defs.specs.Fields.{number_in, count_in, name_in, value, past, value_or, with_fault};
 ghost use Rattle.run_defs.specs.Fields.{next_of, after_next, fields, start, ended};
 ghost use Rattle.run_defs.specs.Language.{first_fault, words_of};
-ghost use Rattle.scene_script.specs.Questions.{said_or_none};
+ghost use Rattle.scene_script.specs.Questions.{pools, said_or_none};
 
 use crate::aims::aim;
 use crate::lengths::length;
 use crate::numbers::{bytes, code, color, count, number, number_above, offset, small};
+use crate::pool_names::pools;
 use crate::repeats::repeat;
 use crate::selectors::selector;
 use crate::texts::text;
@@ -23,8 +24,8 @@ use gui_base::intervals::{Count, GLYPH_OFFSET, HANDLE, Interval, NEW_HANDLE, TUR
 use gui_base::props::PROPS;
 use gui_base::words::{ALIGNS, FLOWS, STATES, TEXT_ALIGNS};
 use gui_base::{
-    Aim, Align, EventKind, Flow, Handle, Key, Length, Part, Path, Prop, Selector, State, TextAlign,
-    Var, named,
+    Aim, Align, EventKind, Flow, Handle, Key, Length, Part, Path, Pool, Prop, Selector, State,
+    TextAlign, Var, named,
 };
 use run_defs::{ACTIONS, ActionName, Line, LineFault};
 use scene_defs::{RowBytes, Text};
@@ -309,6 +310,16 @@ impl<'a> Fields<'a> {
         ensures state { self.new ≡ past property self.old }
     {
         self.name(&PROPS, Prop::BgColor)
+    }
+
+    /// A pool, or where no word is left all of them.
+    #[tactic(auto, unfolding(run_defs::specs::Fields::value, run_defs::specs::Fields::past))]
+    pub(crate) fn pools(&mut self) -> Option<Pool>
+        ensures value { result ≡ value pools self.old }
+        ensures state { self.new ≡ past pools self.old }
+    {
+        let word = self.word();
+        self.note(pools(word), None)
     }
 
     /// A part and states.

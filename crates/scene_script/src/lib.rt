@@ -14,6 +14,7 @@ mod made;
 mod maker;
 mod numbers;
 mod parse;
+mod pool_names;
 pub mod questions;
 mod repeats;
 mod says;

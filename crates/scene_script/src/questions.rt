@@ -8,7 +8,7 @@ use crate::fields::Fields;
 use crate::words::next_word;
 use gui_base::intervals::{COORDINATE, GROUP};
 use gui_base::words::PARTS;
-use gui_base::{Handle, Part, Prop, named};
+use gui_base::{Handle, Part, Pool, Prop, named};
 
 /// What is asked of one object.
 #[derive(Clone, Copy)]
@@ -38,6 +38,8 @@ pub enum Question {
     Of(Fact, Handle),
     /// The value of a property of a part of an object, in the states that it is in.
     Property(Handle, Part, Prop),
+    /// The children of an object, in their order.
+    Children(Handle),
     /// The screen that is shown.
     Active,
     /// Which object a press at a pixel hits.
@@ -46,6 +48,10 @@ pub enum Question {
     Focused(u8),
     /// The time in milliseconds.
     Time,
+    /// How many slots of a pool are in use, or of each of them.
+    Used(Option<Pool>),
+    /// How many pixels are pending, those of each listed area by themselves.
+    Pending,
 }
 
 /// The name of a question.
@@ -53,14 +59,17 @@ pub enum Question {
 pub enum QuestionName {
     Of(Fact),
     Property,
+    Children,
     Active,
     Hit,
     Focused,
     Time,
+    Used,
+    Pending,
 }
 
 /// The names of all questions.
-pub const QUESTIONS: [(&'static str, QuestionName); 13] = [
+pub const QUESTIONS: [(&'static str, QuestionName); 16] = [
     ("value", QuestionName::Of(Fact::Value)),
     ("states", QuestionName::Of(Fact::States)),
     ("flags", QuestionName::Of(Fact::Flags)),
@@ -70,10 +79,13 @@ pub const QUESTIONS: [(&'static str, QuestionName); 13] = [
     ("offset", QuestionName::Of(Fact::Offset)),
     ("reach", QuestionName::Of(Fact::Reach)),
     ("property", QuestionName::Property),
+    ("children", QuestionName::Children),
     ("active", QuestionName::Active),
     ("hit", QuestionName::Hit),
     ("focused", QuestionName::Focused),
     ("time", QuestionName::Time),
+    ("used", QuestionName::Used),
+    ("pending", QuestionName::Pending),
 ];
 
 /// What a line asks, where it begins as a question does: the bytes behind `#?`. Such a line is a comment.
@@ -110,10 +122,13 @@ fn question_by(name: QuestionName, line: &mut Fields) -> Question
             line.name(&PARTS, Part::Main),
             line.property(),
         ),
+        QuestionName::Children => Question::Children(line.handle()),
         QuestionName::Active => Question::Active,
         QuestionName::Hit => Question::Hit(line.number(COORDINATE), line.number(COORDINATE)),
         QuestionName::Focused => Question::Focused(line.small(GROUP)),
         QuestionName::Time => Question::Time,
+        QuestionName::Used => Question::Used(line.pools()),
+        QuestionName::Pending => Question::Pending,
     }
 }
 

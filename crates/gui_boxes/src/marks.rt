@@ -1,5 +1,5 @@
 //! Objects that are marked.
-ghost use Rattle.std.specs.Prelude.{◌≡◌, ◌≤◌, ◌<◌, ◌+◌, [], ℕ, true, false, eqb, length, not, ◌&&◌, if◌then◌else◌, IfOk, vec_capacity};
+ghost use Rattle.std.specs.Prelude.{◌≡◌, ◌≤◌, ◌<◌, ◌+◌, [], ◌∷◌, ℕ, true, false, eqb, length, not, ◌&&◌, if◌then◌else◌, IfOk, vec_capacity};
 ghost use Rattle.gui_boxes.specs.Listing.{HasThese};
 ghost use Rattle.gui_boxes.specs.Pending.{AreMarks};
 
@@ -115,6 +115,20 @@ impl Marks {
         ensures most { most_marks self.new ≡ most_marks self.old }
     {
         self.solved.clear();
+    }
+
+    /// All marks are let go for a change that leaves settled places as they are, and one object is told as if it were
+    /// solved: it alone was marked.
+    pub fn solve_one(&mut self, h: Handle)
+        requires room { 0 < most_marks self.old }
+        ensures solved { solved_in self.new ≡ h ∷ [] }
+        ensures empty { (k : ℕ) → is_marked self.new k ≡ false }
+        ensures count { mark_count self.new ≡ 0 }
+        ensures most { most_marks self.new ≡ most_marks self.old }
+    {
+        self.solved.clear();
+        self.solved.push_reserved(h);
+        clear_marks(&mut self.pending, &mut self.listed);
     }
 }
 

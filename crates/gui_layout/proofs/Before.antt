@@ -208,13 +208,13 @@ right_unmarked p scene w m c none =
     }
 
 -- Trees that fit part by part.
-fit-part : (known : ℕ → Known) {f g : Forest ℕ} → IsPart f g → AllFit (map_forest known f) → AllFit (map_forest known g)
+pub fit-part : (known : ℕ → Known) {f g : Forest ℕ} → IsPart f g → AllFit (map_forest known f) → AllFit (map_forest known g)
 fit-part known whole fit = fit
 fit-part known (below part) fit = fit-part known part fit.1
 fit-part known (beside part) fit = fit-part known part fit.2
 
 -- an object that has nothing above it is a root
-root-of : (k : ℕ) (above : Option ℕ) (f : Forest ℕ) → has f k ≡ true → parent_by (is_at k) above f ≡ None → is_root k f ≡ true
+pub root-of : (k : ℕ) (above : Option ℕ) (f : Forest ℕ) → has f k ≡ true → parent_by (is_at k) above f ≡ None → is_root k f ≡ true
 root-of k above Empty there none = there
 root-of k above (Tree h cs rest) there none = elim (cases_Bool (eqb h k)) [
   | inl is ↦ or_left (eqb h k) (is_root k rest) is
@@ -234,7 +234,7 @@ root-of k above (Tree h cs rest) there none = elim (cases_Bool (eqb h k)) [
       ]
     ]
 
-fill-at : (width height k : ℕ) (known : ℕ → Known) (f : Forest ℕ) → is_root k f ≡ true → AllFill width height (roots (map_forest known f)) → FillsPanel width height (known k)
+pub fill-at : (width height k : ℕ) (known : ℕ → Known) (f : Forest ℕ) → is_root k f ≡ true → AllFill width height (roots (map_forest known f)) → FillsPanel width height (known k)
 fill-at width height k known Empty is fill = absurd (false≢true is)
 fill-at width height k known (Tree h cs rest) is fill = elim (cases_Bool (eqb h k)) [
   | inl same ↦ subst (λ j. FillsPanel width height (known j)) (eqb-true h k same) fill.0

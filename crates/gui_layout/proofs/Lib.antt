@@ -9,6 +9,7 @@ pub mod Closing
 pub mod ClosedUp
 pub mod Entering
 pub mod Grades
+pub mod Kept
 pub mod LetGo
 pub mod Marking
 pub mod NaturalSizes

@@ -29,7 +29,7 @@ kids_height-seen Free box width room kids = rw map-map refl
 kids_height-seen Across box width room kids = rw map-map refl
 kids_height-seen Down box width room kids = rw map-map refl
 
-natural_height-seen : (box : Box) (width : ℕ) (kids : List Tall) → natural_height (fixed_at width box) width (map but_height_tall kids) ≡ natural_height box width kids
+pub natural_height-seen : (box : Box) (width : ℕ) (kids : List Tall) → natural_height (fixed_at width box) width (map but_height_tall kids) ≡ natural_height box width kids
 natural_height-seen box width kids =
     rw (taking_part-map tall_box but_height_tall (λ k. refl) kids, kids_height-seen (course_of box.flow) box width (inner box.across width) (taking_part tall_box kids)) refl
 

@@ -11,5 +11,6 @@ pub mod Raised
 pub mod Settles
 pub mod Tops
 pub mod SettledBut
+pub mod Kept
 pub mod Laws
 pub mod Calm

@@ -16,6 +16,7 @@
 
 mod all;
 mod around;
+mod keeping;
 pub mod laws;
 mod lone;
 mod looks;

@@ -42,6 +42,7 @@ ghost use Rattle.gui_boxes.specs.Tables.{AreListed, IsListed, listing_of, touche
 
 use crate::all::solve_trees;
 use crate::around::{renew_all_there, renew_around};
+use crate::keeping::{keeps, only};
 use crate::lone::lone_child;
 use crate::looks::{look_in, paint_look_in};
 use crate::objects::box_in;
@@ -322,6 +323,25 @@ impl Places {
     {
         let lone = lone_child(store.tree(), &self.entries, marks.listed.as_slice());
         self.settle_marks(store, marks, lone);
+    }
+
+    /// The one marked object where nothing is to be solved for it: it has a parent and no children, and its box and its
+    /// natural sizes are what they were, but for its own height. Places that were settled for an earlier scene, from
+    /// which this one differs in what is marked alone, stay so.
+    pub fn keeps(&self, store: &Store, marks: &Marks) -> Option<Handle>
+        ensures settled { IfSome result (λ h.
+            WereSettled self.now (scene_of store.now) (is_changed marks.now) (is_parent marks.now) →
+            AreSettled self.now (scene_of store.now)) }
+        ensures there { IfSome result (λ h. is_there (scene_of store.now) h.0 ≡ true) }
+        ensures alone { IfSome result (λ h. (k : ℕ) → is_marked marks.now k ≡ true → k ≡ h.0) }
+        ensures room { IfSome result (λ h. 0 < most_marks marks.now) }
+    {
+        let h = only(marks.listed.as_slice())?;
+        if is_pending(&marks.pending, h) && keeps(store.tree(), &self.entries, store, h) {
+            Some(h)
+        } else {
+            None
+        }
     }
 
     /// Whether places that were settled stay so where the children of an object stand in another order, and

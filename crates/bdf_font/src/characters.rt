@@ -8,8 +8,8 @@ ghost use Rattle.std.specs.Prelude.{◌≡◌, ◌<◌, ◌&&◌, ◌+ℤ◌, If
 use gui_base::intervals::{ADVANCE, CODE, GLYPH_HEIGHT, GLYPH_OFFSET, GLYPH_WIDTH};
 use text_defs::GlyphBox;
 
-/// Where a box of pixels stands: its width, its height, how far its left edge is right of the point at which a
-/// character begins, and how far its lower edge is above the line on which it stands.
+/// Where a box of pixels stands: its width, its height, and two offsets. Its left edge is so far right of the
+/// point at which a character begins, and its lower edge so far above the line on which it stands.
 #[derive(Clone, Copy, Debug, PartialEq, Eq)]
 pub struct Extents {
     pub w: i32,
@@ -29,7 +29,7 @@ pub struct Character {
     pub shape: Extents,
 }
 
-/// The code and the box of the glyph that a character makes, where its numbers lie in the intervals of a glyph.
+/// The code and the box of the glyph that a character makes, if its numbers lie in the intervals of a glyph.
 pub(crate) fn glyph_of(character: &Character) -> Option<(u32, GlyphBox)>
     ensures glyph { result ≡ glyph_of character.now }
     ensures code { IfSome result (λ glyph. glyph.0 < 1114112) }

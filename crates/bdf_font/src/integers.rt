@@ -27,7 +27,7 @@ pub(crate) fn integer(word: &[u8], most: i32) -> Option<i32>
     Some(n as i32)
 }
 
-/// The number of a word, brought to the nearer end of -2^32 to 2^32 where it is outside.
+/// The number of a word, brought to the nearer end of -2^32 to 2^32 if it is outside.
 fn capped_integer(word: &[u8]) -> Option<i64>
     ensures { result ≡ option_map capped (integer_of word.now) }
 {
@@ -57,7 +57,7 @@ fn are_digits(bytes: &[u8]) -> bool
     bytes.iter().all(|b| b.is_ascii_digit())
 }
 
-/// What digits come to, or 2^32 where that is more.
+/// What digits come to, or 2^32 if that is more.
 fn capped_value(digits: &[u8]) -> i64
     ensures { result ≡ pos (min (value_of digits.now) beyond) }
 {

@@ -16,8 +16,8 @@ pub fn font_lines_ask()
     ensures { LinesAsk }
 {}
 
-/// Where bytes are no font, the number is that of the first line at which the lines so far begin none: those
-/// before it can go on to be one. It follows the last line where only the end is missing.
+/// If bytes are no font, the number is that of the first line at which the lines so far begin none: those
+/// before it can go on to be one. It follows the last line if only the end is missing.
 #[tactic(auto, using(crate::proofs::Beginnings::bad_line_is_first))]
 pub fn bad_line_is_first()
     ensures { BadLineIsFirst }

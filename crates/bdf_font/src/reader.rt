@@ -25,7 +25,7 @@ const MOST_CODE: i32 = 2_147_483_647;
 pub(crate) struct Reader {
     pub(crate) phase: Phase,
     pub(crate) bounds: Option<Extents>,
-    // Of the character that is read: its code, its advance and its box, where they were given, and the digits of
+    // Of the character that is read: its code, its advance and its box, if they were given, and the digits of
     // its rows so far.
     code: Option<i32>,
     advance: Option<i32>,
@@ -246,7 +246,7 @@ impl Reader {
         Ok(true)
     }
 
-    /// The character that is read, where the font has a box and the character its code and its box.
+    /// The character that is read, if the font has a box and the character its code and its box.
     fn character(&self) -> Option<Character>
         ensures { result ≡ character_of self.now }
     {

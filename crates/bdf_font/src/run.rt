@@ -27,7 +27,7 @@ pub enum BdfStatus {
     /// The source has more than 16,777,216 bytes.
     TooLong,
     /// The bytes are no font. This is the first line at which they are none, counted from 1; it is the number
-    /// after the last line where only the end is missing.
+    /// after the last line if only the end is missing.
     Bad { line: u32 },
 }
 
@@ -62,7 +62,7 @@ pub fn run_bdf<S: Source, O: Sink>(
         (λ number. Translates (font_text number) (streams (S.state source.old) (O.state out.old))
         (streams (S.state source.new) (O.state out.new)) (ending result)) }
 
-    // Where the words are no number nothing is touched.
+    // If the words are no number, nothing is touched.
     ensures unread { result ≡ BdfStatus.Usage → source.new ≡ source.old }
     ensures unwritten { result ≡ BdfStatus.Usage → out.new ≡ out.old }
 {
@@ -86,7 +86,7 @@ pub fn run_bdf<S: Source, O: Sink>(
     }
 }
 
-/// The number of a font, from 1 to 99, where the words are one.
+/// The number of a font, from 1 to 99, if the words are one.
 fn font_number(words: &[&str]) -> Option<u8>
     ensures { result ≡ font_number (map (λ w. w.now) words.now) }
 {

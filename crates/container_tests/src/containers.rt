@@ -101,7 +101,7 @@ impl NineOwners<u32> {
         [first, second, items.next().copied()]
     }
 
-    /// The same, by their places.
+    /// The first three values of an owner, each found by its place.
     fn placed(&self, owner: u32) -> [Option<u32>; 3] {
         if owner >= KEYS {
             return [None; 3];

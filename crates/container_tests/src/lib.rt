@@ -1,5 +1,5 @@
 //! Tests over the public calls of the containers and the tree. Tests have crates of their own, so that each
-//! crate is proved once, and are cheap to prove only where they are few.
+//! crate is proved once, and are cheap to prove only if they are few.
 #![tactic(auto)]
 
 #[cfg(test)]

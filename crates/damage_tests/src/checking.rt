@@ -6,9 +6,9 @@ use gui_color::DrawBuf;
 use gui_edge::{Failed, OpenFault, Panel, Polled};
 use std::alloc::Global;
 
-/// Hands each call on to a panel, and counts what must not be: a buffer is started while another is in flight,
-/// or with an area that is empty, too large or not in the panel; a poll or a frame at the wrong time; another
-/// buffer is handed back.
+/// Hands each call on to a panel, and counts what must not be. A buffer must not start while another is in
+/// flight, nor with an area that is empty, too large or not in the panel. No poll and no frame may come at the
+/// wrong time, and no other buffer may be handed back.
 #[derive(Drop)]
 pub(crate) struct Checking<P: Panel> {
     pub(crate) panel: P,
@@ -33,7 +33,7 @@ impl<P: Panel> Checking<P> {
     }
 }
 
-/// A count, and one more where something is not so.
+/// A count, and one more if something is not so.
 fn with_broken(count: u32, is_so: bool) -> u32 {
     if is_so {
         count

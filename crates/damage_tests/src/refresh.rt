@@ -53,8 +53,8 @@ fn check_white(rt: &impl Abort, panel: &SimPanel<MemSink>)
     }
 }
 
-/// Refreshes a panel of four by three pixels in slices of a line, where the start of a number fails, and then
-/// once more.
+/// Refreshes a panel of four by three pixels in slices of a line, if the start of a number fails, and then once
+/// more.
 fn refresh_twice<L: Ledger>(
     rt: &impl Abort,
     alloc: Global,

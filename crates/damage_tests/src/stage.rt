@@ -29,7 +29,7 @@ pub(crate) struct Stage<P: Panel, L: Ledger> {
 }
 
 impl<P: Panel + Drop, L: Ledger> Drop for Stage<P, L> {
-    /// Lets go of all that it holds. Who owns one calls this, where each field by itself would be dear to prove.
+    /// Lets go of every field in one call, which keeps the proofs of its owners short.
     fn drop(self) {
         let Stage {
             refresher: _,

@@ -46,7 +46,8 @@ fn show<P: Panel>(alloc: Global, panel: &mut P, first: DrawBuf, second: DrawBuf)
     }
 }
 
-/// The same on a turn with the call of this number failing, and the file that was presented.
+/// Shows two lines and presents them on a panel with this turn, whose bus fails at the call of this number. The
+/// values are how many of the four calls came through, and the file that was presented.
 fn shown(alloc: Global, turn: u8, call: u64) -> Result<(u8, MemSink), Fail>
     requires { turn ≤ 3 }
 {
@@ -59,8 +60,8 @@ fn shown(alloc: Global, turn: u8, call: u64) -> Result<(u8, MemSink), Fail>
     Ok((came, frames))
 }
 
-/// On a turn with the call of this number failing so many of the four come through, and the file is presented only where
-/// all do.
+/// On a turn with the call of this number failing so many of the four come through, and the file is presented
+/// only if all do.
 fn try_frame(rt: &impl Abort, alloc: Global, turn: u8, call: u64, expected: u8) -> Result<(), Fail>
     requires { turn ≤ 3 }
 {

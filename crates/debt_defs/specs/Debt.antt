@@ -7,10 +7,12 @@ use Rattle.gui_base.specs.Area.{Rect, size_of}
 use Rattle.debt_defs.specs.SceneLook.{SceneLook, is_among}
 use Rattle.debt_defs.specs.Same.{same_visible, same_by}
 
+-- whether h is what a change names
 abbrev pub is_named : Option ℕ → ℕ → Bool
 is_named None h = false
 is_named (Some n) h = n == h
 
+-- the area as a list, empty where nothing is seen
 abbrev pub listed : Option Rect → List Rect
 listed None = []
 listed (Some area) = area ∷ []

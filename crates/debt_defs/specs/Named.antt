@@ -7,6 +7,7 @@ use Rattle.debt_defs.specs.declared.subject.Subject.TheVariants.{Own, Spread, St
 use Rattle.debt_defs.specs.declared.subject.Subject.TheVariants.{Goes, Moves, Among, Loads, Nobody}
 use Rattle.debt_defs.specs.Subject.{subject_of}
 
+-- the handle that a subject names first, if it names one
 abbrev pub names_first : Subject → Option ℕ
 names_first (Own h) = Some h.0
 names_first (Spread h) = Some h.0

@@ -12,9 +12,11 @@ use Rattle.widget_defs.specs.declared.ItemPaint.{ItemPaint}
 use Rattle.widget_defs.specs.declared.ItemPaint.TheVariants.{Fill, Ring, Ink, Picture}
 use Rattle.widget_defs.specs.Items.{Item}
 
+-- whether two areas have the same corners
 abbrev pub same_corners : Rect → Rect → Bool
 same_corners a b = (int_eq a.x1 b.x1 && int_eq a.y1 b.y1) && (int_eq a.x2 b.x2 && int_eq a.y2 b.y2)
 
+-- whether two areas have the same pixels
 abbrev pub same_area : Rect → Rect → Bool
 same_area a b = (is_empty a && is_empty b) || same_corners a b
 
@@ -25,9 +27,11 @@ same_visible None (Some b) = false
 same_visible (Some a) None = false
 same_visible (Some a) (Some b) = same_corners a b
 
+-- whether two colours are the same
 abbrev pub same_color : Rgb565 → Rgb565 → Bool
 same_color a b = a.0 == b.0
 
+-- whether two alignments of a text are the same
 abbrev pub same_align : TextAlign → TextAlign → Bool
 same_align a b = sameb text_align.the_type a b
 
@@ -45,6 +49,7 @@ same_paint (Ink l c m) (Ink k d n) = same_look l k && (same_color c d && (m == n
 same_paint (Picture i c m) (Picture j d n) = (i == j) && (same_color c d && (m == n))
 same_paint a b = false
 
+-- whether two items paint the same on the same area
 abbrev pub same_item : Item → Item → Bool
 same_item a b = same_area a.area b.area && same_paint a.paint b.paint
 

@@ -21,6 +21,7 @@ use Rattle.debt_defs.specs.Named.{named}
 abbrev pub dab_at : ℤ → ℤ → Coat → Option Dab
 dab_at x y coat = coat x y
 
+-- what is seen of a scene
 abbrev pub look_of : Scene → SceneLook Item
 look_of scene = record {
   order = order scene;
@@ -46,6 +47,7 @@ touched_areas_by (Some refusal) scene change = []
 touched_areas_by None scene change =
     touched_areas same_item (named change) (look_of scene) (look_of (scene_after scene change))
 
+-- where the objects that a change of a scene touches are seen
 abbrev pub touched_areas_of : Scene → Change → List Rect
 touched_areas_of scene change = touched_areas_by (answer_of scene change) scene change
 

@@ -16,16 +16,16 @@ mod subject;
 
 pub use subject::{Reach, Subject};
 
-/// A pixel that no area of the debt of a change has keeps its paint. It holds for any look of scenes whose
-/// objects keep their order but for what is seen inside the named one.
+/// A pixel keeps its paint if no area of a change's debt has it. It holds for any look of scenes whose objects
+/// keep their order but for what is seen inside the named one.
 pub fn debt_holds_all_that_changes()
     ensures scenes { FrameOfScenes }
     ensures looks { FrameOfLooks Item }
     ensures painted { PaintedByLook }
 {}
 
-/// What a change neither names nor moves along with it keeps its order in the paint. Where a change leaves
-/// the trees, all does. An object is seen only inside of what is seen of those above it.
+/// What a change neither names nor moves along with it keeps its order in the paint. If a change leaves the
+/// trees, all does. An object is seen only inside of what is seen of those above it.
 pub fn others_keep_their_order()
     ensures others { OthersKeepOrder }
     ensures setters { SettersKeepOrder }
@@ -47,9 +47,8 @@ pub fn worked_examples()
     ensures scrolling { ScrollingIsWorked }
 {}
 
-/// Why no part of a debt may be left out. Each of these debts would miss a pixel that a change paints: that
-/// of the new places alone, of the named object alone, of one user of a style, and of objects that differ
-/// alone.
+/// Why no part of a debt may be left out. Each of these lesser debts would miss a pixel that a change paints:
+/// the new places alone, the named object alone, one user of a style, and the objects that differ alone.
 pub fn less_is_too_little()
     ensures { TooLittleIsOwed }
 {}

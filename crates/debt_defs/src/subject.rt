@@ -16,7 +16,7 @@ pub enum Reach {
 pub enum Subject {
     /// What this object has by itself: its row, or its text.
     Own(Handle),
-    /// What this object has, and what all below it go by.
+    /// What this object has, and what all below it depend on.
     Spread(Handle),
     /// What styles give to this object.
     Styled(Handle, Reach),

@@ -140,7 +140,7 @@ pub(crate) fn first_number(rt: &impl Abort, alloc: Global, items: &[Item<'_>]) -
     number_at(buf.pixels(), 0)
 }
 
-/// The number of the colour at a place: 0 where there is none.
+/// The number of the colour at a place: 0 if there is none.
 pub(crate) fn number_at(colors: &[Rgb565], i: usize) -> u16 {
     if i < colors.len() { colors[i].0 } else { 0 }
 }

@@ -62,7 +62,7 @@ fn images_stand_at_the_top_left_of_their_area(rt: HostRuntime) {
     }
 }
 
-/// An image over all pixels with an opacity; where it has no colours it is red.
+/// An image over all pixels with an opacity; if it has no colours it is red.
 fn image(images: &Images, id: u16, opa: u8) -> Item<'_> {
     Item {
         shape: Shape::Image { images, id },

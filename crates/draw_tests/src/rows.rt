@@ -75,7 +75,7 @@ fn is_filled(len: usize, opa: u8) -> bool
     true
 }
 
-/// The same of a row under bits, from the fourth on.
+/// Whether `mask_row` mixes those pixels of a row whose bits are 1, counted from the fourth bit, and no others.
 fn is_masked(len: usize, opa: u8) -> bool
     requires { len ≤ 300 }
 {
@@ -97,7 +97,8 @@ fn is_masked(len: usize, opa: u8) -> bool
     true
 }
 
-/// The same of colours, each with an opacity of its own.
+/// Whether `mix_row` mixes a row of colours over another, each with an opacity of its own, and nothing behind
+/// it.
 fn is_mixed(len: usize) -> bool
     requires { len ≤ 300 }
 {

@@ -3,7 +3,7 @@ use crate::checks::same;
 use gui_base::{Handle, Pool, Refusal};
 use gui_event::Groups;
 
-/// Joins a group where there is room.
+/// Joins a group if there is room.
 fn join(groups: &mut Groups, id: u8, h: u16) -> Result<(), Refusal> {
     if groups.spare_members() == 0 {
         return Err(Refusal::Long);
@@ -11,7 +11,7 @@ fn join(groups: &mut Groups, id: u8, h: u16) -> Result<(), Refusal> {
     groups.join(id, Handle(h))
 }
 
-/// The member to which the focus of group 1 moves, where one object is not usable.
+/// The member to which the focus of group 1 moves, if one object is not usable.
 fn moves(groups: &Groups, forwards: bool, unusable: u16) -> Option<u16> {
     let next = if forwards {
         groups.focus_next(1, |h| h.0 != unusable)

@@ -156,7 +156,7 @@ fn items_go_on_in_tracks(rt: HostRuntime) {
     assert_eq!(rt; measure(&items, false, 10, 1), (1, 3));
     lay_out(&mut items, true, by(Placing::SpaceBetween, Placing::End), 1);
     assert!(rt; stand(&items, &[(0, 4), (6, 4), (0, 4)]) && stand_across(&items, &[3, 3, 8]));
-    // What grows counts as nothing where tracks are filled.
+    // What grows counts as nothing if tracks are filled.
     let mut items = [item(4, 1, 1), item(8, 1, 0), item(3, 1, 0)];
     lay_out(&mut items, true, by(Placing::Start, Placing::Start), 0);
     assert!(rt; stand(&items, &[(0, 2), (2, 8), (0, 3)]) && stand_across(&items, &[0, 0, 3]));

@@ -12,7 +12,7 @@ const ONE_GLYPH: &[u8] =
 
 const ITS_LINES: &[u8] = b"font 1 5 3\nglyph 1 65 4 3 4 0 0 40A0E0A0\nendfont 1\n# left out 0\n";
 
-/// The same without the last of its rows.
+/// The font of one glyph without the last row of its bitmap.
 const ROW_MISSING: &[u8] =
     b"STARTFONT 2.1\nFONTBOUNDINGBOX 3 5 0 -1\nCHARS 1\nSTARTCHAR A\nENCODING 65\nDWIDTH 4 0\n\
     BBX 3 4 0 0\nBITMAP\n40\nA0\nE0\nENDCHAR\nENDFONT\n";

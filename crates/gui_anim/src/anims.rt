@@ -15,8 +15,8 @@ use std::marker::Model;
 
 /// The animations that run, in the order of starting. There is at most one for each variable of an object.
 ///
-/// A contract sees them, and how many fit in all. `spare` and `at` take constant time, and other calls time
-/// by the number of animations.
+/// A contract sees them, and how many fit in all. `spare` and `at` take constant time, and other calls take
+/// time in proportion to the number of animations.
 #[derive(Drop)]
 pub struct Anims {
     running: Vec<Running>,
@@ -44,7 +44,7 @@ fn any_moves(running: &[Running], h: Handle, var: Var) -> bool
 }
 
 impl Anims {
-    /// No animations, and room for `n`. `NoMemory` where there is no memory for so many. No later call takes
+    /// No animations, and room for `n`. `NoMemory` if there is no memory for so many. No later call takes
     /// memory.
     pub fn open(alloc: Global, n: u32) -> Result<Anims, NoMemory>
         ensures none { IfOk result (λ s. s.running ≡ []) }
@@ -97,7 +97,7 @@ impl Anims {
     ///
     /// # Errors
     ///
-    /// `Full` of animations where none is replaced and no more fit. All is then as before.
+    /// `Full` of animations if none is replaced and no more fit. All is then as before.
     pub fn start(&mut self, spec: AnimSpec, now: u64) -> Result<(), Refusal>
         requires { IsAnim spec }
         ensures answer { result ≡ start_answer self.old spec.h.0 spec.var }
@@ -113,7 +113,7 @@ impl Anims {
     ///
     /// # Errors
     ///
-    /// `Unknown` where none runs. All is then as before.
+    /// `Unknown` if none runs. All is then as before.
     pub fn stop(&mut self, h: Handle, var: Var) -> Result<(), Refusal>
         ensures answer { result ≡ stop_answer self.old h.0 var }
         ensures ok { OnOk result (self.new ≡ with_stopped self.old h.0 var) }

@@ -40,10 +40,11 @@ nat_of (negsuc n) = 0
 abbrev pub count_between : ℤ → ℤ → ℕ
 count_between low high = nat_of ((high -ℤ low) +ℤ pos 1)
 
--- how many columns it has, and how many lines
+-- how many columns it has
 abbrev pub width_of : Rect → ℕ
 width_of area = count_between area.x1 area.x2
 
+-- how many lines it has
 abbrev pub height_of : Rect → ℕ
 height_of area = count_between area.y1 area.y2
 

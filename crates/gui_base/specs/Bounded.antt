@@ -3,6 +3,7 @@ use Rattle.gui_base.specs.Gridded.{size_in}
 use Rattle.gui_base.specs.Limits.{Bounds}
 use Rattle.gui_base.specs.declared.limits.Limits.{Limits}
 
+-- the limits that the code holds
 abbrev pub bounds_of : Limits → Bounds
 bounds_of l = record {
   width = l.width;

@@ -31,6 +31,7 @@ within area coat = only (has area) coat
 abbrev pub plain : Rgb565 → ℕ → Coat
 plain color opa x y = Some (record { color = color; opa = opa })
 
+-- one colour with one opacity on each pixel of an area
 abbrev pub fill_coat : Rect → Rgb565 → ℕ → Coat
 fill_coat area color opa = within area (plain color opa)
 

@@ -20,16 +20,18 @@ blue c = c.0 % 32
 abbrev pub color : ℕ → ℕ → ℕ → Rgb565
 color r g b = record { 0 = r * 2048 + g * 32 + b }
 
+-- the colour with all channels at 0; white has all at their highest
 abbrev pub black : Rgb565
 black = record { 0 = 0 }
 
 abbrev pub white : Rgb565
 white = record { 0 = 65535 }
 
--- a channel of five bits in eight, and one of six
+-- a channel of five bits, brought to eight bits
 abbrev pub from_five : ℕ → ℕ
 from_five n = n * 8 + n / 4
 
+-- a channel of six bits, brought to eight bits
 abbrev pub from_six : ℕ → ℕ
 from_six n = n * 4 + n / 16
 

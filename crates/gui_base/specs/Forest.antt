@@ -25,6 +25,7 @@ abbrev pub roots : {A : Type 0} → Forest A → List A
 roots Empty = []
 roots (Tree row cs rest) = row ∷ roots rest
 
+-- how many nodes there are
 abbrev pub size : {A : Type 0} → Forest A → ℕ
 size Empty = 0
 size (Tree row cs rest) = size cs + size rest + 1
@@ -57,6 +58,7 @@ put_at zero t f = and_then t f
 put_at (suc n) t Empty = t
 put_at (suc n) t (Tree row cs rest) = Tree row cs (put_at n t rest)
 
+-- a single node without children
 abbrev pub leaf : {A : Type 0} → A → Forest A
 leaf row = Tree row Empty Empty
 
@@ -171,6 +173,7 @@ cut f h = cut_by (λ k. eqb k h) f
 abbrev pub tree_at : Forest ℕ → ℕ → Forest ℕ
 tree_at f h = tree_by (λ k. eqb k h) f
 
+-- the children of h
 abbrev pub children_of : Forest ℕ → ℕ → Forest ℕ
 children_of f h = children_by (λ k. eqb k h) f
 
@@ -186,6 +189,7 @@ list_after f h = after_by (λ k. eqb k h) f
 abbrev pub depth_of : Forest ℕ → ℕ → ℕ
 depth_of f h = depth_by (λ k. eqb k h) f
 
+-- the parent of h; a root has none
 abbrev pub parent_of : Forest ℕ → ℕ → Option ℕ
 parent_of f h = parent_by (λ k. eqb k h) None f
 

@@ -19,10 +19,11 @@ pub record IsBlock (w h : ℕ) : Type 0 where
   pub some_height : 1 ≤ h
   pub most_height : h ≤ 16
 
--- the first number of the block of so many numbers that a number lies in, counted from 0, and the last one
+-- the first number of the block that a number lies in, where blocks of so many numbers begin at 0
 abbrev pub block_start : ℕ → ℕ → ℕ
 block_start size n = n / size * size
 
+-- the last number of the block that a number lies in
 abbrev pub block_end : ℕ → ℕ → ℕ
 block_end size n = n / size * size + (size - 1)
 
@@ -43,6 +44,8 @@ pub record HasBlocks (w h : ℕ) (panel : Rect) : Type 0 where
   pub wide : width_of panel % w ≡ 0
   pub high : height_of panel % h ≡ 0
 
+-- the rounding of a panel in blocks of so many pixels and lines: areas grow to whole blocks, and cuts lie between
+-- blocks
 abbrev pub blocks_of : ℕ → ℕ → Rect → Rounding
 blocks_of w h panel = record { panel = panel; round = in_blocks w h; step = h }
 

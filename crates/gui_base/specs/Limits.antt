@@ -74,10 +74,11 @@ pub record Bounds : Type 0 where
   pub anims : ℕ
   pub make : Option ℕ
 
--- all pixels of the panel, and its grid of blocks
+-- all pixels of the panel
 abbrev pub panel_in : Bounds → Rect
 panel_in limits = area_at (pos 0) (pos 0) limits.width limits.height
 
+-- the grid of blocks to which the panel widens an area
 abbrev pub grid_in : Bounds → Rounding
 grid_in limits = grid_over limits.block (panel_in limits)
 

@@ -3,6 +3,7 @@ use Rattle.std.specs.Prelude.{ℕ, List, [], ◌∷◌, bytes_eq, if◌then◌el
 use Rattle.std.specs.declared.option.Option.{Option}
 use denote.Ref.{Bor}
 
+-- a table of names in their order: each is the bytes of a name, with what it means
 abbrev pub Names : Type 0 → Type 0
 Names A = List (List ℕ × A)
 

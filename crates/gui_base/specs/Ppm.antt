@@ -8,6 +8,7 @@ use Rattle.gui_base.specs.Color.{red, green, blue, from_five, from_six}
 abbrev pub rgb_bytes : Rgb565 → List ℕ
 rgb_bytes c = from_five (red c) ∷ from_six (green c) ∷ from_five (blue c) ∷ []
 
+-- the head of the file: the form, the width, the height, and 255 as the highest value of a channel
 abbrev pub ppm_head : ℕ → ℕ → List ℕ
 ppm_head width height = codes "P6\n" ++ decimal width ++ codes " " ++ decimal height ++ codes "\n255\n"
 

@@ -12,6 +12,7 @@ use Rattle.gui_base.specs.declared.props.Prop.TheVariants.{PadRight, PadRow, Pad
 use Rattle.gui_base.specs.declared.props.Prop.TheVariants.{ImgOpa, TextColor, TextOpa, TextFont}
 use Rattle.gui_base.specs.declared.props.Prop.TheVariants.{TextAlign, TextLetterSpace, TextLineSpace}
 
+-- the interval of its values
 abbrev pub values_of : Prop → Interval
 values_of BgColor = COLOR
 values_of BgOpa = OPACITY

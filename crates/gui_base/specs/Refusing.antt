@@ -14,6 +14,7 @@ pub data Reason : Type 0 where
   Kind : Reason
   Place : Reason
 
+-- the same reason among all refusals
 abbrev pub refusal_of : Reason → Refusal
 refusal_of Unknown = refusal.Unknown
 refusal_of Taken = refusal.Taken
@@ -33,6 +34,7 @@ first_of (test ∷ tests) later = if test.0 then Some (refusal_of test.1) else f
 abbrev pub absent : Forest ℕ → ℕ → Test
 absent f h = (not (has f h), Unknown)
 
+-- a handle that is to be new is there already
 abbrev pub taken : Forest ℕ → ℕ → Test
 taken f h = (has f h, Taken)
 
@@ -48,6 +50,7 @@ fixed h = (nat_le 1 h && nat_le h 3, Place)
 abbrev pub deepest : Forest ℕ → ℕ → Test
 deepest f p = (depth_of f p == MAX_DEPTH, Place)
 
+-- h with all below it would reach below the greatest depth if it went below p
 abbrev pub too_deep : Forest ℕ → ℕ → ℕ → Test
 too_deep f h p = (nat_lt MAX_DEPTH (depth_of f p + height (tree_at f h)), Place)
 
@@ -60,15 +63,19 @@ inside f h p = (has (tree_at f h) p, Place)
 abbrev pub root_tests : Forest ℕ → ℕ → List Test
 root_tests f h = taken f h ∷ []
 
+-- the tests of a new object h below p
 abbrev pub child_tests : Forest ℕ → ℕ → ℕ → List Test
 child_tests f h p = absent f p ∷ taken f h ∷ deepest f p ∷ []
 
+-- the tests of a removal of h
 abbrev pub removal_tests : Forest ℕ → ℕ → List Test
 removal_tests f h = absent f h ∷ fixed h ∷ []
 
+-- the tests of a move of h among its siblings
 abbrev pub move_tests : Forest ℕ → ℕ → List Test
 move_tests f h = absent f h ∷ parentless f h ∷ []
 
+-- the tests of a new parent p for h
 abbrev pub parent_tests : Forest ℕ → ℕ → ℕ → List Test
 parent_tests f h p = absent f h ∷ absent f p ∷ parentless f h ∷ inside f h p ∷ too_deep f h p ∷ []
 

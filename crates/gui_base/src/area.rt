@@ -5,8 +5,8 @@ ghost use Rattle.std.specs.Int.Signed.{le_z, lt_z};
 ghost use Rattle.gui_base.specs.Area.{IsCoordinate, IsInner, Rect, area_at, has, is_empty, count_between};
 ghost use Rattle.gui_base.specs.Area.{size_of, width_of, height_of, common, joined, Covers, has_corners};
 
-/// The pixels between two corners, both included, counted from the top left. It is empty where the second
-/// corner lies left of the first or above it. Its numbers lie from -2^30 to 2^30 - 1.
+/// The pixels between two corners, both included, counted from the top left. It is empty if the second corner
+/// lies left of the first or above it. Its numbers lie from -2^30 to 2^30 - 1.
 #[derive(Clone, Copy, Debug)]
 pub struct Area {
     pub x1: i32,
@@ -87,7 +87,7 @@ impl Area {
         is_between(self.x1, x, self.x2) && is_between(self.y1, y, self.y2)
     }
 
-    /// Whether all pixels of another are in it; those of an empty one are.
+    /// Whether all pixels of another are in it. Those of an empty area are.
     pub fn holds_area(self, other: Area) -> bool
         ensures { IsTrue result ↔ Covers (rect_of self) (rect_of other) }
     {
@@ -116,7 +116,7 @@ impl Area {
         }
     }
 
-    /// The least area that holds both. That of an empty one and another is the other.
+    /// The least area that holds both. If one of them is empty, it is the other.
     pub fn join(self, other: Area) -> Area
         ensures corners { rect_of result ≡ joined (rect_of self) (rect_of other) }
         ensures first { Covers (rect_of result) (rect_of self) }

@@ -2,7 +2,7 @@
 ghost use Rattle.std.specs.Prelude.{◌≡◌, ◌<◌, ◌^◌, ℕ, if◌then◌else◌, ◌==◌};
 ghost use Rattle.gui_base.specs.Bits.{has_bit, with_bit};
 
-/// A set of numbers from 0 to 15: the number k is in it where bit k is 1.
+/// A set of numbers from 0 to 15: the number k is in it if bit k is 1.
 #[derive(Clone, Copy, Debug, PartialEq, Eq)]
 pub struct Bits(pub u16);
 

@@ -43,7 +43,7 @@ pub const EVENTS: [(&'static str, EventKind); 11] = [
     ("key", EventKind::Key),
 ];
 
-/// What an action is for.
+/// The object that an action changes.
 #[derive(Clone, Copy, Debug, PartialEq, Eq)]
 pub enum Aim {
     /// The object that the event was sent to.

@@ -34,7 +34,7 @@ pub const EXTENT: Count = Count { low: 0, high: 4000 };
 /// A wanted width or height in hundredths of the parent's content area.
 pub const PERCENT: Count = Count { low: 0, high: 100 };
 
-/// How much of the free space of a track an item takes, beside the others that take some.
+/// The weight of an item in sharing the free space of its track.
 pub const GROW: Count = Count { low: 0, high: 255 };
 
 /// A solved width or height in pixels.
@@ -82,7 +82,7 @@ pub const FONT: Count = Count { low: 1, high: 99 };
 /// The height of a font in pixels.
 pub const FONT_HEIGHT: Count = Count { low: 1, high: 64 };
 
-/// How far the next character of a text stands from one, in pixels.
+/// How far the next character of a text stands from this one, in pixels.
 pub const ADVANCE: Count = Count { low: 0, high: 64 };
 
 /// The sizes of the box of a glyph in pixels.
@@ -141,7 +141,7 @@ pub const ANIM_TIME: Count = Count {
 /// How often an animation is played.
 pub const REPEAT: Count = Count { low: 1, high: 1000 };
 
-/// How deep an object may lie, a root having depth 1.
+/// How deep an object may lie. A root has depth 1.
 pub const MAX_DEPTH: u8 = 16;
 
 impl Count {

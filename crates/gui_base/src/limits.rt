@@ -103,7 +103,7 @@ impl Limits {
         }
     }
 
-    /// Sets the blocks that the panel takes, of which it and the draw buffer have whole ones.
+    /// Sets the blocks that the panel takes. The panel and the draw buffer consist of whole blocks.
     pub fn set_block(&mut self, block: Block)
         requires { HaveBlocks self.old.width self.old.height self.old.lines block.w block.h }
         ensures { bounds_of self.new ≡ with_block (bounds_of self.old) (size_in block) }

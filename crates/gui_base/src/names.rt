@@ -2,7 +2,7 @@
 ghost use Rattle.std.specs.Prelude.{◌≡◌};
 ghost use Rattle.gui_base.specs.Names.{named, slice};
 
-/// What a word means by a table, if it is one of the names there.
+/// What a word means according to a table, if it is one of the names there.
 #[tactic(auto, unfolding(crate::specs::Names::named))]
 pub fn named<T: Copy>(names: &[(&'static str, T)], word: &[u8]) -> Option<T>
     ensures { result ≡ named (slice {A = T} names.now) word.now }

@@ -4,8 +4,8 @@ ghost use Rattle.gui_base.specs.Pools.{pool_name, least, most, default};
 
 use crate::limits::Pool;
 
-/// A pool's name in words and replies, the fewest and the most slots that it may have, and how many it has
-/// where no word asks.
+/// A pool's name in words and replies, the fewest and the most slots that it may have, and how many it has if
+/// no word asks.
 type PoolRow = (&'static str, u32, u32, u32);
 
 pub const OBJECTS: PoolRow = ("objects", 3, 4000, 256);
@@ -69,7 +69,7 @@ impl Pool {
         (least, most)
     }
 
-    /// How many slots it has where no word asks for others.
+    /// How many slots it has if no word asks for others.
     pub fn default_slots(self) -> u32
         ensures { result ≡ default self }
     {

@@ -8,47 +8,47 @@ use crate::intervals::{BORDER, COLOR, Interval, OPACITY, PAD, TEXT_ALIGN, TEXT_F
 /// A colour of red r, green g and blue b, from 0 to 255 each, is `65536 * r + 256 * g + b`. An opacity is
 /// from 0 to 255. Widths, pads and spaces are in pixels.
 ///
-/// The properties of a text are inherited: where a part has no value, the object's own part has, and then the
-/// object's ancestors. The others are not.
+/// The properties of a text are inherited. If a part has no value, that of the object's own part holds, and
+/// then those of the object's ancestors. Other properties are not inherited.
 #[derive(Clone, Copy, Debug, PartialEq, Eq)]
 pub enum Prop {
-    /// The colour of the fill. White where none is set.
+    /// The colour of the fill. White if none is set.
     BgColor,
-    /// The opacity of the fill. 0 where none is set.
+    /// The opacity of the fill. 0 if none is set.
     BgOpa,
-    /// The colour of the border. Black where none is set.
+    /// The colour of the border. Black if none is set.
     BorderColor,
-    /// The opacity of the border. 255 where none is set.
+    /// The opacity of the border. 255 if none is set.
     BorderOpa,
-    /// The width of the border, from 0 to 100. 0 where none is set.
+    /// The width of the border, from 0 to 100. 0 if none is set.
     BorderWidth,
-    /// The space between the upper border and what is inside, from 0 to 1000. 0 where none is set.
+    /// The space between the upper border and what is inside, from 0 to 1000. 0 if none is set.
     PadTop,
-    /// The space above the lower border, from 0 to 1000. 0 where none is set.
+    /// The space above the lower border, from 0 to 1000. 0 if none is set.
     PadBottom,
-    /// The space after the left border, from 0 to 1000. 0 where none is set.
+    /// The space after the left border, from 0 to 1000. 0 if none is set.
     PadLeft,
-    /// The space before the right border, from 0 to 1000. 0 where none is set.
+    /// The space before the right border, from 0 to 1000. 0 if none is set.
     PadRight,
-    /// The space between two rows of children, from 0 to 1000. 0 where none is set.
+    /// The space between two rows of children, from 0 to 1000. 0 if none is set.
     PadRow,
-    /// The space between two columns of children, from 0 to 1000. 0 where none is set.
+    /// The space between two columns of children, from 0 to 1000. 0 if none is set.
     PadColumn,
-    /// The colour in which an image of opacities alone is drawn. Black where none is set.
+    /// The colour in which an image of opacities alone is drawn. Black if none is set.
     ImgRecolor,
-    /// The opacity of an image. 255 where none is set.
+    /// The opacity of an image. 255 if none is set.
     ImgOpa,
-    /// The colour of a text. Black where none is set.
+    /// The colour of a text. Black if none is set.
     TextColor,
-    /// The opacity of a text. 255 where none is set.
+    /// The opacity of a text. 255 if none is set.
     TextOpa,
-    /// The number of a text's font, from 0 to 99. 0, the built-in font, where none is set.
+    /// The number of a text's font, from 0 to 99. The built-in font, 0, if none is set.
     TextFont,
-    /// Where the lines of a text stand: 0 left, 1 center, 2 right. Left where none is set.
+    /// Where the lines of a text stand: 0 left, 1 center, 2 right. Left if none is set.
     TextAlign,
-    /// The space between two characters, from 0 to 100. 0 where none is set.
+    /// The space between two characters, from 0 to 100. 0 if none is set.
     TextLetterSpace,
-    /// The space between two lines, from 0 to 100. 0 where none is set.
+    /// The space between two lines, from 0 to 100. 0 if none is set.
     TextLineSpace,
 }
 
@@ -93,7 +93,7 @@ impl Prop {
         }
     }
 
-    /// Its value where nothing sets it.
+    /// Its value if nothing sets it.
     pub fn default_value(self) -> i32
         ensures { result ≡ default_of self }
     {
@@ -104,8 +104,8 @@ impl Prop {
         }
     }
 
-    /// Whether it is inherited: where a part has no value, the object's own part is asked, and then the
-    /// object's ancestors.
+    /// Whether it is inherited. If a part has no value of such a property, that of the object's own part holds,
+    /// and then those of the object's ancestors.
     pub fn inherits(self) -> bool
         ensures { result ≡ inherits self }
     {

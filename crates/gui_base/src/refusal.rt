@@ -1,7 +1,7 @@
 //! Why a line of the script, or a change of the scene, is refused.
 use crate::limits::Pool;
 
-/// Why a call is refused. Where several apply, the first in this order is answered, and all stays as it was.
+/// Why a call is refused. If several apply, the first in this order is answered, and all stays as it was.
 #[derive(Clone, Copy, Debug, PartialEq, Eq)]
 pub enum Refusal {
     /// A line of more than 4,096 bytes.

@@ -12,21 +12,21 @@ use crate::area::Area;
 pub trait Round: Drop {
     ghost rules: { Self → Rounding };
 
-    /// An area that the panel takes, and that holds another one, which lies in the panel and is not empty.
+    /// An area that the panel takes and that holds `area`. This one lies in the panel and is not empty.
     fn round(&self, area: Area) -> Area
         requires { is_within (rules self.now).panel (rect_of area) ≡ true }
         ensures { rect_of result ≡ (rules self.now).round (rect_of area) };
 
-    /// At least 1: an area that the panel takes, cut at a multiple of so many lines, gives two areas that it
-    /// takes.
+    /// A number of lines, at least 1. An area that the panel takes may be cut at any multiple of it: the panel
+    /// takes both parts.
     fn step(&self) -> u32
         ensures { result ≡ (rules self.now).step };
 
     ghost sound: { (r : Self) → IsRounding (rules r) };
 }
 
-/// The size of a block of pixels, such as the eight pixels of a byte: so many pixels wide, and so many lines
-/// high. Each number lies from 1 to 16.
+/// The size of a block of pixels, such as the eight pixels of a byte: its width in pixels and its height in
+/// lines, each from 1 to 16.
 #[derive(Clone, Copy, Debug)]
 pub struct Block {
     pub w: u32,

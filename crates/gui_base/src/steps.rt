@@ -23,8 +23,7 @@ impl<L: Ledger> Model for Steps<L> {
 }
 
 impl<L: Ledger> Steps<L> {
-    /// No step yet. The ledger and its share are those that a blank one of at least one part gives when it is
-    /// opened.
+    /// No step yet. The ledger and its share come from opening a blank one of at least one part.
     pub fn new(book: Book<L>, all: Share<L>) -> Steps<L>
         requires fresh { book.total ≡ 0 }
         requires backed { 0 < all.parts }

@@ -4,7 +4,7 @@ ghost use Rattle.std.specs.Prelude.{◌≡◌, ◌<◌};
 /// What an object is. Screens and layers are roots and cannot be made by `new`.
 #[derive(Clone, Copy, Debug, PartialEq, Eq)]
 pub enum Kind {
-    /// A root that is shown where it is the active one.
+    /// A root that is shown if it is the active one.
     Screen,
     /// A root that is always shown, above the active screen.
     Layer,
@@ -49,7 +49,7 @@ pub enum Flag {
     Checkable,
     /// Its events go on to its parent.
     Bubble,
-    /// It moves its children by its offset, and shows bars where they do not fit.
+    /// It moves its children by its offset, and shows bars if they do not fit.
     Scrollable,
 }
 
@@ -193,9 +193,9 @@ pub enum Flow {
     Free,
     Row,
     Column,
-    /// In as many rows as it takes.
+    /// In as many rows as the children take.
     RowWrap,
-    /// In as many columns as it takes.
+    /// In as many columns as the children take.
     ColumnWrap,
     RowReverse,
     ColumnReverse,
@@ -220,15 +220,15 @@ pub const FLOWS: [(&'static str, Flow); 9] = [
 pub enum Placing {
     /// All of it behind the items.
     Start,
-    /// All of it before them.
+    /// All of it before the items.
     End,
     /// Half of it on each side.
     Center,
-    /// The same before, between and behind them.
+    /// Equal shares before, between and behind the items.
     SpaceEvenly,
-    /// The same on both sides of each.
+    /// Equal shares on both sides of each item.
     SpaceAround,
-    /// The same between them, and none outside.
+    /// Equal shares between the items, and none outside.
     SpaceBetween,
 }
 

@@ -41,8 +41,8 @@ use scene_defs::Change;
 use std::alloc::Global;
 use std::sync::ledger::Ledger;
 
-/// What the rules read and change: a scene with its places, the areas that are pending, the handlers, the
-/// focus groups, the animations, the time and the input devices, and how the log goes in this step.
+/// What the rules read and change: a scene with its places, the pending areas, the handlers, the focus groups,
+/// the animations, the time, the input devices, and how the log goes in this step.
 pub struct Board {
     pub(crate) canvas: Canvas,
     pub(crate) damage: Damage<Grid>,
@@ -57,7 +57,7 @@ pub struct Board {
 }
 
 impl Drop for Board {
-    /// Lets go of all that it holds. Who owns one calls this, where each field by itself would be dear to prove.
+    /// Lets go of every field in one call, which keeps the proofs of its owners short.
     fn drop(self) {
         let Board {
             canvas: _,
@@ -74,9 +74,9 @@ impl Drop for Board {
 impl Board {
     ghost use Rattle.gui_board.specs.Boards.{machine_of, pending_of, stage, Quiet, IsFresh, IsOutcome};
 
-    /// A machine whose scene has the roots 1, 2 and 3, with screen 3 active, and no handlers, no groups and
-    /// no animations. Its devices have read nothing yet, and its time is 0. The whole panel is pending. It
-    /// takes all the memory that the board will need; NoMemory where there is too little.
+    /// A machine whose scene has the roots 1, 2 and 3, with screen 3 active, and no handlers, no groups and no
+    /// animations. Its devices have read nothing yet, and its time is 0. The whole panel is pending. It takes
+    /// all the memory that the board will need; NoMemory if there is too little.
     pub fn open(alloc: Global, limits: &Limits) -> Result<Board, NoMemory>
         ensures machine { IfOk result (λ board. machine_of board ≡ first_machine (bounds_of limits.now)) }
         ensures whole { IfOk result (λ board. (pending_of board).areas ≡ (pending_of board).panel ∷ []) }
@@ -108,7 +108,7 @@ impl Board {
         ensures sound { IsPending (pending_of self.new) }
         ensures valid { IsValid (machine_of self.new).scene }
     {
-        // Lending the areas tells that the list is sound, and lending the tree that the scene is in order.
+        // For the proof alone: `areas` says that the list is sound, and `tree` that the scene is in order.
         let _areas = self.damage.areas();
         let _tree = self.canvas.store().tree();
         self.scribe = Scribe::new();

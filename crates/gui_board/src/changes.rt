@@ -23,7 +23,7 @@ use scene_defs::Change;
 impl Board {
     ghost use Rattle.gui_board.specs.Boards.{machine_of, pending_of, Plays, Quiet};
 
-    /// Puts an object into a state, or takes it out; no change where it is so already.
+    /// Puts an object into a state, or takes it out; no change if it is so already.
     pub fn put_state(&mut self, state: State, on: bool, h: Handle)
         ensures done { Quiet self.old self.new (put_state state on h) }
         ensures gone { removed_in self.new.canvas ≡ removed_in self.old.canvas }
@@ -63,7 +63,7 @@ impl Board {
         self.has(h) && !self.is_in_state(State::Disabled, h) && !self.is_hidden(h)
     }
 
-    /// Who gets the focus of a group where an object leaves it.
+    /// Who gets the focus of a group if an object leaves it.
     fn heir(&self, id: u8, h: Handle) -> Option<Handle>
         ensures { result ≡ heir_of (machine_of self.now) id h }
     {
@@ -132,7 +132,7 @@ impl Board {
         ensures refused { OnErr result (Quiet self.old self.new nothing) }
         ensures unmarked { OnErr result (pending_of self.new ≡ pending_of self.old) }
     {
-        // Lending the tree tells that the scene is in order.
+        // For the proof alone: `tree` says that the scene is in order.
         let _tree = self.canvas.store().tree();
         self.change(change)?;
         if let Change::Delete(_) = change {

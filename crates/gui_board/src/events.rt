@@ -30,7 +30,7 @@ fn aim_at(target: Handle, aim: Aim) -> Handle
     }
 }
 
-/// The change that an action asks for, or none where it says.
+/// The change that an action asks for. An action that writes a line asks for none.
 fn asked(target: Handle, action: Action) -> Option<Change<'static>>
     ensures { result ≡ asked target action }
 {
@@ -92,7 +92,7 @@ impl Board {
         self.scribe.write(line.as_slice(), log);
     }
 
-    /// Runs an action of an object, which is passed over where the object is gone.
+    /// Runs an action of an object, which is passed over if the object is gone.
     #[tactic(auto, unfolding(run_defs::specs::Events::act), using(crate::proofs::Plays::idle))]
     fn act<S: Sink>(
         &mut self,

@@ -25,7 +25,7 @@ impl Board {
         self.put_state(State::Edited, false, h);
     }
 
-    /// Gives them to it, FOCUS_KEY too where a device moved the focus.
+    /// Gives them to it, FOCUS_KEY too if a device moved the focus.
     fn refocus(&mut self, by_key: bool, h: Handle)
         ensures { Quiet self.old self.new (refocus by_key h) }
     {
@@ -75,7 +75,7 @@ impl Board {
         self.send_there(EventKind::Focused, h, log);
     }
 
-    /// Who gets the focus of a group where a device moves it on, forwards or backwards.
+    /// Who gets the focus of a group if a device moves it on, forwards or backwards.
     pub(crate) fn next_to_focus(&self, forwards: bool, id: u8) -> Option<Handle>
         ensures { result ≡ next_to_focus forwards id (machine_of self.now) }
     {
@@ -87,7 +87,7 @@ impl Board {
         }
     }
 
-    /// A device moves the focus of a group on, where there is a member that may get it.
+    /// A device moves the focus of a group on, if there is a member that may get it.
     pub fn step_focus<S: Sink>(&mut self, forwards: bool, id: u8, log: &mut S)
         ensures { Plays self.old self.new (S.state log.old) (S.state log.new) (step_focus forwards id) }
     {
@@ -106,7 +106,7 @@ impl Board {
         }
     }
 
-    /// Gives an object the focus of the group that it is in; nothing where it has it.
+    /// Gives an object the focus of the group that it is in; nothing if it has it.
     pub fn focus<S: Sink>(&mut self, h: Handle, log: &mut S)
         ensures { Plays self.old self.new (S.state log.old) (S.state log.new) (focus h) }
     {
@@ -118,8 +118,8 @@ impl Board {
         }
     }
 
-    /// Makes an object the last member of a group that is there, where it is in none and there is room. It
-    /// gets the focus where no other has it.
+    /// Makes an object the last member of a group that is there, if it is in none and there is room. It gets
+    /// the focus if no other has it.
     pub(crate) fn join<S: Sink>(&mut self, id: u8, h: Handle, log: &mut S)
         requires there { has_group (machine_of self.old).groups id ≡ true }
         requires free { group_of (machine_of self.old).groups h ≡ None }
@@ -132,7 +132,7 @@ impl Board {
         self.first_focus(focused, id, h, log);
     }
 
-    /// Gives a new member the focus of its group, where no other has it.
+    /// Gives a new member the focus of its group, if no other has it.
     fn first_focus<S: Sink>(&mut self, other: Option<Handle>, id: u8, h: Handle, log: &mut S)
         ensures { Plays self.old self.new (S.state log.old) (S.state log.new) (first_focus other id h) }
     {
@@ -141,7 +141,7 @@ impl Board {
         }
     }
 
-    /// Takes the states away that say that an object has the focus, where it has it.
+    /// Takes the states away that say that an object has the focus, if it has it.
     fn unfocus_focused(&mut self, h: Handle)
         ensures { Quiet self.old self.new
             (if has_focus (machine_of self.old).groups h then unfocus h else nothing) }
@@ -151,7 +151,7 @@ impl Board {
         }
     }
 
-    /// Takes an object out of its group. Where it has the focus it first loses the states that say so.
+    /// Takes an object out of its group. If it has the focus, it first loses the states that say so.
     pub fn leave(&mut self, h: Handle)
         ensures { Quiet self.old self.new (leave h) }
     {

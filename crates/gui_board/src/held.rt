@@ -206,7 +206,7 @@ impl Board {
         self.inputs.encoder_group = id;
     }
 
-    /// Adds a handler, the last of its object, where there is room.
+    /// Adds a handler, the last of its object, if there is room.
     pub fn add_handler(&mut self, h: Handle, kind: EventKind, action: Action)
         requires { full_for (machine_of self.old) (Command.On h kind action) ≡ None }
         ensures { Quiet self.old self.new (with (handler_added h kind action)) }
@@ -221,7 +221,7 @@ impl Board {
         self.handlers.drop_kind(h, kind);
     }
 
-    /// Makes a group that is not there, where there is room.
+    /// Makes a group that is not there, if there is room.
     pub fn add_group(&mut self, id: u8)
         requires new { has_group (machine_of self.old).groups id ≡ false }
         requires room { full_for (machine_of self.old) (Command.Group id) ≡ None }

@@ -13,7 +13,7 @@ use gui_base::{Area, Flag, Handle};
 impl Board {
     ghost use Rattle.gui_board.specs.Boards.{machine_of};
 
-    /// The object whose own entry is the nth that is painted, where it is clickable and the point lies in what is
+    /// The object whose own entry is the nth that is painted, if it is clickable and the point lies in what is
     /// seen of it. Bars are not hit.
     fn hit_at(&self, x: i32, y: i32, n: usize) -> Option<Handle>
         requires { n < length (entries (machine_of self.now).scene) }

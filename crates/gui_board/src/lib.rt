@@ -1,5 +1,6 @@
-//! The board on which the rules of events, focus and input are played: what a change makes of the machine, how
-//! events go their way and the focus moves, what becomes pending, and what is written into the log.
+//! The board on which the rules of events, focus and input are played. It says what a change makes of the
+//! machine, how events go their way and the focus moves. It also says what becomes pending and what is written
+//! into the log.
 #![tactic(auto)]
 
 mod board;
@@ -19,7 +20,7 @@ pub use board::Board;
 pub use held::is_slider;
 pub use scribe::Scribe;
 
-/// Where nothing is done nothing is played, and a rule after another is played where each of them is.
+/// If nothing is done, nothing is played, and a rule after another is played if each of them is.
 pub fn plays_add_up()
     ensures nothing { NothingIsPlayed }
     ensures then { PlaysFollow }

@@ -15,7 +15,7 @@ impl Board {
         ensures pixels { result ≡ total (pending_of self.now).areas }
         ensures most { result ≤ most_areas * size_of (pending_of self.now).panel }
     {
-        // Lending the limits tells that the panel is small.
+        // For the proof alone: `limits` says that the panel is small.
         let _limits = self.canvas.store().limits();
         pixels_of(self.damage.areas())
     }

@@ -1,4 +1,5 @@
-//! The first refusal of a command on handlers, groups, devices and animations, by what the board holds.
+//! The first refusal of a command on handlers, groups, devices and animations, according to what the board
+//! holds.
 ghost use Rattle.std.specs.Prelude.{◌≡◌, ◌∷◌, [], None};
 ghost use Rattle.gui_base.specs.Refusing.{first_of, parentless};
 ghost use Rattle.gui_edge.specs.Sink.{SinkState};
@@ -19,7 +20,7 @@ use scene_defs::Feature;
 impl Board {
     ghost use Rattle.gui_board.specs.Boards.{machine_of, Plays};
 
-    /// `Unknown` where an object is not there.
+    /// `Unknown` if an object is not there.
     pub fn unknown(&self, h: Handle) -> Option<Refusal>
         ensures { result ≡ first_of (gone (machine_of self.now) h ∷ []) None }
     {
@@ -99,13 +100,13 @@ impl Board {
         }
     }
 
-    /// Makes an object a member of a group where nothing is against that.
+    /// Makes an object a member of a group if nothing is against that.
     pub fn join_new<S: Sink>(&mut self, id: u8, h: Handle, log: &mut S)
         requires answer { answer (machine_of self.old) (Command.Join id h) ≡ None }
         requires members { AreJoined (machine_of self.old) }
         ensures { Plays self.old self.new (S.state log.old) (S.state log.new) (join id h) }
     {
-        // Lending the tree tells that the scene is in order.
+        // For the proof alone: `tree` says that the scene is in order.
         let _tree = self.canvas.store().tree();
         self.join(id, h, log);
     }
@@ -120,7 +121,7 @@ impl Board {
         }
     }
 
-    /// `Kind` where an object has no value.
+    /// `Kind` if an object has no value.
     pub fn value_refusal(&self, h: Handle) -> Option<Refusal>
         ensures { result ≡ first_of (var_tests (machine_of self.now).scene Var.Value h) None }
     {
@@ -131,7 +132,7 @@ impl Board {
         }
     }
 
-    /// `Place` where an object has no parent.
+    /// `Place` if an object has no parent.
     pub fn place_refusal(&self, h: Handle) -> Option<Refusal>
         ensures { result
             ≡ first_of (parentless (handles_of (machine_of self.now).scene.trees) h.0 ∷ []) None }

@@ -1,5 +1,5 @@
 -- A value more in a table, and how many values it may have.
-use Rattle.std.proofs.Common.{◌≡◌, ◌∙◌, refl, ap, subst, ℕ, ◌+◌, ◌<◌, ◌≤◌, Bool, true, false, cond, eqb, eq-eqb, List, [], ◌∷◌, ◌++◌, length, arith, inl, inr}
+use Rattle.std.proofs.Common.{◌≡◌, ◌∙◌, refl, ap, subst, ℕ, zero, suc, ◌+◌, ◌<◌, ◌≤◌, Bool, true, false, cond, eqb, eq-eqb, List, [], ◌∷◌, ◌++◌, length, arith, inl, inr}
 use Rattle.std.specs.Prelude.{Some, None, is_some}
 use Rattle.std.proofs.lemmas.Bool.{cases_Bool, eqb-true, both_ways, false_from_ne_true}
 use Rattle.std.proofs.lemmas.Bool.Decides.{nat_tests}
@@ -61,6 +61,25 @@ listed-fewer n t hs h f these some there none =
 
     each : (k : ℕ) → times (h ∷ hs) k ≤ count f k
     each k = let a = these.each k in let b = one k (is_some (value_at t k)) refl in omega arith
+
+-- where none but objects of a forest are listed, each once, and one of them is not, fewer are listed than there are
+pub left-fewer : (hs : List Handle) (h : Handle) (f : Forest ℕ) → ((k : ℕ) → times hs k ≤ 1) → ((k : ℕ) → 0 < times hs k → has f k ≡ true) → has f h.0 ≡ true → times hs h.0 ≡ 0 → length hs < size f
+left-fewer hs h f once some there none =
+    let short = no-longer (h ∷ hs) (preorder f) (λ k. let a = times-preorder f k in let b = each k in omega arith) in
+    omega (arith, length-preorder f)
+  where
+    few : (k n : ℕ) → times hs k ≡ n → n ≤ 1 → n ≤ count f k
+    few k zero is one = omega arith
+    few k (suc n) is one = let c = count-has f k (some k (let e = is in omega arith)) in omega arith
+
+    each : (k : ℕ) → times (h ∷ hs) k ≤ count f k
+    each k = elim (cases_Bool (eqb h.0 k)) [
+      | inl same ↦
+          let off : times hs k ≡ 0 = subst (λ j. times hs j ≡ 0) (eqb-true h.0 k same) none in
+          let c = count-has f k (subst (λ j. has f j ≡ true) (eqb-true h.0 k same) there) in
+          rw same (omega arith)
+      | inr other ↦ let c = few k (times hs k) refl (once k) in rw other (omega arith)
+    ]
 
 -- A value more in a table.
 module _ {T : Type 0} (t : Table T) (h : Handle) (v : T) (within : h.0 < length t.values) (vacant : value_at t h.0 ≡ None) where

@@ -6,8 +6,7 @@ use Rattle.gui_base.specs.Forest.{Forest, has, tree_at}
 use Rattle.gui_pool.specs.Table.{Table, value_at, value_replaced}
 use Rattle.gui_tree.proofs.Below.{own_tree}
 use Rattle.gui_boxes.specs.declared.mark.Mark.{Mark}
-use Rattle.gui_boxes.specs.declared.mark.Mark.TheVariants.{Settled}
-use Rattle.gui_boxes.specs.Pending.{is_all, is_pending}
+use Rattle.gui_boxes.specs.Pending.{is_all, is_first, is_own, is_pending}
 use Rattle.gui_boxes.specs.Tables.{listing_of}
 use Rattle.gui_boxes.proofs.Listed.{listed_replaced, some_listed}
 use Rattle.gui_boxes.proofs.These.{value-set, within_of}
@@ -30,15 +29,21 @@ pending-some (Some b) is = refl
 pub record Finishes (old new : Table Mark) (h : ℕ) : Type 0 where
   pub own : is_pending new h ≡ false
   pub rest : (k : ℕ) → eqb h k ≡ false → is_pending new k ≡ is_pending old k
+  pub first : (k : ℕ) → is_first new k ≡ is_first old k
   pub listed : listing_of new ≡ listing_of old
 
-pub finishes : (t : Table Mark) (h : ℕ) → IsSome (value_at t h) → Finishes t (value_replaced t h Settled) h
-finishes t h some =
-    let value : (k : ℕ) → value_at (value_replaced t h Settled) k ≡ cond (eqb h k) (Some Settled) (value_at t k) = λ k. value-set t.values h k (Some Settled) (within_of t h some) in
+pub finishes : (t : Table Mark) (h : ℕ) (next : Mark) → is_pending t h ≡ true → is_all (Some next) ≡ false → is_own (Some next) ≡ is_first t h → Finishes t (value_replaced t h next) h
+finishes t h next on done first =
+    let some = pending-some (value_at t h) on in
+    let value : (k : ℕ) → value_at (value_replaced t h next) k ≡ cond (eqb h k) (Some next) (value_at t k) = λ k. value-set t.values h k (Some next) (within_of t h some) in
     record {
-      own = ap is_all (value h ∙ ap (λ b. cond b (Some Settled) (value_at t h)) (eq-eqb h h refl));
-      rest = λ k other. ap is_all (value k ∙ ap (λ b. cond b (Some Settled) (value_at t k)) other);
-      listed = listed_replaced t h Settled (some_listed t h some);
+      own = ap is_all (value h ∙ ap (λ b. cond b (Some next) (value_at t h)) (eq-eqb h h refl)) ∙ done;
+      rest = λ k other. ap is_all (value k ∙ ap (λ b. cond b (Some next) (value_at t k)) other);
+      first = λ k. elim (cases_Bool (eqb h k)) [
+        | inl same ↦ ap is_own (value k ∙ ap (λ b. cond b (Some next) (value_at t k)) same) ∙ subst (λ j. is_own (Some next) ≡ is_first t j) (eqb-true h k same) first
+        | inr other ↦ ap is_own (value k ∙ ap (λ b. cond b (Some next) (value_at t k)) other)
+      ];
+      listed = listed_replaced t h next (some_listed t h some);
     }
 
 -- what stands outside of an object's tree is another

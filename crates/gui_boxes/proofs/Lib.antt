@@ -1,4 +1,5 @@
 pub mod Adding
+pub mod Reports
 pub mod Columns
 pub mod Dealt
 pub mod Each

@@ -9,7 +9,8 @@ use Rattle.gui_pool.specs.Table.{Table, value_at, value_replaced}
 use Rattle.gui_boxes.specs.declared.entry.Entry.{Entry}
 use Rattle.gui_boxes.specs.Scrolls.{scrolled_of}
 use Rattle.gui_boxes.specs.Slots.{slot_of}
-use Rattle.gui_boxes.specs.Tables.{IsEntry, IsListed, listing_of, natural_height_or, natural_width_or, scrolled_or, slot_or, told, touched_or, wanted_or, width_or}
+use Rattle.gui_boxes.specs.Standing.{standing_of}
+use Rattle.gui_boxes.specs.Tables.{IsEntry, IsListed, listing_of, natural_height_or, natural_width_or, reported_or, scrolled_or, slot_or, told, touched_or, wanted_or, width_or}
 use Rattle.gui_boxes.specs.Views.{box_or}
 
 module _ {T : Type 0} where
@@ -55,6 +56,7 @@ is_entry t h e is = record {
   slot = ap slot_or is ∙ sym (told_at slot_or t h);
   scrolled = ap scrolled_or is ∙ sym (told_at scrolled_or t h);
   touched = ap touched_or is ∙ sym (told_at touched_or t h);
+  reported = ap reported_or is ∙ sym (told_at reported_or t h);
 }
 
 -- Another entry for a handle: what it tells otherwise is set, and all else is the same.
@@ -74,6 +76,7 @@ module _ (t : Table Entry) (h : ℕ) (e v : Entry) (was : Some e ≡ value_at t 
     slots = same_told slot_or (ap (λ (x : Entry). slot_of x.position) is) i;
     scrolls = same_told scrolled_or (ap (λ (x : Entry). scrolled_of x.scrolled) is) i;
     touched = same_told touched_or (ap (λ (x : Entry). x.touched) is) i;
+    reported = same_told reported_or (ap (λ (x : Entry). standing_of x.reported) is) i;
   }
 
   pub natural_width_set : v ≡ record e { natural_width = v.natural_width } → told (value_replaced t h v) ≡ record (told t) { natural_widths = set (told t).natural_widths h v.natural_width.pixels }
@@ -85,6 +88,7 @@ module _ (t : Table Entry) (h : ℕ) (e v : Entry) (was : Some e ≡ value_at t 
     slots = same_told slot_or (ap (λ (x : Entry). slot_of x.position) is) i;
     scrolls = same_told scrolled_or (ap (λ (x : Entry). scrolled_of x.scrolled) is) i;
     touched = same_told touched_or (ap (λ (x : Entry). x.touched) is) i;
+    reported = same_told reported_or (ap (λ (x : Entry). standing_of x.reported) is) i;
   }
 
   pub width_set : v ≡ record e { width = v.width } → told (value_replaced t h v) ≡ record (told t) { widths = set (told t).widths h v.width.pixels }
@@ -96,6 +100,7 @@ module _ (t : Table Entry) (h : ℕ) (e v : Entry) (was : Some e ≡ value_at t 
     slots = same_told slot_or (ap (λ (x : Entry). slot_of x.position) is) i;
     scrolls = same_told scrolled_or (ap (λ (x : Entry). scrolled_of x.scrolled) is) i;
     touched = same_told touched_or (ap (λ (x : Entry). x.touched) is) i;
+    reported = same_told reported_or (ap (λ (x : Entry). standing_of x.reported) is) i;
   }
 
   pub natural_height_set : v ≡ record e { natural_height = v.natural_height } → told (value_replaced t h v) ≡ record (told t) { natural_heights = set (told t).natural_heights h v.natural_height.pixels }
@@ -107,6 +112,7 @@ module _ (t : Table Entry) (h : ℕ) (e v : Entry) (was : Some e ≡ value_at t 
     slots = same_told slot_or (ap (λ (x : Entry). slot_of x.position) is) i;
     scrolls = same_told scrolled_or (ap (λ (x : Entry). scrolled_of x.scrolled) is) i;
     touched = same_told touched_or (ap (λ (x : Entry). x.touched) is) i;
+    reported = same_told reported_or (ap (λ (x : Entry). standing_of x.reported) is) i;
   }
 
   pub position_set : v ≡ record e { position = v.position } → told (value_replaced t h v) ≡ record (told t) { slots = set (told t).slots h (slot_of v.position) }
@@ -118,6 +124,7 @@ module _ (t : Table Entry) (h : ℕ) (e v : Entry) (was : Some e ≡ value_at t 
     slots = set_told slot_or i;
     scrolls = same_told scrolled_or (ap (λ (x : Entry). scrolled_of x.scrolled) is) i;
     touched = same_told touched_or (ap (λ (x : Entry). x.touched) is) i;
+    reported = same_told reported_or (ap (λ (x : Entry). standing_of x.reported) is) i;
   }
 
   pub scrolled_set : v ≡ record e { scrolled = v.scrolled } → told (value_replaced t h v) ≡ record (told t) { scrolls = set (told t).scrolls h (scrolled_of v.scrolled) }
@@ -129,6 +136,7 @@ module _ (t : Table Entry) (h : ℕ) (e v : Entry) (was : Some e ≡ value_at t 
     slots = same_told slot_or (ap (λ (x : Entry). slot_of x.position) is) i;
     scrolls = set_told scrolled_or i;
     touched = same_told touched_or (ap (λ (x : Entry). x.touched) is) i;
+    reported = same_told reported_or (ap (λ (x : Entry). standing_of x.reported) is) i;
   }
 
   pub touched_set : v ≡ record e { touched = v.touched } → told (value_replaced t h v) ≡ record (told t) { touched = set (told t).touched h v.touched }
@@ -140,4 +148,17 @@ module _ (t : Table Entry) (h : ℕ) (e v : Entry) (was : Some e ≡ value_at t 
     slots = same_told slot_or (ap (λ (x : Entry). slot_of x.position) is) i;
     scrolls = same_told scrolled_or (ap (λ (x : Entry). scrolled_of x.scrolled) is) i;
     touched = set_told touched_or i;
+    reported = same_told reported_or (ap (λ (x : Entry). standing_of x.reported) is) i;
+  }
+
+  pub rested_set : v ≡ record e { touched = v.touched; reported = v.reported } → told (value_replaced t h v) ≡ record (told t) { touched = set (told t).touched h v.touched; reported = set (told t).reported h (standing_of v.reported) }
+  rested_set is = λ i. record {
+    boxes = same_told wanted_or (ap (λ (x : Entry). Some x.wanted) is) i;
+    natural_widths = same_told natural_width_or (ap (λ (x : Entry). x.natural_width.pixels) is) i;
+    widths = same_told width_or (ap (λ (x : Entry). x.width.pixels) is) i;
+    natural_heights = same_told natural_height_or (ap (λ (x : Entry). x.natural_height.pixels) is) i;
+    slots = same_told slot_or (ap (λ (x : Entry). slot_of x.position) is) i;
+    scrolls = same_told scrolled_or (ap (λ (x : Entry). scrolled_of x.scrolled) is) i;
+    touched = set_told touched_or i;
+    reported = set_told reported_or i;
   }

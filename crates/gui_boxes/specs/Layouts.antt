@@ -54,3 +54,7 @@ ButTouchedPlaces old new = new ≡ record old { slots = new.slots; scrolls = new
 -- nothing but what is touched is
 abbrev pub ButTouched : Layout → Layout → Type 0
 ButTouched old new = new ≡ record old { touched = new.touched }
+
+-- nothing but what is touched, and what was told last, is
+abbrev pub ButTold : Layout → Layout → Type 0
+ButTold old new = new ≡ record old { touched = new.touched; reported = new.reported }

@@ -3,6 +3,7 @@ pub mod Found
 pub mod Reaches
 pub mod Slots
 pub mod Scrolls
+pub mod Standing
 pub mod Tables
 pub mod Listing
 pub mod Kids
@@ -11,6 +12,7 @@ pub mod Settled
 pub mod Touched
 pub mod Frames
 pub mod Layouts
+pub mod Telling
 pub mod Pending
 pub mod Around
 pub mod Marks

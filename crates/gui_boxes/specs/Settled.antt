@@ -10,6 +10,7 @@ use Rattle.layout_defs.specs.Boxes.{Box, course_of, inner}
 use Rattle.layout_defs.specs.Solving.{Wide, Tall, Slot, nowhere, width_in, own_slot, room_of}
 use Rattle.layout_defs.specs.Solving.{natural_width, kid_widths, natural_height, kid_slots}
 use Rattle.gui_boxes.specs.Scrolls.{Scrolled}
+use Rattle.gui_boxes.specs.Standing.{Standing}
 use Rattle.gui_boxes.specs.declared.layout_box.LayoutBox.{LayoutBox}
 
 -- what is known of an object
@@ -71,6 +72,7 @@ pub record Layout : Type 0 where
   pub slots : List Slot
   pub scrolls : List Scrolled
   pub touched : List Bool
+  pub reported : List Standing
 
 abbrev pub known_at : (ℕ → Box) → Layout → ℕ → Known
 known_at box l h = record {

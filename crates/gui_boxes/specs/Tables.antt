@@ -9,6 +9,7 @@ use Rattle.gui_boxes.specs.declared.entry.Entry.{Entry}
 use Rattle.gui_boxes.specs.declared.layout_box.LayoutBox.{LayoutBox}
 use Rattle.gui_boxes.specs.Settled.{Layout}
 use Rattle.gui_boxes.specs.Touched.{touched_at}
+use Rattle.gui_boxes.specs.Standing.{Standing, not_standing, reported_at, standing_of}
 use Rattle.gui_boxes.specs.Slots.{slot_of, slot_at}
 use Rattle.gui_boxes.specs.Scrolls.{Scrolled, not_scrolled, scrolled_of, scrolled_at}
 use Rattle.gui_boxes.specs.Views.{box_of, box_at}
@@ -42,6 +43,14 @@ abbrev pub touched_or : Option Entry → Bool
 touched_or None = false
 touched_or (Some e) = e.touched
 
+abbrev pub reported_or : Option Entry → Standing
+reported_or None = not_standing
+reported_or (Some e) = standing_of e.reported
+
+-- where an object stands by its entry
+abbrev pub standing_in : Entry → Standing
+standing_in e = record { width = e.width.pixels; slot = slot_of e.position; scrolled = scrolled_of e.scrolled }
+
 -- what the entries tell of each handle
 abbrev pub told : Table Entry → Layout
 told t = record {
@@ -52,6 +61,7 @@ told t = record {
   slots = map slot_or t.values;
   scrolls = map scrolled_or t.values;
   touched = map touched_or t.values;
+  reported = map reported_or t.values;
 }
 
 -- an entry is that of h
@@ -63,6 +73,7 @@ pub record IsEntry (l : Layout) (h : ℕ) (e : Entry) : Type 0 where
   pub slot : slot_of e.position ≡ slot_at l.slots h
   pub scrolled : scrolled_of e.scrolled ≡ scrolled_at l.scrolls h
   pub touched : e.touched ≡ touched_at l.touched h
+  pub reported : standing_of e.reported ≡ reported_at l.reported h
 
 -- the area of an object by its entry
 abbrev pub area_in : Entry → Rect

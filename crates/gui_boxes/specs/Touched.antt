@@ -1,11 +1,12 @@
 -- Objects that passes visit: the touched ones. Of all others nothing changes.
-use Rattle.std.specs.Prelude.{◌≡◌, ℕ, Bool, true, false, List, slice_index_or}
+use Rattle.std.specs.Prelude.{◌≡◌, ℕ, Bool, true, false, List, slice_index, slice_index_or}
 use Rattle.layout_defs.specs.Boxes.{Box}
 use Rattle.layout_defs.specs.Solving.{Slot}
 use Rattle.gui_boxes.specs.Scrolls.{Scrolled, scrolled_at, scrolled_in}
 use Rattle.gui_boxes.specs.Slots.{slot_at, tall_at, talls}
 use Rattle.gui_base.specs.Forest.{Forest, Empty, Tree, has, has_by, roots}
 use Rattle.gui_boxes.specs.Settled.{Known, Layout}
+use Rattle.gui_boxes.specs.Standing.{Standing, reported_at}
 
 -- whether an object is touched
 abbrev pub touched_at : List Bool → ℕ → Bool
@@ -13,6 +14,15 @@ touched_at touched k = slice_index_or touched k false
 
 abbrev pub is_touched : Layout → ℕ → Bool
 is_touched l k = touched_at l.touched k
+
+-- where an object stands, and how far it moves its children
+abbrev pub standing_at : Layout → ℕ → Standing
+standing_at l k = record { width = slice_index l.widths k; slot = slot_at l.slots k; scrolled = scrolled_at l.scrolls k }
+
+-- an object is not touched, and it stands, and moves its children, as it was told last
+pub record IsAtRest (l : Layout) (k : ℕ) : Type 0 where
+  pub untouched : is_touched l k ≡ false
+  pub told : reported_at l.reported k ≡ standing_at l k
 
 -- below one that is not touched none is
 abbrev pub IsClosed : (ℕ → Bool) → Forest ℕ → Type 0

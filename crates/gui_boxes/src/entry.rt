@@ -3,6 +3,7 @@ use crate::layout_box::LayoutBox;
 use crate::position::Position;
 use crate::reach::Scrolled;
 use crate::size::Size;
+use crate::standing::Standing;
 
 /// What layout knows of an object.
 #[derive(Clone, Copy, Drop)]
@@ -16,4 +17,6 @@ pub struct Entry {
     pub scrolled: Scrolled,
     /// Whether a pass visits it: it, or something below it, may differ.
     pub touched: bool,
+    /// What was told of it last, when it was let go.
+    pub reported: Standing,
 }

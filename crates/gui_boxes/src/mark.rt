@@ -7,6 +7,8 @@ pub enum Mark {
     All,
     /// Its list of children alone may be another.
     Children,
+    /// So it is, and the object's place may go by them.
+    Raised,
     /// What it concerns is settled.
     Settled,
 }

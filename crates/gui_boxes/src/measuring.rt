@@ -70,7 +70,8 @@ fn flowing(grow: u8, natural: u16) -> u32
     if grow > 0 { 0 } else { u32::from(natural) }
 }
 
-/// The same with a child more, by its box and its axis. A hidden one takes no part.
+/// The natural size of a parent after one more child, which its box and its axis give. A hidden child takes no
+/// part.
 pub fn with_kid(total: Total, run: Run, kid: &LayoutBox, axis: &Axis, natural: u16) -> Total
     requires count { total.count < 4000 }
     ensures value { (h : ℕ) → total_of result ≡ with_kid run (total_of total)

@@ -3,8 +3,9 @@ ghost use Rattle.std.specs.Prelude.{◌≡◌, ◌≤◌, Some, true, false, is_
 ghost use Rattle.gui_pool.specs.Table.{value_at};
 ghost use Rattle.gui_boxes.specs.Slots.{slot_of};
 ghost use Rattle.gui_boxes.specs.Scrolls.{scrolled_of};
-ghost use Rattle.gui_boxes.specs.Tables.{told, IsEntry, IsListed, listing_of};
-ghost use Rattle.gui_boxes.specs.Touched.{is_touched, Touches};
+ghost use Rattle.gui_boxes.specs.Standing.{standing_of};
+ghost use Rattle.gui_boxes.specs.Tables.{told, standing_in, IsEntry, IsListed, listing_of};
+ghost use Rattle.gui_boxes.specs.Touched.{is_touched, standing_at, Touches};
 ghost use Rattle.gui_boxes.specs.Layouts.{ButTouchedSlots, ButTouchedWidths};
 ghost use Rattle.layout_defs.specs.Solving.{nowhere};
 ghost use Rattle.gui_base.specs.Forest.{leaf};
@@ -14,6 +15,7 @@ use crate::layout_box::LayoutBox;
 use crate::position::{CORNER, Position};
 use crate::reach::{NOT_SCROLLED, Scrolled};
 use crate::size::Size;
+use crate::standing::{NOT_STANDING, Standing};
 use gui_base::Handle;
 use gui_pool::Table;
 
@@ -51,6 +53,7 @@ pub fn new_entry(wanted: LayoutBox) -> Entry
         position: CORNER,
         scrolled: NOT_SCROLLED,
         touched: false,
+        reported: NOT_STANDING,
     }
 }
 
@@ -93,20 +96,22 @@ pub fn touch(entries: &mut Table<Entry>, h: Handle)
     let _ = entries.replace(h.0 as u32, changed);
 }
 
-/// Lets go of an object that has an entry: it is touched no more. Nothing is written where it was not.
+/// Lets go of an object that has an entry: it is touched no more, and counts as told as it stands.
 pub fn let_rest(entries: &mut Table<Entry>, h: Handle)
     requires { IsListed (listing_of entries.old) h.0 }
     ensures set { told entries.new ≡ record (told entries.old) {
       touched = slice_set (told entries.old).touched h.0 false;
+      reported = slice_set (told entries.old).reported h.0 (standing_at (told entries.old) h.0);
     } }
     ensures listed { listing_of entries.new ≡ listing_of entries.old }
 {
-    let known = entry_of(entries, h);
-    if !known.touched {
-        return;
-    }
-    let mut changed = *known;
+    let mut changed = *entry_of(entries, h);
     changed.touched = false;
+    changed.reported = Standing {
+        width: changed.width,
+        position: changed.position,
+        scrolled: changed.scrolled,
+    };
     let _ = entries.replace(h.0 as u32, changed);
 }
 
@@ -188,7 +193,8 @@ pub fn set_natural_height(entries: &mut Table<Entry>, h: Handle, pixels: u16)
 
 /// Whether both are the same place.
 fn is_same(position: &Position, other: &Position) -> bool
-    ensures { result ≡ true → slot_of position.now ≡ slot_of other.now }
+    ensures same { result ≡ true → slot_of position.now ≡ slot_of other.now }
+    ensures other { slot_of position.now ≡ slot_of other.now → result ≡ true }
 {
     position.x == other.x && position.y == other.y && position.height == other.height
 }
@@ -231,7 +237,8 @@ pub fn give_position(entries: &mut Table<Entry>, h: Handle, position: Position)
 
 /// Whether both are the same.
 fn is_same_scrolled(scrolled: &Scrolled, other: &Scrolled) -> bool
-    ensures { result ≡ true → scrolled_of scrolled.now ≡ scrolled_of other.now }
+    ensures same { result ≡ true → scrolled_of scrolled.now ≡ scrolled_of other.now }
+    ensures other { scrolled_of scrolled.now ≡ scrolled_of other.now → result ≡ true }
 {
     (scrolled.reach.across == other.reach.across && scrolled.reach.down == other.reach.down)
         && (scrolled.offset.across == other.offset.across
@@ -255,4 +262,15 @@ pub fn set_scrolled(entries: &mut Table<Entry>, h: Handle, scrolled: Scrolled)
     let mut changed = *known;
     changed.scrolled = scrolled;
     let _ = entries.replace(h.0 as u32, changed);
+}
+
+/// Whether an object stands, and moves its children, as it was told last.
+pub(crate) fn is_told(known: &Entry) -> bool
+    ensures same { result ≡ true → standing_of known.now.reported ≡ standing_in known.now }
+    ensures other { standing_of known.now.reported ≡ standing_in known.now → result ≡ true }
+{
+    let last = &known.reported;
+    last.width.pixels == known.width.pixels
+        && (is_same(&last.position, &known.position)
+            && is_same_scrolled(&last.scrolled, &known.scrolled))
 }

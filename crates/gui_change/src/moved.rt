@@ -26,7 +26,7 @@ pub(crate) fn mark_moved(marks: &mut Marks, store: &Store, change: &Change, conc
     if moves_nobody(change) {
         return;
     }
-    // Lending the tree tells that the scene is in order.
+    // For the proof alone: `tree` says that the scene is in order.
     let _tree = store.tree();
     mark_concerned(marks, store, concerned);
 }

@@ -217,7 +217,7 @@ fn see_below_users(
         IsSeenIn table.new (scene_after after.now) k }
     ensures room { IsRoom (scene_after after.now).limits.objects listed.new }
 {
-    // Lending the tree tells that the scene is in order.
+    // For the proof alone: `tree` says that the scene is in order.
     let store = after.store;
     let _tree = store.tree();
     let mut users = store.users(style);

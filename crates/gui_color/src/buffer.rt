@@ -59,8 +59,8 @@ impl DrawBuf {
         Ok(DrawBuf { area, pixels })
     }
 
-    /// Makes the buffer hold the pixels of an area, which is not empty and has at most the limit's pixels,
-    /// all of them black. Each pixel that is written is a step.
+    /// Makes the buffer hold the pixels of an area, all of them black. The area is not empty and has at most
+    /// the limit's pixels. Each pixel that is written is a step.
     pub fn begin<L: Ledger>(&mut self, area: Area, steps: &mut Steps<L>)
         requires some { is_empty (rect_of area) ≡ false }
         requires fits { size_of (rect_of area) ≤ self.old.limit }
@@ -123,8 +123,8 @@ impl DrawBuf {
         }
     }
 
-    /// The same with a colour that covers what it is mixed over, or with one that may not. Each has code of its
-    /// own, so what mixing makes ready is not made for what covers.
+    /// Mixes a colour over each pixel of a part. `COVERS` says that the colour covers what lies below it: such
+    /// a colour has code of its own, which prepares no mixing.
     #[inline(never)]
     fn lay<const COVERS: bool>(&mut self, part: Area, fg: Rgb565, opa: u8)
         requires covers { COVERS ≡ true → parts opa ≡ 32 }
@@ -142,7 +142,8 @@ impl DrawBuf {
         }
     }
 
-    /// The same of a part as wide as the area, whose lines lie one after another.
+    /// Mixes a colour over a part as wide as the area. Its lines lie one after another, so one run holds them
+    /// all.
     fn lay_whole_lines<const COVERS: bool>(&mut self, part: Area, fg: Rgb565, opa: u8)
         requires covers { COVERS ≡ true → parts opa ≡ 32 }
         requires wide { width_of (rect_of part) ≡ width_of self.old.area }
@@ -158,7 +159,7 @@ impl DrawBuf {
         lay_row::<COVERS>(self.run_mut(from, len), fg, opa);
     }
 
-    /// The same of any part, line by line.
+    /// Mixes a colour over any part, line by line.
     fn lay_lines<const COVERS: bool>(&mut self, part: Area, fg: Rgb565, opa: u8)
         requires covers { COVERS ≡ true → parts opa ≡ 32 }
         requires some { is_empty (rect_of part) ≡ false }

@@ -43,7 +43,7 @@ pub(crate) fn write_ends(row: &mut [Rgb565], group: [Rgb565; GROUP])
     }
 }
 
-/// The bits of the first four pixels of so many and of the last four, of a byte that has a bit for each, the
+/// The bits of the first four of `count` pixels and of the last four. `byte` has a bit for each pixel, the
 /// highest first.
 #[inline(always)]
 pub(crate) fn bits_of_ends(byte: u16, count: usize) -> u16

@@ -11,9 +11,9 @@ use std::simd::prelude::*;
 /// How many pixels a processor mixes at once: as many as a register of 128 bits holds.
 pub(crate) const GROUP: usize = 8;
 
-/// Mixes a group of colours over others, each with its own opacity from 0 to 255, by the formula of `mix`.
-/// What each channel comes to stands where its whole thirty-seconds need no shift of their own: red 64 times
-/// and green 32 times what it is.
+/// Mixes a group of colours over others, each with its own opacity from 0 to 255, according to the formula of
+/// `mix`. What each channel comes to stands where its whole thirty-seconds need no shift of their own: red 64
+/// times and green 32 times what it is.
 #[inline(always)]
 fn mix_lanes(fg: u16x8, bg: u16x8, opas: u16x8) -> u16x8
     requires { (k : ℕ) → k < 8 → slice_index opas k < 256 }
@@ -103,8 +103,8 @@ pub(crate) fn mix_one(group: &mut [Rgb565], fg: Rgb565, opa: u8)
     mix_group(group, u16x8::splat(fg.0), u16x8::splat(opa as u16));
 }
 
-/// Of each pixel of a group one of two numbers: that of `yes` where its bit of `byte` is 1, the highest first,
-/// and else that of `no`.
+/// For each pixel of a group one of two numbers: that of `yes` if its bit of `byte` is 1, and else that of
+/// `no`. The highest bit comes first.
 #[inline(always)]
 fn choose_by(byte: u16, yes: u16x8, no: u16x8) -> u16x8
     requires { byte < 256 }
@@ -116,8 +116,8 @@ fn choose_by(byte: u16, yes: u16x8, no: u16x8) -> u16x8
     set.simd_ne(u16x8::splat(0)).select(yes, no)
 }
 
-/// Eight bits from bit `at` on, as a byte: some of its byte and some of the next, of which none are 1 where
-/// there is no next.
+/// Eight bits from bit `at` on, as a byte: some of its byte and some of the next. Bits behind the last byte are
+/// 0.
 #[inline(always)]
 pub(crate) fn bits_from(bits: &[u8], at: usize) -> u16
     requires { at < 8 * length bits.now }
@@ -149,7 +149,8 @@ pub(crate) fn mix_masked(group: &mut [Rgb565], bits: &[u8], at: usize, fg: Rgb56
     mix_by(group, bits_from(bits, at), fg, opa);
 }
 
-/// The same by the bits of a byte, the highest first. Where `fg` is opaque, there is nothing to mix.
+/// Mixes `fg` over each pixel of a group whose bit in the byte is 1, the highest bit first. An opaque `fg`
+/// needs no mixing.
 #[inline(always)]
 pub(crate) fn mix_by(group: &mut [Rgb565], byte: u16, fg: Rgb565, opa: u8)
     requires len { length group.old ≡ 8 }

@@ -70,7 +70,8 @@ fn mask_groups(row: &mut [Rgb565], bits: &[u8], first: u32, fg: Rgb565, opa: u8)
     }
 }
 
-/// The same of a row that is no group, as most rows of letters are: its bits are taken as one byte.
+/// Mixes `fg` over each pixel whose bit is 1, in a row shorter than a group. Most rows of letters are so short.
+/// Their bits are read as one byte.
 #[inline(always)]
 fn mask_short(row: &mut [Rgb565], bits: &[u8], first: u32, fg: Rgb565, opa: u8)
     requires short { length row.old < 8 }

@@ -8,8 +8,8 @@ use gui_base::Rgb565;
 /// All thirty-seconds: the upper colour alone is seen.
 pub(crate) const ALL_PARTS: u16 = 32;
 
-/// `fg` over `bg` with an opacity from 0 to 255. Each channel is `bg + floor((fg - bg) * m / 32)` with `m =
-/// floor((opa + 4) / 8)`, so opacities from 252 on give `fg`, and those up to 3 leave `bg`.
+/// `fg` over `bg` with an opacity from 0 to 255. Each channel is `bg + floor((fg - bg) * m / 32)` with
+/// `m = floor((opa + 4) / 8)`, so opacities from 252 on give `fg`, and those up to 3 leave `bg`.
 #[inline]
 pub fn mix(fg: Rgb565, bg: Rgb565, opa: u8) -> Rgb565
     ensures { result ≡ mix fg bg opa }
@@ -81,7 +81,7 @@ impl Veil {
         Rgb565(red / 2048 * 2048 + (green / 1024 * 1024 + blue) / 32)
     }
 
-    /// The same where a test holds.
+    /// The colour that is seen: the mixed one if a test holds, and else the one below.
     #[inline(always)]
     pub(crate) fn over_if(self, test: bool, bg: Rgb565) -> Rgb565
         ensures { result ≡ masked test self.fg self.opa bg }

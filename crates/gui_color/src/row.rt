@@ -45,9 +45,9 @@ fn cover_row(row: &mut [Rgb565], fg: Rgb565)
     }
 }
 
-/// Mixes `fg` over each pixel, a group at a time. Where whole groups leave pixels over, those are mixed
-/// together with some before them, as the row's last group: from what the row was, and written when the whole
-/// groups are mixed.
+/// Mixes `fg` over each pixel, a group at a time. If whole groups leave pixels over, those are mixed together
+/// with some before them, as the row's last group: from what the row was, and written when the whole groups are
+/// mixed.
 #[inline(always)]
 fn blend_row(row: &mut [Rgb565], fg: Rgb565, opa: u8)
     ensures { row.new ≡ map (λ bg. mix fg bg opa) row.old }

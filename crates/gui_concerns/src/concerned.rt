@@ -59,7 +59,7 @@ fn is_below_user(store: &Store, style: u16, k: Handle) -> bool
 }
 
 impl Concerned {
-    /// Whether an object may be among them, by the trees after the change.
+    /// Whether an object may be among them, according to the trees after the change.
     pub fn may_be(self, store: &Store, h: Handle) -> bool
         ensures { result ≡ may_be (scene_of store.now) self h.0 }
     {
@@ -76,7 +76,7 @@ impl Concerned {
     }
 }
 
-/// The parent of an object, or the object itself where it has none.
+/// The parent of an object, or the object itself if it has none.
 fn parent_or_self(tree: &Tree, h: Handle) -> Handle
     ensures { result ≡ as_handle (parent_or_self tree.now.forest h.0) }
 {
@@ -96,8 +96,8 @@ fn is_own(reach: Reach) -> bool
     }
 }
 
-/// The objects that a change may concern, by the store before it. Of a tree that is deleted none is left: so
-/// it concerns the parent alone.
+/// The objects that a change may concern, according to the store before it. Of a tree that is deleted none is
+/// left: so it concerns the parent alone.
 pub fn concerned_by(store: &Store, change: &Change) -> Concerned
     ensures covers { Covers result (scene_of store.now) change.now }
     ensures exact { result ≡ concerned_by (scene_of store.now) change.now }

@@ -8,7 +8,7 @@ use gui_base::Handle;
 use gui_store::{Store, subject_of};
 use scene_defs::Change;
 
-/// What a change does to the trees, as far as places go by it.
+/// What a change does to the trees, as far as places depend on it.
 #[derive(Clone, Copy)]
 pub enum Edit {
     /// A child of this object goes elsewhere among its siblings.
@@ -19,7 +19,7 @@ pub enum Edit {
     New(Handle, Handle),
     /// The tree at this object goes from the second one, if it had a parent, below the third.
     Reparented(Handle, Option<Handle>, Handle),
-    /// The same objects stand in the same trees, and the same trees are shown.
+    /// Nothing changes: the same objects stand in the same trees, and the same trees are shown.
     Same,
     /// Anything else.
     Other,

@@ -100,8 +100,8 @@ fn mark_all(marks: &mut Marks, store: &Store)
     mark_trees(marks, tree, tree.roots());
 }
 
-/// Marks the objects that are there and that a change may concern. Where it concerns some of them, no others
-/// are visited.
+/// Marks the objects that are there and that a change may concern. If it concerns some of them, no others are
+/// visited.
 pub fn mark_concerned(marks: &mut Marks, store: &Store, concerned: Concerned)
     requires room { AreMarked marks.old (handles_of (scene_of store.now).trees) }
     ensures marks { AlsoMarks marks.old marks.new
@@ -170,7 +170,7 @@ pub fn mark_new(marks: &mut Marks, store: &Store, child: Handle, parent: Handle)
         is_marked marks.new k ≡ false }
     ensures most { most_marks marks.new ≡ most_marks marks.old }
 {
-    // Lending the tree tells that the scene is in order.
+    // For the proof alone: `tree` says that the scene is in order.
     let _tree = store.tree();
     marks.mark(child);
     marks.mark_children(parent);
@@ -211,7 +211,7 @@ pub fn mark_beside(marks: &mut Marks, store: &Store, parent: Handle)
     ensures others { (k : ℕ) → (k == parent.0) ≡ false → is_marked marks.new k ≡ false }
     ensures most { most_marks marks.new ≡ most_marks marks.old }
 {
-    // Lending the tree tells that the scene is in order.
+    // For the proof alone: `tree` says that the scene is in order.
     let _tree = store.tree();
     marks.mark_children(parent);
 }

@@ -8,8 +8,8 @@ use gui_base::{Flag, Part, Prop, Selector};
 use gui_store::subject_of;
 use scene_defs::Change;
 
-/// Whether layout goes by the value of a property of the main part: by all but colours, opacities and how the
-/// lines of a text are aligned.
+/// Whether layout depends on the value of a property of the main part. It depends on all but colours, opacities
+/// and how the lines of a text are aligned.
 fn goes_by(prop: Prop) -> bool
     ensures { result ≡ goes_by prop }
 {
@@ -21,14 +21,14 @@ fn goes_by(prop: Prop) -> bool
     }
 }
 
-/// Whether layout goes by what is set for a selector.
+/// Whether layout depends on what is set for a selector.
 fn goes_by_set(selector: Selector, prop: Prop) -> bool
     ensures { result ≡ goes_by_set selector prop }
 {
     selector.part == Part::Main && goes_by(prop)
 }
 
-/// Whether layout goes by a flag.
+/// Whether layout depends on a flag.
 fn goes_by_flag(flag: Flag) -> bool
     ensures { result ≡ goes_by_flag flag }
 {

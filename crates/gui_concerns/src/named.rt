@@ -8,7 +8,7 @@ use gui_base::Handle;
 use gui_store::subject_of;
 use scene_defs::Change;
 
-/// The object that a change names first, where it names one.
+/// The object that a change names first, if it names one.
 pub fn named_by(change: &Change) -> Option<Handle>
     ensures { option_map number_of result ≡ named change.now }
 {

@@ -36,7 +36,8 @@ use std::sync::ledger::Ledger;
 /// that are pending, and what sends their pixels of the scene's picture.
 ///
 /// From the opening on, and after each call, each pixel of the panel is pending, or its newest copy has the
-/// scene's colour: the one that is drawn and waits, else the one in flight, else what the panel shows.
+/// scene's colour. The newest copy is the one that is drawn and waits, else the one in flight, else what the
+/// panel shows.
 pub struct Gui {
     board: Board,
     refresher: Refresher,
@@ -45,7 +46,7 @@ pub struct Gui {
 }
 
 impl Drop for Gui {
-    /// Lets go of all that it holds. Who owns one calls this, where each field by itself would be dear to prove.
+    /// Lets go of every field in one call, which keeps the proofs of its owners short.
     fn drop(self) {
         let Gui {
             board: _,
@@ -67,9 +68,9 @@ impl Gui {
     ghost use Rattle.gui_core.specs.Machines.{machine_of, pending_in, refresher_in, stage_of};
     ghost use Rattle.gui_core.specs.Sums.{picture_sum};
 
-    /// A machine whose scene has the roots 1, 2 and 3, with screen 3 active, and no handlers, no groups and
-    /// no animations. Its devices have read nothing yet, and its time is 0. The whole panel is pending. It
-    /// takes all the memory that the machine will need; NoMemory where there is too little.
+    /// A machine whose scene has the roots 1, 2 and 3, with screen 3 active, and no handlers, no groups and no
+    /// animations. Its devices have read nothing yet, and its time is 0. The whole panel is pending. It takes
+    /// all the memory that the machine will need; NoMemory if there is too little.
     pub fn open(alloc: Global, limits: &Limits) -> Result<Gui, NoMemory>
         ensures machine { IfOk result (λ gui. machine_of gui ≡ first_machine (bounds_of limits.now)) }
         ensures whole { IfOk result (λ gui. (pending_in gui).areas ≡ (pending_in gui).panel ∷ []) }
@@ -85,10 +86,10 @@ impl Gui {
         Ok(Gui { board, refresher })
     }
 
-    /// Carries out a command, or answers its first refusal, which leaves all as it was, what is pending and
-    /// the log too. What its changes owe becomes pending. What its events write goes to the log. `Failed`
-    /// comes only where the log failed: the machine is then as if the log had not failed, and the log holds a
-    /// prefix of what the events write.
+    /// Carries out a command, or answers its first refusal, which leaves all as it was, what is pending and the
+    /// log too. What its changes owe becomes pending. What its events write goes to the log. `Failed` comes
+    /// only if the log failed: the machine is then as if the log had not failed, and the log holds a prefix of
+    /// what the events write.
     pub fn apply<S: Sink>(&mut self, command: &Command, log: &mut S) -> Result<Reply, Failed>
         requires { IsCommand command.now }
         ensures machine { machine_of self.new ≡ (step (machine_of self.old) command.now).machine }
@@ -132,14 +133,14 @@ impl Gui {
     }
 
     /// The object that a point of the panel hits: the last in paint order that is clickable and whose visible
-    /// area holds the point. `None` exactly where there is none.
+    /// area holds the point. `None` exactly if there is none.
     pub fn hit(&self, x: i32, y: i32) -> Option<Handle>
         ensures { result ≡ hit (machine_of self.now).scene x y }
     {
         self.board.hit(x, y)
     }
 
-    /// The object of a focus group that has the focus: `None` exactly where there is no such group or none has it.
+    /// The object of a focus group that has the focus: `None` exactly if there is no such group or none has it.
     pub fn focused(&self, group: u8) -> Option<Handle>
         ensures { result ≡ focused_in (group_at (machine_of self.now).groups group) }
     {
@@ -198,7 +199,7 @@ impl Gui {
     }
 
     /// Goes one step on to bring the scene's picture to the panel: a poll, a start, or a slice that is drawn.
-    /// It is idle exactly where nothing was pending, drawn or in flight. `steps` counts as in a refresh.
+    /// It is idle exactly if nothing was pending, drawn or in flight. `steps` counts as in a refresh.
     pub fn pump<P: Panel, B: Ledger>(&mut self, panel: &mut P, steps: &mut Steps<B>) -> Pumped
         requires { CanSend (stage_of self.old (P.state panel.old)) (machine_of self.old).scene }
         ensures machine { machine_of self.new ≡ machine_of self.old }

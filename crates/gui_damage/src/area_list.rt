@@ -44,8 +44,8 @@ impl AreaList {
         AreaList { panel, listed }
     }
 
-    /// Lists the area's part of the panel, which goes last. Nothing happens where that is empty or lies in a
-    /// listed area. Where 32 areas are listed, the list becomes the whole panel alone.
+    /// Lists the area's part of the panel, as the last of the list. Nothing happens if that is empty or lies in
+    /// a listed area. If 32 areas are listed, the list becomes the whole panel alone.
     pub(crate) fn add(&mut self, area: Area)
         ensures list { self.new ≡ added self.old (rect_of area) }
         ensures panel { self.new.panel ≡ self.old.panel }
@@ -73,7 +73,7 @@ impl AreaList {
         self.panel
     }
 
-    /// Puts an area of the panel, which is not empty, in the place of two listed ones.
+    /// Puts an area in the place of two listed ones. It lies in the panel and is not empty.
     pub(crate) fn replace(&mut self, i: usize, j: usize, area: Area)
         requires later { i < j }
         requires within { j < length self.old.areas }
@@ -84,8 +84,8 @@ impl AreaList {
         self.listed.remove(j);
     }
 
-    /// Takes the topmost lines of the first area, as many as have at most `limit` pixels, which is at least
-    /// its width. The rest of the area stays first. None where nothing is listed.
+    /// Takes the topmost lines of the first area, as many as have at most `limit` pixels. The limit is at least
+    /// the area's width. The rest of the area stays first. None if nothing is listed.
     pub(crate) fn take_slice(&mut self, limit: u32) -> Option<Area>
         requires { HasLine limit self.old.areas }
         ensures slice { option_map rect_of result ≡ slice_of limit self.old.areas }
@@ -106,7 +106,7 @@ impl AreaList {
         Some(slice)
     }
 
-    /// The first of the listed areas. None where nothing is listed.
+    /// The first of the listed areas. None if nothing is listed.
     pub(crate) fn first(&self) -> Option<Area>
         ensures { option_map rect_of result ≡ first_of self.now.areas }
     {

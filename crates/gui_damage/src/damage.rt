@@ -36,7 +36,7 @@ impl<R: Round> Model for Damage<R> {
 }
 
 impl<R: Round> Damage<R> {
-    /// The list with the whole panel, which is that of the rounding.
+    /// The list with the whole panel alone. The rounding is one of this panel.
     pub fn new(panel: Area, round: R) -> Damage<R>
         requires { rect_of panel ≡ (R.rules round).panel }
         ensures { result ≡ record { round = round; areas = rect_of panel ∷ [] } }
@@ -47,8 +47,8 @@ impl<R: Round> Damage<R> {
         }
     }
 
-    /// Lists the rounding of the area's part of the panel, which goes last. Nothing happens where that part
-    /// is empty, or where the rounding lies in a listed area. Where 32 areas are listed, the list becomes the
+    /// Lists the rounding of the area's part of the panel, as the last of the list. Nothing happens if that
+    /// part is empty, or if the rounding lies in a listed area. If 32 areas are listed, the list becomes the
     /// whole panel alone.
     pub fn add(&mut self, area: Area)
         ensures list { self.new ≡ added_to R.rules self.old (rect_of area) }
@@ -60,9 +60,9 @@ impl<R: Round> Damage<R> {
         }
     }
 
-    /// Adds areas, none of them empty, which lie in the panel. The list grows by no more than their
-    /// roundings, or it becomes the whole panel alone, where they come to more than 32 areas with those that
-    /// were listed.
+    /// Adds areas that lie in the panel and are not empty. The list grows by no more than their roundings.
+    /// Otherwise they come to more than 32 areas with those that were listed, and it becomes the whole panel
+    /// alone.
     pub fn add_all(&mut self, areas: &[Area])
         requires { list_all (is_within (R.rules self.old.round).panel) (rects_of areas.now) ≡ true }
         ensures list { self.new ≡ added_all_to R.rules self.old (rects_of areas.now) }
@@ -75,9 +75,9 @@ impl<R: Round> Damage<R> {
         }
     }
 
-    /// Replaces two listed areas that have a pixel in common, where the rounding of their join has fewer
-    /// pixels than both together, by that rounding, until there is no such pair. What was covered stays
-    /// covered, and the sum of the sizes does not grow.
+    /// Joins two listed areas if they have a pixel in common, and the rounding of their join has fewer pixels
+    /// than both together. That rounding takes their place. This goes on until there is no such pair. What was
+    /// covered stays covered, and the sum of the sizes does not grow.
     pub fn join_all(&mut self)
         ensures round { self.new.round ≡ self.old.round }
         ensures joins { JoinsAll (R.rules self.old.round).round
@@ -92,8 +92,8 @@ impl<R: Round> Damage<R> {
     }
 
     /// Takes the topmost lines of the first area: all of them, or the most whole steps of the rounding that
-    /// have at most `limit` pixels, which is at least the panel's width times the step. The rest of the area
-    /// stays first. None where nothing is listed.
+    /// have at most `limit` pixels. The limit is at least the panel's width times the step. The rest of the
+    /// area stays first. None if nothing is listed.
     pub fn take_slice(&mut self, limit: u32) -> Option<Area>
         requires { width_of (R.rules self.old.round).panel * (R.rules self.old.round).step ≤ limit }
         ensures slice { option_map rect_of result

@@ -8,7 +8,7 @@ ghost use Rattle.gui_damage.specs.Joining.{can_join, IsPair, HasNoPartner};
 
 use gui_base::{Area, Round};
 
-/// Where two areas of the panel stand that are to be joined, the earlier one first.
+/// The places of two listed areas that are to be joined, the earlier one first.
 pub(crate) fn pair_to_join<R: Round>(round: &R, areas: &[Area]) -> Option<(usize, usize)>
     requires { list_all (is_within (R.rules round.now).panel) (rects_of areas.now) ≡ true }
     ensures { MatchOption result
@@ -23,7 +23,7 @@ pub(crate) fn pair_to_join<R: Round>(round: &R, areas: &[Area]) -> Option<(usize
     None
 }
 
-/// Where a later area stands that one is to be joined with.
+/// The place of a later area with which this one is to be joined.
 fn partner_of<R: Round>(round: &R, areas: &[Area], i: usize) -> Option<usize>
     requires index { i < length areas.now }
     requires each { list_all (is_within (R.rules round.now).panel) (rects_of areas.now) ≡ true }

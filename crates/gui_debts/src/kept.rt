@@ -147,7 +147,7 @@ pub(crate) fn keep(bars: Bars) -> KeptBars
 }
 
 impl KeptBars {
-    /// The bars, where they are kept beside this place.
+    /// The bars, if they are kept beside this place.
     pub(crate) fn beside(&self, place: Option<Area>) -> Bars
         ensures { kept_in result ≡ wide (packed_in self.now) (option_map rect_of place) }
     {

@@ -92,7 +92,7 @@ impl Seen {
     }
 }
 
-/// All that is painted by what is known of an object, from back to front.
+/// All that is painted according to what is known of an object, from back to front.
 pub(crate) fn items_known(paints: Option<&Paints>) -> ArrayVec<Item, 6>
     ensures { items_shown result.items ≡ items_known (option_copied paints.entry) }
 {
@@ -117,7 +117,7 @@ impl ShownEntry<'_> {
         items_known(self.seen.paints.as_ref())
     }
 
-    /// The same of an object that paints its own part alone, as most do.
+    /// The two items of an object that paints its own part alone, as most do. `None` for any other.
     pub fn alone(&self) -> Option<[Item; 2]>
         ensures alone { is_some result ≡ paints_alone self.now.seen.now.paints }
         ensures items { IfSome result (λ items. items_shown items ≡ items_by self.now) }
@@ -156,7 +156,7 @@ fn paints_at(store: &Store, places: &Places, h: Handle, at: Option<Area>) -> Opt
     Some(paints(&look, area))
 }
 
-/// The record of an object in a place, as far as its record tells: the same where it stood there, and else one of
+/// The record of an object in a place, as far as its record tells: the same if it stood there, and else one of
 /// what paints its own part alone.
 fn paints_in(paints: &Paints, place: Area) -> Option<Paints>
     ensures { let was = items_known (Some paints.now) in
@@ -181,7 +181,7 @@ fn paints_known(known: Option<&Seen>, place: Area) -> Option<Paints>
     }
 }
 
-/// All that an object paints which is there. None of its values is looked up where what is known of it tells that.
+/// All that an object paints which is there. None of its values is looked up if what is known of it tells that.
 fn paints_again(
     store: &Store,
     places: &Places,
@@ -201,8 +201,8 @@ fn paints_again(
     }
 }
 
-/// What is seen of an object that is there. Where what is known may be kept and it shows no bars, no value of it is
-/// looked up, which no clause says.
+/// What is seen of an object that is there. If what is known may be kept and it shows no bars, no value of it
+/// is looked up, which no clause says.
 pub fn see(store: &Store, places: &Places, sighting: &Sighting, known: Option<&Seen>) -> Seen
     requires solved { AreSolved places.now (scene_of store.now) }
     requires reached { AreReached places.now (scene_of store.now) }

@@ -25,7 +25,7 @@ pub struct Sighting {
     pub visible: Option<Area>,
 }
 
-/// The area, where it has a pixel.
+/// The area, if it has a pixel.
 fn some_area(area: Area) -> Option<Area>
     ensures { option_map rect_of result ≡ some_area (rect_of area) }
 {
@@ -45,7 +45,7 @@ fn sight(store: &Store, places: &Places, h: Handle) -> Sighting
     }
 }
 
-/// Where an object is seen that stands there, by what is seen of its parent.
+/// Where an object is seen that stands there, according to what is seen of its parent.
 fn visible_below(store: &Store, h: Handle, parent: &Sighting, at: Option<Area>) -> Option<Area>
     requires parent { Some parent.now.h
         ≡ option_map as_handle (parent_of (handles_of (scene_of store.now).trees) h.0) }

@@ -62,7 +62,7 @@ fn stepped(offset: u32, step: i32, reach: u32) -> i32
     }
 }
 
-/// How far the children of an object reach out of it, across and down: nothing where it is not there.
+/// How far the children of an object reach out of it, across and down: nothing if it is not there.
 fn reach_in(places: &Places, h: Handle) -> (u32, u32)
     ensures { result ≡ pair_of (reach_at places.now h.0) }
 {
@@ -83,7 +83,7 @@ fn is_scrolled_to(row: &Row, x: i32, y: i32) -> bool
     x == row.scroll_x && y == row.scroll_y
 }
 
-/// How far the children of an object reach out of it, across and down: nothing where it is not there.
+/// How far the children of an object reach out of it, across and down: nothing if it is not there.
 fn reach_of(board: &Board, h: Handle) -> (u32, u32)
     ensures { result ≡ reach_of (machine_of board.now).scene h.0 }
 {
@@ -95,7 +95,7 @@ fn offset_of(board: &Board, h: Handle) -> (u32, u32)
     ensures value { result ≡ offset_of (machine_of board.now).scene h.0 }
     ensures small { (result.0 ≤ 8191) × (result.1 ≤ 8191) }
 {
-    // Lending the tree tells that the scene is in order.
+    // For the proof alone: `tree` says that the scene is in order.
     let _tree = board.store().tree();
     offset_in(board.places(), h)
 }
@@ -157,7 +157,7 @@ fn begin_scrolling(board: &mut Board, drag: Drag, target: Handle)
     }
 }
 
-/// The same where there is a target.
+/// A drag begins to scroll what its target allows, if there is a target.
 fn begin_aimed(board: &mut Board, drag: Drag, target: Option<Handle>)
     ensures { Quiet board.old board.new (aimed target (begin drag)) }
 {
@@ -166,7 +166,7 @@ fn begin_aimed(board: &mut Board, drag: Drag, target: Option<Handle>)
     }
 }
 
-/// The same once in a press.
+/// A drag begins to scroll, unless this press is scrolling already.
 fn begin_once(board: &mut Board, scrolling: Option<Scrolling>, drag: Drag, target: Option<Handle>)
     ensures { Quiet board.old board.new (begin_once scrolling drag target) }
 {
@@ -176,7 +176,7 @@ fn begin_once(board: &mut Board, scrolling: Option<Scrolling>, drag: Drag, targe
     }
 }
 
-/// A drag of the pointer begins to scroll, where none of this press did.
+/// A drag of the pointer begins to scroll, if none of this press did.
 fn begin_drag(board: &mut Board, drag: Drag)
     ensures { Quiet board.old board.new (begin_drag drag) }
 {
@@ -185,7 +185,7 @@ fn begin_drag(board: &mut Board, drag: Drag)
     begin_once(board, scrolling, drag, target);
 }
 
-/// An object is to be scrolled so far; no change where it is so already.
+/// An object is to be scrolled so far; no change if it is so already.
 fn put_scroll(board: &mut Board, x: i32, y: i32, h: Handle)
     ensures { Quiet board.old board.new (put_scroll x y h) }
 {
@@ -197,7 +197,7 @@ fn put_scroll(board: &mut Board, x: i32, y: i32, h: Handle)
     }
 }
 
-/// In the direction of scrolling an object goes by the step, and in the other it is as it takes effect.
+/// An object goes by the step in the direction of scrolling, and stays as it takes effect in the other.
 fn scroll_by(board: &mut Board, down: bool, drag: Drag, h: Handle)
     ensures { Quiet board.old board.new (scroll_by down drag h) }
 {
@@ -212,7 +212,7 @@ fn scroll_by(board: &mut Board, down: bool, drag: Drag, h: Handle)
     }
 }
 
-/// The same where the object is still there.
+/// Scrolls an object by a step of the drag, if it is still there.
 fn scroll_aimed(board: &mut Board, object: Option<Handle>, down: bool, drag: Drag)
     ensures { Quiet board.old board.new (aimed object (scroll_by down drag)) }
 {

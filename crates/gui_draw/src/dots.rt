@@ -40,7 +40,7 @@ pub(crate) fn ink_part<L: Ledger>(
     }
 }
 
-/// The same of one line of the part.
+/// Mixes the brush's colour over the pixels of one line of the part whose bits are 1.
 fn ink_line<L: Ledger>(
     buf: &mut DrawBuf,
     brush: Brush,

@@ -30,7 +30,7 @@ pub fn fill<L: Ledger>(
     }
 }
 
-/// The same of a part of the buffer's area.
+/// Mixes a colour over each pixel of a part that lies in the buffer's area.
 fn fill_part<L: Ledger>(buf: &mut DrawBuf, part: Area, fg: Rgb565, opa: u8, steps: &mut Steps<L>)
     requires { IsInside buf.old.area (rect_of part) }
     ensures { Draws buf.old buf.new steps.old steps.new (fill_coat (rect_of part) fg opa) }

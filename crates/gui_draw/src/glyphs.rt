@@ -121,7 +121,7 @@ fn seen_span(low: i64, high: i64, cell: i64, advance: u8, offset: i8, size: u8) 
     Some(Span { from, to, first })
 }
 
-/// Where a box begins that stands at an offset.
+/// Where a box begins, if it stands at an offset.
 fn start_of(cell: i64, offset: i8) -> i64
     requires { IsFar cell }
     ensures { result ≡ cell +ℤ offset }

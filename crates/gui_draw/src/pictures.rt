@@ -19,10 +19,10 @@ pub trait Picture {
     /// How many steps a pixel of a part takes at most.
     ghost per_pixel: { Self → ℕ };
 
-    /// How many a part takes at most besides those of its pixels.
+    /// How many steps a part takes at most besides those of its pixels.
     ghost per_slice: { Self → ℕ };
 
-    /// Draws what the picture has in the buffer's area, which is black, as `DrawBuf::begin` leaves it.
+    /// Draws what the picture has in the buffer's area. The area is black, as `DrawBuf::begin` leaves it.
     fn slice<L: Ledger>(&self, buf: &mut DrawBuf, steps: &mut Steps<L>)
         requires { IsBlack buf.old }
         ensures colors { ShowsColors buf.old buf.new (color self.now) }

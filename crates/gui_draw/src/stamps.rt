@@ -34,7 +34,7 @@ pub(crate) fn has_columns(part: Area, left: i64) -> bool
     i64::from(part.x1) <= left && end_of(left, 5) <= i64::from(part.x2)
 }
 
-/// The pixels of a box along one axis, so many from one on, where all of them are seen.
+/// The pixels of a box along one axis, `count` from one on, if all of them are seen.
 fn span_at(from: i64, count: u8) -> Span
     requires { IsFar from }
     ensures from { result.from ≡ from }
@@ -97,7 +97,7 @@ fn stamp_lines<L: Ledger>(
     }
 }
 
-/// The same of one line of the part.
+/// Mixes the stamp's colour over the dots of the character in one line of the part.
 #[inline(always)]
 fn stamp_line<L: Ledger>(
     buf: &mut DrawBuf,
@@ -119,7 +119,7 @@ fn stamp_line<L: Ledger>(
     tick_dots(c, y, steps);
 }
 
-/// Mixes `fg` over each pixel of a row whose bit is set in row `y` of a letter's glyph.
+/// Mixes `fg` over each pixel of a row if the pixel's bit is set in row `y` of a letter's glyph.
 #[inline(always)]
 fn ink_dots(row: &mut [Rgb565], c: char, y: u8, fg: Rgb565, opa: u8)
     requires wide { length row.old ≡ 5 }
@@ -135,8 +135,8 @@ fn ink_dots(row: &mut [Rgb565], c: char, y: u8, fg: Rgb565, opa: u8)
     }
 }
 
-/// Makes each pixel of a row `fg` whose bit is set in row `y` of a letter's glyph. The font's columns are
-/// read as they stand, since turning them into rows takes longer than the pixels do.
+/// Makes each pixel of a row `fg` if its bit is set in row `y` of a letter's glyph. It reads the font's columns
+/// as they stand: to turn them into rows takes longer than the pixels do.
 #[inline(always)]
 fn cover_dots(row: &mut [Rgb565], c: char, y: u8, fg: Rgb565)
     requires wide { length row.old ≡ 5 }
@@ -174,7 +174,7 @@ fn mix_dots(row: &mut [Rgb565], c: char, y: u8, fg: Rgb565, opa: u8)
     }
 }
 
-/// A colour over another where a test holds.
+/// A colour over another if a test holds.
 #[inline(always)]
 fn mixed_if(test: bool, fg: Rgb565, bg: Rgb565, opa: u8) -> Rgb565
     ensures { result ≡ masked test fg opa bg }

@@ -25,8 +25,8 @@ pub(crate) fn mix_colors(row: &mut [Rgb565], bytes: &[u8], first: usize, opa: u8
     }
 }
 
-/// Puts colours of two bytes over a row of pixels. The two are read and turned as one, so that a processor turns
-/// those of many pixels at once.
+/// Puts colours of two bytes over a row of pixels. It reads and turns the two bytes as one number, so that a
+/// processor turns those of many pixels at once.
 fn cover_colors(row: &mut [Rgb565], bytes: &[u8], first: usize)
     requires { (first + length row.old) * 2 ≤ length bytes.now }
     ensures { (k : ℕ) → k < length row.old →
@@ -38,7 +38,7 @@ fn cover_colors(row: &mut [Rgb565], bytes: &[u8], first: usize)
     }
 }
 
-/// Mixes them with an opacity.
+/// Mixes colours of two bytes with an opacity over a row of pixels.
 fn blend_colors(row: &mut [Rgb565], bytes: &[u8], first: usize, opa: u8)
     requires { (first + length row.old) * 2 ≤ length bytes.now }
     ensures { (k : ℕ) → k < length row.old → slice_index_or row.new k black
@@ -49,8 +49,8 @@ fn blend_colors(row: &mut [Rgb565], bytes: &[u8], first: usize, opa: u8)
     }
 }
 
-/// Mixes colours of two bytes and a byte with an opacity, after which comes `opa`. Some of them are read, and
-/// then mixed in lanes.
+/// Mixes colours of two bytes, each with the opacity of a third byte and then with `opa`. It reads some of
+/// them, and then mixes these in lanes.
 pub(crate) fn mix_shades(row: &mut [Rgb565], bytes: &[u8], first: usize, opa: u8)
     requires { (first + length row.old) * 3 ≤ length bytes.now }
     ensures { (k : ℕ) → k < length row.old → slice_index_or row.new k black
@@ -65,7 +65,7 @@ pub(crate) fn mix_shades(row: &mut [Rgb565], bytes: &[u8], first: usize, opa: u8
     mix_read(&mut row[from..], bytes, first + from, opa);
 }
 
-/// The same of no more than are read at a time.
+/// Mixes at most `READ` colours, each with its own opacity, over the pixels of a row.
 fn mix_read(row: &mut [Rgb565], bytes: &[u8], first: usize, opa: u8)
     requires few { length row.old ≤ 32 }
     requires bytes { (first + length row.old) * 3 ≤ length bytes.now }
@@ -82,7 +82,7 @@ fn mix_read(row: &mut [Rgb565], bytes: &[u8], first: usize, opa: u8)
     mix_row(row, &colors[..row.len()], &opas[..row.len()]);
 }
 
-/// Mixes a colour with the opacity of each byte, after which comes `opa`.
+/// Mixes a colour with the opacity of each byte and then with `opa`.
 pub(crate) fn mix_alphas(row: &mut [Rgb565], bytes: &[u8], first: usize, recolor: Rgb565, opa: u8)
     requires { first + length row.old ≤ length bytes.now }
     ensures { (k : ℕ) → k < length row.old → slice_index_or row.new k black

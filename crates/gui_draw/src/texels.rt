@@ -33,9 +33,9 @@ pub(crate) struct Texels<'a> {
 }
 
 // Each parameter by itself, as in all calls of this library: callers have them from different places.
-/// Mixes an image over the pixels of the buffer that are in the clip and in the area, at whose top left it
-/// stands. Each texel is mixed with its own opacity and then with `opa`, from 0 to 255; one without a colour
-/// has `recolor`. Nothing is drawn of an image that is not there or not finished.
+/// Mixes an image over the pixels of the buffer that are in the clip and in the area. It stands at the area's
+/// top left. Each texel is mixed with its own opacity and then with `opa`, from 0 to 255. A texel without a
+/// colour has `recolor`. Nothing is drawn of an image that is not there or not finished.
 pub fn picture<L: Ledger>(
     buf: &mut DrawBuf,
     clip: Area,
@@ -86,7 +86,7 @@ fn mix_part<L: Ledger>(buf: &mut DrawBuf, part: Area, texels: Texels<'_>, steps:
     }
 }
 
-/// The same of one line of the part.
+/// Mixes one line of texels over the pixels of that line of the part.
 fn mix_line<L: Ledger>(
     buf: &mut DrawBuf,
     part: Area,

@@ -25,9 +25,9 @@ use gui_font::{Fonts, Line, Lines, Run, TextAlign, TextLook};
 use std::sync::ledger::Ledger;
 
 // Each parameter by itself, as in all calls of this library: callers have them from different places.
-/// Mixes a colour with an opacity from 0 to 255 over the pixels of the buffer that are in the clip, in the
-/// area and in the ink of a text, which is set in the area's width from its top left on. Besides the steps of
-/// the mixes there is one at most for each character.
+/// Mixes a colour with an opacity from 0 to 255 over the ink of a text, as far as it lies in the buffer, in the
+/// clip and in the area. The text is set in the area's width, from the area's top left on. Besides the steps of
+/// the mixes there is at most one for each character.
 pub fn ink<L: Ledger>(
     buf: &mut DrawBuf,
     clip: Area,
@@ -148,7 +148,7 @@ fn line_start(at: Corner, align: TextAlign, whole: u32, line: Line) -> Corner
     }
 }
 
-/// Where a line stands in the whole width: to the left of it where it is wider.
+/// Where a line stands in the whole width: to the left of it if it is wider.
 fn left_of(align: TextAlign, whole: u32, line: Line) -> i64
     ensures value { result ≡ line_at align (pos whole) line.width }
     ensures near { (negsuc 2147483647 ≤ℤ result) × (result ≤ℤ pos 10000000000) }

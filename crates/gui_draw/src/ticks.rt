@@ -26,7 +26,7 @@ pub(crate) fn tick_bits<L: Ledger>(bits: &[u8], first: u32, count: u32, steps: &
     }
 }
 
-/// A step where a bit is set.
+/// A step if a bit is set.
 pub(crate) fn tick_if<L: Ledger>(set: bool, steps: &mut Steps<L>)
     ensures { steps.new ≡ steps.old + one_if set }
 {

@@ -13,7 +13,7 @@ pub struct FaultPlan {
 }
 
 impl Drop for FaultPlan {
-    /// Lets go of all that it holds. Who owns one calls this, where each field by itself would be dear to prove.
+    /// Lets go of every field in one call, which keeps the proofs of its owners short.
     fn drop(self) {
         let FaultPlan {
             numbers: _,

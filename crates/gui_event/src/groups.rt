@@ -17,7 +17,7 @@ use std::marker::Model;
 /// Focus groups and their members. An object is in one group at most.
 ///
 /// A contract sees the groups in the order of making, the members of all groups in the order of joining, and
-/// how many groups and members fit in all. A call takes time by the number of groups and members.
+/// how many groups and members fit in all. A call takes time in proportion to the number of groups and members.
 #[derive(Drop)]
 pub struct Groups {
     groups: Vec<Group>,
@@ -86,8 +86,8 @@ fn released_by(h: Handle, group: Group) -> Group
 }
 
 impl Groups {
-    /// No groups, and room for so many groups, and for so many members in all. `NoMemory` where there is no
-    /// memory for them. No later call takes memory.
+    /// No groups, and room for so many groups, and for so many members in all. `NoMemory` if there is no memory
+    /// for them. No later call takes memory.
     pub fn open(alloc: Global, groups: u32, objects: u32) -> Result<Groups, NoMemory>
         ensures none { IfOk result (λ s. s.all ≡ no_groups) }
         ensures size { IfOk result (λ s. s.size ≡ groups) }
@@ -141,7 +141,7 @@ impl Groups {
     ///
     /// # Errors
     ///
-    /// `Taken` where the group is there, and then `Full` of groups where no more fit. All is then as before.
+    /// `Taken` if the group is there, and then `Full` of groups if no more fit. All is then as before.
     pub fn group(&mut self, id: u8) -> Result<(), Refusal>
         ensures answer { result ≡ group_answer self.old id }
         ensures ok { OnOk result (self.new ≡ with_group self.old id) }
@@ -166,8 +166,8 @@ impl Groups {
     ///
     /// # Errors
     ///
-    /// `Unknown` where there is no such group, and then `Taken` where the object is in a group. All is then
-    /// as before.
+    /// `Unknown` if there is no such group, and then `Taken` if the object is in a group. All is then as
+    /// before.
     pub fn join(&mut self, id: u8, h: Handle) -> Result<(), Refusal>
         requires { length self.old.all.members < self.old.objects }
         ensures answer { result ≡ join_answer self.old id h }
@@ -200,12 +200,12 @@ impl Groups {
         self.members.retain(|member| member.h != h);
     }
 
-    /// Takes an object out of its group. Where it had the focus, no member has it then, and the group is not
+    /// Takes an object out of its group. If it had the focus, no member has it then, and the group is not
     /// editing.
     ///
     /// # Errors
     ///
-    /// `Place` where the object is in no group. All is then as before.
+    /// `Place` if the object is in no group. All is then as before.
     pub fn leave(&mut self, h: Handle) -> Result<(), Refusal>
         ensures answer { result ≡ leave_answer self.old h }
         ensures ok { OnOk result (self.new ≡ left self.old h) }
@@ -226,7 +226,7 @@ impl Groups {
         self.at(id).is_some()
     }
 
-    /// The group that an object is in: `None` exactly where it is in none.
+    /// The group that an object is in: `None` exactly if it is in none.
     pub fn group_of(&self, h: Handle) -> Option<u8>
         ensures { result ≡ group_of self.now.all h }
     {
@@ -236,15 +236,14 @@ impl Groups {
         }
     }
 
-    /// The member that has the focus of a group: `None` exactly where there is no such group or no member has
-    /// it.
+    /// The member that has the focus of a group: `None` exactly if there is no such group or no member has it.
     pub fn focused(&self, id: u8) -> Option<Handle>
         ensures { result ≡ focused_in (group_at self.now.all id) }
     {
         self.at(id)?.focused
     }
 
-    /// Gives the focus of a group to a member, or to none. Nothing changes where there is no such group.
+    /// Gives the focus of a group to a member, or to none. Nothing changes if there is no such group.
     pub fn set_focused(&mut self, id: u8, h: Option<Handle>)
         ensures { self.new ≡ with_focused self.old id h }
     {
@@ -266,7 +265,7 @@ impl Groups {
         }
     }
 
-    /// Begins or ends editing in a group. Nothing changes where there is no such group.
+    /// Begins or ends editing in a group. Nothing changes if there is no such group.
     pub fn set_editing(&mut self, id: u8, on: bool)
         ensures { self.new ≡ with_editing self.old id on }
     {
@@ -278,8 +277,8 @@ impl Groups {
         }
     }
 
-    /// The member of a group to which the focus moves forwards: the first usable one after the focused
-    /// member, and then from the first member on. `None` exactly where no other member is usable.
+    /// The member of a group to which the focus moves forwards: the first usable one after the focused member,
+    /// and then from the first member on. `None` exactly if no other member is usable.
     pub fn focus_next<U: Fn(Handle) -> bool>(&self, id: u8, usable: U) -> Option<Handle>
         requires { U.IsAlwaysCallable usable }
         ensures { (test : Object → Bool) → ((h : Object) (r : Bool) → U.post usable h r → r ≡ test h) →
@@ -292,8 +291,8 @@ impl Groups {
         }
     }
 
-    /// The member of a group to which the focus moves backwards: the last usable one before the focused
-    /// member, and then from the last member on. `None` exactly where no other member is usable.
+    /// The member of a group to which the focus moves backwards: the last usable one before the focused member,
+    /// and then from the last member on. `None` exactly if no other member is usable.
     pub fn focus_prev<U: Fn(Handle) -> bool>(&self, id: u8, usable: U) -> Option<Handle>
         requires { U.IsAlwaysCallable usable }
         ensures { (test : Object → Bool) → ((h : Object) (r : Bool) → U.post usable h r → r ≡ test h) →

@@ -18,15 +18,16 @@ const HANDLES: u32 = 65_536;
 /// A contract sees them by handle, and how many fit in all. Any handle may be given: an object to which none
 /// was added has none.
 ///
-/// A handle without handlers takes no memory. A call takes time by the number of handlers of its object, and
-/// of objects that share a bucket with it; `drop_kind` takes so much for each handler that it drops.
+/// A handle without handlers takes no memory. A call takes time in proportion to the number of handlers of its
+/// object, and of objects that share a bucket with it; `drop_kind` takes so much for each handler that it
+/// drops.
 pub struct Handlers {
     // By handle.
     lists: Lists<Handler>,
 }
 
 impl Drop for Handlers {
-    /// Lets go of all that it holds. Who owns one calls this, where each field by itself would be dear to prove.
+    /// Lets go of every field in one call, which keeps the proofs of its owners short.
     fn drop(self) {
         let Handlers { lists: _ } = self;
     }
@@ -45,8 +46,7 @@ impl Model for Handlers {
 }
 
 impl Handlers {
-    /// No handlers, and room for `n`. `NoMemory` where there is no memory for so many. No later call takes
-    /// memory.
+    /// No handlers, and room for `n`. `NoMemory` if there is no memory for so many. No later call takes memory.
     pub fn open(alloc: Global, n: u32) -> Result<Handlers, NoMemory>
         ensures none { IfOk result (λ s. (h : ℕ) → handlers_of s.lists h ≡ []) }
         ensures handles { IfOk result (λ s. length s.lists ≡ 65536) }
@@ -70,7 +70,7 @@ impl Handlers {
     ///
     /// # Errors
     ///
-    /// `Full` of handlers where no more fit. All is then as before.
+    /// `Full` of handlers if no more fit. All is then as before.
     pub fn add_handler(&mut self, h: Handle, kind: EventKind, action: Action) -> Result<(), Refusal>
         ensures answer { result ≡ add_answer self.old }
         ensures ok { OnOk result (self.new ≡ with_handler self.old h.0 kind action) }

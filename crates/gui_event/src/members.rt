@@ -45,7 +45,7 @@ fn place_of(members: &[Member], id: u8, h: Handle) -> Option<usize>
         .position(|member| member.group == id && member.h == h)
 }
 
-/// The members before the one that has the focus of a group, and those after it. Where none has it, all stand
+/// The members before the one that has the focus of a group, and those after it. If none has it, all stand
 /// before.
 pub fn around(members: &[Member], id: u8, focused: Option<Handle>) -> (&[Member], &[Member])
     ensures { turned focused (members_of id members.now)

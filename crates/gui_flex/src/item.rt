@@ -9,11 +9,11 @@ use gui_base::words::Placing;
 /// An item of a container.
 #[derive(Clone, Copy, Debug, PartialEq, Eq)]
 pub struct FlexItem {
-    /// Its size along the flow, from 0 to 8191. [`crate::share`] sets it where the item grows.
+    /// Its size along the flow, from 0 to 8191. [`crate::share`] sets it if the item grows.
     pub main: i32,
     /// Its size across the flow, from 0 to 8191.
     pub cross: i32,
-    /// Its weight in sharing the free space; it grows where this is not 0.
+    /// Its weight in sharing the free space; it grows if this is not 0.
     pub grow: u8,
     /// How far along the flow it stands from the container's corner, from 0 to 50,000,000.
     pub main_at: i32,

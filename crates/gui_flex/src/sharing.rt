@@ -8,7 +8,7 @@ ghost use Rattle.gui_flex.specs.Items.{item_of, items_of, spots_of};
 use crate::item::FlexItem;
 use crate::track::{free_space, track_len, weight};
 
-/// What the items get of the free space whose weights come up to so much together.
+/// The part of the free space for the first items, whose weights come to `upto` together.
 fn part(free: u32, upto: u32, weight: u32) -> u32
     requires free { free ≤ 8191 }
     requires weight { 0 < weight }
@@ -19,7 +19,7 @@ fn part(free: u32, upto: u32, weight: u32) -> u32
     (u64::from(free) * u64::from(upto) / u64::from(weight)) as u32
 }
 
-/// The size along the flow of an item that comes after items of so much weight: its share, where it grows.
+/// The size along the flow of an item that comes after items of so much weight: its share, if it grows.
 fn main_after(item: &FlexItem, free: u32, before: u32, weight: u32) -> i32
     requires free { free ≤ 8191 }
     requires weight { before + item.now.grow ≤ weight }
@@ -69,7 +69,7 @@ fn share_tracks(items: &mut [FlexItem], wrap: bool, extent: u32, gap: u32)
 
 /// Shares what is free among the growing items by their weights, track by track. `extent` is the size of the
 /// container along the flow, from 0 to 8191, and `gap` the space between two items, from 0 to 1000. There are
-/// at most 4,000 items. Where the flow does not wrap, all are one track.
+/// at most 4,000 items. If the flow does not wrap, all are one track.
 pub fn share(items: &mut [FlexItem], wrap: bool, extent: i32, gap: i32)
     requires few { length items.old ≤ 4000 }
     requires extent { IsSize extent }

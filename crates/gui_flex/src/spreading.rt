@@ -28,8 +28,8 @@ fn spread(placing: Placing, free: u32, i: u32, n: u32) -> u32
     }
 }
 
-/// Where thing `i` stands after things that are so long together, with the gaps between them, where it is
-/// spread so far.
+/// Where thing `i` stands after things that are so long together, with the gaps between them, if it is spread
+/// so far.
 fn stand(before: u32, gap: u32, i: u32, far: u32) -> u32
     requires before { before ≤ 8191 * i }
     requires gap { gap ≤ 1000 }
@@ -135,9 +135,9 @@ fn place_tracks(items: &mut [FlexItem], wrap: bool, places: FlexPlaces, extents:
 
 // Each size by itself, as a container has them: the sizes of its content area and its gaps.
 /// Places items whose shares are given: tracks one after another across the flow, and the items of each along
-/// it. `extent` and `cross_extent` are the sizes of the container along the flow and across it, from 0 to
-/// 8191; `gap` and `track_gap` are the spaces between two items and between two tracks, from 0 to 1000. There
-/// are at most 4,000 items.
+/// it. `extent` and `cross_extent` are the sizes of the container along the flow and across it, from 0 to 8191.
+/// `gap` and `track_gap` are the spaces between two items and between two tracks, from 0 to 1000. There are at
+/// most 4,000 items.
 pub fn place(
     items: &mut [FlexItem],
     wrap: bool,

@@ -19,8 +19,8 @@ use text_defs::built_in::{ADVANCE, HEIGHT};
 
 /// How far the keys of a font's characters stand from those of the font before it.
 ///
-/// A key's low bits name its bucket. More keys than there are characters lie between two fonts, and so many
-/// more that the letters of one font have other buckets than those of the next.
+/// A key's low bits name its bucket. Two fonts lie farther apart than there are characters, and so far that the
+/// letters of one font have other buckets than those of the next.
 const FONT_STEP: u32 = 0x11_0000 + 97;
 
 /// How many keys there are: so many for each number that a font can have.
@@ -30,7 +30,7 @@ const KEYS: u32 = 256 * FONT_STEP;
 ///
 /// A contract sees the fonts in order of adding, each with its glyphs in order of adding, and how many more
 /// fonts, glyphs and bytes of bits fit. Font 0 is the built-in one: it is always there, and finished. A font
-/// that is not there counts as the built-in one where a text is set in it.
+/// that is not there counts as the built-in one if a text is set in it.
 ///
 /// A font takes 4 bytes, a glyph 44 to 48, and its bits a byte for each byte.
 pub struct Fonts {
@@ -43,7 +43,7 @@ pub struct Fonts {
 }
 
 impl Drop for Fonts {
-    /// Lets go of all that it holds. Who owns one calls this, where each field by itself would be dear to prove.
+    /// Lets go of every field in one call, which keeps the proofs of its owners short.
     fn drop(self) {
         let Fonts {
             fonts: _,
@@ -98,7 +98,7 @@ pub(crate) struct GlyphSlot {
 
 impl Fonts {
     /// No font yet beside the built-in one, and room for so many fonts, glyphs and bytes of their bits.
-    /// `NoMemory` where there is no memory for them. No later call takes memory.
+    /// `NoMemory` if there is no memory for them. No later call takes memory.
     pub fn with_capacity(
         alloc: Global,
         fonts: u32,
@@ -121,13 +121,12 @@ impl Fonts {
         })
     }
 
-    /// Begins a font of this number: how high its lines are, from 1 to 64 pixels, and how far a character
-    /// without a glyph takes the next one, from 0 to 64.
+    /// Begins a font of this number. Its lines are `height` pixels high, from 1 to 64. The next character
+    /// stands `advance` pixels, from 0 to 64, from one without a glyph.
     ///
     /// # Errors
     ///
-    /// `Taken` where the font is there, and then `Full` of fonts where no more fonts fit. All is then as
-    /// before.
+    /// `Taken` if the font is there, and then `Full` of fonts if no more fonts fit. All is then as before.
     pub fn begin(&mut self, id: u8, height: u8, advance: u8) -> Result<(), Refusal>
         ensures answer { result ≡ begin_answer self.old id }
         ensures ok { OnOk result (self.new ≡ with_font self.old id height advance) }
@@ -144,13 +143,13 @@ impl Fonts {
     }
 
     /// Gives a font a glyph: its character, its box, and its bits row by row from the top. A row has whole
-    /// bytes, whose highest bit is the first; bits beyond the box are not used.
+    /// bytes, and their highest bit is the first. Bits beyond the box are not used.
     ///
     /// # Errors
     ///
-    /// `Unknown` where there is no such font, then `Taken` where it has a glyph of this character, then
-    /// `Place` where it is finished or `rows` has not `h * ceil(w / 8)` bytes, then `Full` of glyphs where no
-    /// more glyphs fit, and then `Full` of ink where the bytes do not fit. All is then as before.
+    /// The first that applies: `Unknown` if there is no such font, `Taken` if it has a glyph of this character,
+    /// `Place` if it is finished or `rows` has not `h * ceil(w / 8)` bytes. Then `Full` of glyphs if no more
+    /// glyphs fit, and `Full` of ink if the bytes do not fit. All is then as before.
     pub fn glyph(&mut self, id: u8, code: char, shape: GlyphBox, rows: &[u8]) -> Result<(), Refusal>
         ensures answer { result ≡ glyph_answer self.old id
             (record { code = code; shape = shape; rows = rows.now }) }
@@ -184,7 +183,7 @@ impl Fonts {
     ///
     /// # Errors
     ///
-    /// `Unknown` where there is no such font, and `Place` where it is finished. All is then as before.
+    /// `Unknown` if there is no such font, and `Place` if it is finished. All is then as before.
     pub fn finish(&mut self, id: u8) -> Result<(), Refusal>
         ensures answer { result ≡ finish_answer self.old id }
         ensures ok { OnOk result (self.new ≡ with_finished self.old id) }
@@ -200,7 +199,7 @@ impl Fonts {
         }
     }
 
-    /// Whether a font is finished: `None` exactly where there is no font of this number.
+    /// Whether a font is finished: `None` exactly if there is no font of this number.
     pub fn finished(&self, id: u8) -> Option<bool>
         ensures { result ≡ finished self.now.fonts id }
     {
@@ -322,7 +321,7 @@ impl Fonts {
         })
     }
 
-    /// How far a character takes the next one, in pixels.
+    /// How far the next character stands from this one, in pixels.
     pub fn advance(&self, font: u8, c: char) -> u8
         ensures { result ≡ ((face_in self.now font).cell c).advance }
     {
@@ -374,7 +373,7 @@ fn mark_finished(fonts: &mut [FontSlot], name: u8)
     }
 }
 
-/// The slot, finished where it is that of the font.
+/// The slot, finished if it is that of the font.
 fn marked(slot: FontSlot, name: u8) -> FontSlot
     ensures { result ≡ marked name slot }
 {

@@ -35,7 +35,7 @@ pub struct Images {
 }
 
 impl Drop for Images {
-    /// Lets go of all that it holds. Who owns one calls this, where each field by itself would be dear to prove.
+    /// Lets go of every field in one call, which keeps the proofs of its owners short.
     fn drop(self) {
         let Images {
             index: _,
@@ -61,7 +61,8 @@ impl Model for Images {
     ghost invariant = { λ f. AreStored f.index f.slots.items f.bytes.items (vec_capacity f.slots) };
 }
 
-/// The texels of a finished image: the bytes of each behind those of the ones before it, row by row from the top.
+/// The texels of a finished image, row by row from the top, with the bytes of each behind those of the texel
+/// before.
 #[derive(Clone, Copy)]
 pub struct Bitmap<'a> {
     pub format: Format,
@@ -99,8 +100,8 @@ pub(crate) struct ImageSlot {
 }
 
 impl Images {
-    /// No image yet, and room for so many images and bytes. `NoMemory` where there is no memory for them. No
-    /// later call takes memory.
+    /// No image yet, and room for so many images and bytes. `NoMemory` if there is no memory for them. No later
+    /// call takes memory.
     pub fn with_capacity(alloc: Global, images: u32, bytes: u32) -> Result<Images, NoMemory>
         ensures { IfOk result (λ set. set ≡ no_images images bytes) }
     {
@@ -120,8 +121,8 @@ impl Images {
     ///
     /// # Errors
     ///
-    /// `Taken` where the image is there, then `Full` of images where no more images fit, and then `Full` of
-    /// pixels where the bytes of all its rows do not fit. All is then as before.
+    /// `Taken` if the image is there, then `Full` of images if no more images fit, and then `Full` of pixels if
+    /// the bytes of all its rows do not fit. All is then as before.
     pub fn begin(&mut self, id: u16, format: Format, w: u16, h: u16) -> Result<(), Refusal>
         ensures answer { result ≡ begin_answer self.old id format w h }
         ensures ok { OnOk result (self.new ≡ with_image self.old id format w h) }
@@ -144,8 +145,8 @@ impl Images {
     ///
     /// # Errors
     ///
-    /// `Unknown` where there is no such image, and `Place` where it is finished, where `y` is not its next
-    /// row, or where `bytes` are not as many as those of a row. All is then as before.
+    /// `Unknown` if there is no such image, and `Place` if it is finished, if `y` is not its next row, or if
+    /// `bytes` are not as many as those of a row. All is then as before.
     pub fn row(&mut self, id: u16, y: u16, bytes: &[u8]) -> Result<(), Refusal>
         ensures answer { result ≡ row_answer self.old id y bytes.now }
         ensures ok { OnOk result (self.new ≡ with_row self.old id bytes.now) }
@@ -161,8 +162,8 @@ impl Images {
         Ok(())
     }
 
-    /// The width and the height of an image in pixels: `None` exactly where there is no finished image of
-    /// this number.
+    /// The width and the height of an image in pixels: `None` exactly if there is no finished image of this
+    /// number.
     pub fn size(&self, id: u16) -> Option<(u16, u16)>
         ensures { result ≡ size_in self.now.images id }
     {
@@ -174,7 +175,7 @@ impl Images {
         }
     }
 
-    /// Whether an image is finished: `None` exactly where there is no image of this number.
+    /// Whether an image is finished: `None` exactly if there is no image of this number.
     pub fn finished(&self, id: u16) -> Option<bool>
         ensures { result ≡ finished self.now.images id }
     {
@@ -199,7 +200,7 @@ impl Images {
         )
     }
 
-    /// All texels of a finished image: `None` exactly where there is no finished image of this number.
+    /// All texels of a finished image: `None` exactly if there is no finished image of this number.
     pub fn bitmap(&self, id: u16) -> Option<Bitmap<'_>>
         ensures size { option_map (λ b. (b.width, b.height)) result ≡ size_in self.now.images id }
         ensures whole { IfSome result (λ b. length b.bytes.now ≡ image_bytes b.format b.width b.height) }

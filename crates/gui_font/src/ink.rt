@@ -206,7 +206,7 @@ fn column_of(c: char, x: u8) -> u8
     COLUMNS[5 * (c as usize - 32) + x as usize]
 }
 
-/// Where a line stands in the whole width: to the left of it where it is wider.
+/// Where a line stands in the whole width: to the left of it if it is wider.
 fn left_of(align: TextAlign, whole: u32, line: Line) -> i64
     ensures value { result ≡ line_at align (pos whole) line.width }
     ensures near { (negsuc 2147483647 ≤ℤ result) × (result ≤ℤ pos 10000000000) }

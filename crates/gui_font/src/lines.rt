@@ -39,8 +39,8 @@ impl Fonts {
     ghost use Rattle.gui_font.specs.LinesLeft.{lines_left, runs_left, setting_of};
     ghost use Rattle.text_defs.specs.Lines.{lines, measured};
 
-    /// The lines of a text that is set so, in at most `width` pixels, or of one character where no more fit.
-    /// Without a width they end at newlines alone. A text of n bytes takes time by n.
+    /// The lines of a text that is set so, in at most `width` pixels, or of one character if no more fit.
+    /// Without a width they end at newlines alone. A text of n bytes takes time in proportion to n.
     pub fn lines<'a>(&'a self, look: TextLook, text: &'a str, width: Option<i32>) -> Lines<'a>
         requires letter { look.letter ≤ 100 }
         requires short { length text.now ≤ 1000 }
@@ -89,7 +89,7 @@ impl<'a> Lines<'a> {
     ghost use Rattle.gui_font.specs.LinesLeft.{runs_left, setting_of};
     ghost use Rattle.gui_font.specs.Runs.{GivesRun};
 
-    /// The next line with its characters: `None` exactly where none is left.
+    /// The next line with its characters: `None` exactly if none is left.
     pub fn next_run(&mut self) -> Option<Run<'a>>
         ensures run { MatchOption result ((runs_left self.old ≡ []) × (runs_left self.new ≡ []))
             (λ run. GivesRun (setting_of self.old) (runs_left self.old) (runs_left self.new) run) }
@@ -149,7 +149,7 @@ pub(crate) fn pixels(width: i32) -> u32
     width.unsigned_abs()
 }
 
-/// The same of a width that may be none.
+/// A width that is not below 0 as a number, if there is a width.
 fn most_pixels(width: Option<i32>) -> Option<u32>
     requires { ForSome width (λ w. pos 0 ≤ℤ w) }
     ensures { result ≡ option_map nat_of width }

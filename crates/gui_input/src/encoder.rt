@@ -31,7 +31,7 @@ impl Encoder {
         Encoder { push: None }
     }
 
-    /// Takes a reading at a time in milliseconds, or none where only time passed, and tells the events of it.
+    /// Takes a reading at a time in milliseconds, or none if only time passed, and tells the events of it.
     pub fn feed(&mut self, reading: Option<EncoderReading>, now: u64) -> Tells
         ensures device { self.new ≡ (encoder_fed self.old reading now).device }
         ensures tells { result.items ≡ (encoder_fed self.old reading now).tells }

@@ -34,8 +34,8 @@ impl Keypad {
         Keypad { held: None }
     }
 
-    /// Takes a reading at a time in milliseconds, or none where only time passed, and tells the events of it.
-    /// Time means something to Enter alone.
+    /// Takes a reading at a time in milliseconds, or none if only time passed, and tells the events of it. Time
+    /// means something to Enter alone.
     pub fn feed(&mut self, reading: Option<KeyReading>, now: u64) -> Tells
         ensures device { self.new ≡ (keypad_fed self.old reading now).device }
         ensures tells { result.items ≡ (keypad_fed self.old reading now).tells }
@@ -105,7 +105,7 @@ impl Keypad {
     }
 }
 
-/// Tells of the end of a press where the held key is Enter.
+/// Tells of the end of a press if the held key is Enter.
 fn tell_release(held: &Option<Held>, tells: &mut Tells)
     requires { array_vec_len tells.old < 7 }
     ensures tells { tells.new.items ≡ tells.old.items ++ let_go held.now }

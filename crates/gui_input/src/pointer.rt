@@ -43,7 +43,7 @@ fn touch_at(reading: &PointerReading, now: u64) -> Touch
     }
 }
 
-/// The same press, whose pointer has gone there.
+/// The press goes on with the pointer at a new place.
 fn touch_on(touch: &Touch, reading: &PointerReading) -> Touch
     requires touch { IsTouch touch.now }
     requires reading { IsPoint reading.now }
@@ -81,7 +81,7 @@ impl Pointer {
         Pointer { touch: None }
     }
 
-    /// Takes a reading at a time in milliseconds, or none where only time passed, and tells the events of it.
+    /// Takes a reading at a time in milliseconds, or none if only time passed, and tells the events of it.
     pub fn feed(&mut self, reading: Option<PointerReading>, now: u64) -> Tells
         requires { IfSome reading IsPoint }
         ensures device { self.new ≡ (pointer_fed self.old reading now).device }

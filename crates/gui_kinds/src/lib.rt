@@ -87,7 +87,8 @@ pub fn has_knob(shown: Shown) -> bool
     matches!(shown, Shown::ShareAndKnob)
 }
 
-/// Whether it is of a size by itself: a text and a picture are, a share is as large as the area makes it.
+/// Whether it has a size of its own. A text and a picture have one, and a share is as large as the area makes
+/// it.
 pub fn has_size(shown: Shown) -> bool
     ensures { result ≡ has_size shown }
 {

@@ -20,12 +20,8 @@ use Rattle.gui_boxes.specs.Around.{IsFlat}
 use Rattle.gui_layout.specs.Scenes.{scene_box}
 use Rattle.gui_layout.specs.Scrolled.{scrolled_known}
 use Rattle.gui_boxes.specs.Views.{box_at}
-use Rattle.std.specs.Prelude.{is_some}
-use Rattle.gui_pool.specs.Table.{value_at}
-use Rattle.gui_boxes.specs.declared.entry.Entry.{Entry}
-use Rattle.gui_boxes.specs.Tables.{touched_or}
-use Rattle.gui_boxes.specs.Touched.{is_touched}
-use Rattle.gui_boxes.proofs.Listed.{told_at}
+use Rattle.gui_boxes.specs.Touched.{IsAtRest}
+use Rattle.gui_layout.proofs.Staying.{rests-none}
 use Rattle.gui_layout.proofs.Without.{flat-kids}
 use Rattle.gui_layout.proofs.Overs.{kids-same, root-in}
 use Rattle.gui_layout.proofs.Rescrolled.{told-flat, unmarked-root}
@@ -279,16 +275,12 @@ module _ (p : Places) (before scene : Scene) (m c : ℕ → Bool) (settled : Are
       let fits : Fits (known_in p before k) (roots (map_forest (known_in p before) (children_of g k))) = subst (Fits (known_in p before k)) (sym (roots-map (known_in p before) (children_of g k))) at.fits in
       flat-roots f g (layout_of p) k kids (told-flat (scene_box before) (layout_of p) g k at.scrolled at.known (λ j kid. boxed j (root-in g j k kid)) fits still)
 
-  -- what was not there has no entry, and nothing else is touched
-  calm-before : (k : ℕ) → is_touched (layout_of p) k ≡ false
+  -- what was not there has no entry, and all else is at rest
+  calm-before : (k : ℕ) → IsAtRest (layout_of p) k
   calm-before k = elim (cases_Bool (has (handles_of before.trees) k)) [
     | inl was ↦ settled.calm k was
-    | inr none ↦ told_at touched_or p.entries k ∙ untouched (value_at p.entries k) (settled.there k ∙ none)
+    | inr none ↦ rests-none p.entries k (settled.there k ∙ none)
   ]
-    where
-      untouched : (e : Option Entry) → is_some e ≡ false → touched_or e ≡ false
-      untouched None none = refl
-      untouched (Some e) none = absurd (false≢true (sym none))
 
   pub settled_but_marks : AreSettledButMarks p scene m c
   settled_but_marks = record {

@@ -101,17 +101,3 @@ module _ (f : Forest ℕ) (s t : ℕ → Bool) where
   pub closed_in : (u : ℕ) → StandsOnce f → ((k p : ℕ) → has f k ≡ true → s k ≡ true → parent_of f k ≡ Some p → s p ≡ true) → IsClosedUp f s t → ((k : ℕ) → has (tree_at f u) k ≡ true → s k ≡ true) → IsClosed t (tree_at f u)
   closed_in u once higher up looked =
       closed_agree both t (tree_at f u) (λ k i. sym (whole k (looked k i))) (closed_tree both f u (closed_all f both once (both_by higher up)))
-
--- an object is let go
-module _ (ts : List Bool) (h : ℕ) (short : h < length ts) where
-  abbrev pub rested : ℕ → Bool
-  rested k = get_or (set ts h false) k false
-
-  pub rested_own : rested h ≡ false
-  rested_own = get_or-set_same ts h false false short
-
-  pub rested_calm : (k : ℕ) → get_or ts k false ≡ false → rested k ≡ false
-  rested_calm k was = elim (cases_Bool (eqb k h)) [
-    | inl same ↦ subst (λ m. rested m ≡ false) (sym (eqb-true k h same)) rested_own
-    | inr other ↦ get_or-set_other ts h k false false (λ e. both_ways _ other (eq-eqb k h e)) ∙ was
-  ]

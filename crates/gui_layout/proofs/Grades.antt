@@ -12,7 +12,7 @@ use Rattle.gui_layout.specs.SettledBut.{AreRightBut, AreRightButChanged, AreScro
 use Rattle.gui_layout.specs.Settles.{known_in}
 use Rattle.gui_layout.specs.Solved.{layout_of}
 use Rattle.gui_base.specs.Forest.{has}
-use Rattle.gui_boxes.specs.Touched.{is_touched}
+use Rattle.gui_boxes.specs.Touched.{IsAtRest}
 use Rattle.gui_boxes.specs.Views.{box_at}
 use Rattle.gui_layout.proofs.Marking.{all-both, all-fewer, all-graded, fill-fewer}
 
@@ -30,7 +30,7 @@ narrowed p scene s t m fewer was = record {
 }
 
 -- with no marks both say the same
-pub right-both : (p : Places) (scene : Scene) (s : ℕ → Bool) → AreRightButChanged p scene s nobody → AreScrolledBut p scene s nobody nobody → ((k : ℕ) → has (handles_of scene.trees) k ≡ true → s k ≡ true → is_touched (layout_of p) k ≡ false) → AreRightBut p scene s nobody nobody
+pub right-both : (p : Places) (scene : Scene) (s : ℕ → Bool) → AreRightButChanged p scene s nobody → AreScrolledBut p scene s nobody nobody → ((k : ℕ) → has (handles_of scene.trees) k ≡ true → s k ≡ true → IsAtRest (layout_of p) k) → AreRightBut p scene s nobody nobody
 right-both p scene s was scrolled calm = record {
   boxes = was.boxes;
   placed = was.placed;

@@ -10,7 +10,7 @@ pub mod ClosedUp
 pub mod Entering
 pub mod Grades
 pub mod Kept
-pub mod LetGo
+pub mod Lifting
 pub mod Marking
 pub mod NaturalSizes
 pub mod Naturals
@@ -31,7 +31,9 @@ pub mod SceneBoxes
 pub mod Seen
 pub mod Settling
 pub mod Siblings
+pub mod Shown
 pub mod Solves
+pub mod Spreading
 pub mod Staying
 pub mod Stepping
 pub mod Tops

@@ -1,4 +1,4 @@
--- A tree is solved and let go: what is left is ready as before.
+-- A tree is solved, and its marks are let go: what is left is ready as before.
 use Rattle.std.proofs.Common.{◌≡◌, ◌∙◌, refl, sym, ap, subst, ℕ, Bool, true, false, eqb, eq-eqb, ◌||◌, ◌⊎◌, inl, inr, Option, Some, None, List, ◌∷◌}
 use Rattle.std.proofs.lemmas.Bool.{both_ways, cases_Bool, eqb-true, false≢true, false_from_ne_true, or_cases, or_left, or_right}
 use Rattle.gui_base.specs.Forest.{Forest, Empty, Tree, StandsOnce, children_of, has, has_by, map_forest, parent_by, parent_of, roots, tree_at}
@@ -9,11 +9,11 @@ use Rattle.gui_boxes.specs.Scrolls.{scrolled_at}
 use Rattle.gui_boxes.specs.Settled.{Known, Layout, known_at}
 use Rattle.gui_boxes.specs.Touched.{is_touched}
 use Rattle.gui_boxes.proofs.InTrees.{tree-in, tree-there}
-use Rattle.gui_layout.specs.Calm.{IsReady, MovesTouched}
+use Rattle.gui_layout.specs.Calm.{IsClosedUp, IsReady, MovesTouched}
 use Rattle.gui_layout.specs.Marked.{AllFitBut, is_root, marked_trees}
 use Rattle.gui_layout.specs.Scrolled.{IsScrolledIn, scrolled_known}
 use Rattle.gui_layout.proofs.Marking.{marked-has}
-use Rattle.gui_layout.proofs.Overs.{kid-parent, kid-top, root-in}
+use Rattle.gui_layout.proofs.Overs.{kid-parent, root-in}
 use Rattle.gui_layout.proofs.Settling.{parent-in}
 
 -- a parent that is there is above all of them or one of them
@@ -55,7 +55,7 @@ marked-up w k p (Tree t cs rest) distinct there is up = elim (cases_Bool (eqb t 
     same e = cc
 
 -- a child of an object of a tree lies in it
-child-in : (u k p : ℕ) (above : Option ℕ) (f : Forest ℕ) → IsDistinct f → has f k ≡ true → parent_by (λ j. eqb j k) above f ≡ Some p → has (tree_at f u) p ≡ true → (above ≡ Some p → has f p ≡ false) → has (tree_at f u) k ≡ true
+pub child-in : (u k p : ℕ) (above : Option ℕ) (f : Forest ℕ) → IsDistinct f → has f k ≡ true → parent_by (λ j. eqb j k) above f ≡ Some p → has (tree_at f u) p ≡ true → (above ≡ Some p → has f p ≡ false) → has (tree_at f u) k ≡ true
 child-in u k p above Empty distinct is parent inside out = absurd (false≢true is)
 child-in u k p above (Tree h cs rest) distinct is parent inside out =
     let there : has (Tree h cs rest) p ≡ true = tree-in u p (Tree h cs rest) inside in
@@ -114,48 +114,35 @@ scrolled-same a b box f k own stays kids is =
     ∙ (is ∙ (ap (λ (w : Known). scrolled_known w (roots (map_forest (known_at box a) (children_of f k)))) (sym own)
     ∙ ap (scrolled_known (known_at box b k)) (sym (roots-same (known_at box a) (known_at box b) (children_of f k) kids))))
 
-module _ (box : ℕ → Box) (f : Forest ℕ) (once : StandsOnce f) (a b c : Layout) (s r m n : ℕ → Bool) (u : ℕ) (moves : MovesTouched box a b (tree_at f u)) (top : is_touched a u ≡ true) (rests : (k : ℕ) → has (tree_at f u) k ≡ true → is_touched c k ≡ false)
-    (touched : (k : ℕ) → has (tree_at f u) k ≡ false → is_touched c k ≡ is_touched b k) (but : c ≡ record b { touched = c.touched }) (own : (k : ℕ) → has (tree_at f u) k ≡ true → n k ≡ false)
+module _ (box : ℕ → Box) (f : Forest ℕ) (once : StandsOnce f) (a b : Layout) (s r m n : ℕ → Bool) (u : ℕ) (moves : MovesTouched box a b (tree_at f u)) (top : is_touched a u ≡ true)
+    (closed : (t : ℕ → Bool) → IsClosedUp f t (is_touched a) → IsClosedUp f t (is_touched b)) (own : (k : ℕ) → has (tree_at f u) k ≡ true → n k ≡ false)
     (others : (k : ℕ) → has (tree_at f u) k ≡ false → n k ≡ m k) (fewer : (k : ℕ) → r k ≡ true → s k ≡ true)
     (lower : (j k : ℕ) → s k ≡ true → is_root j (children_of f k) ≡ true → s j ≡ true) where
   distinct : IsDistinct f
   distinct = distinct_once f once
 
-  -- outside of the tree flags are as they were
-  same_flag : (k : ℕ) → has (tree_at f u) k ≡ false → is_touched c k ≡ is_touched a k
-  same_flag k out = touched k out ∙ moves.others k out
+  -- what is not touched was not
+  before : (k : ℕ) → is_touched b k ≡ false → is_touched a k ≡ false
+  before k none = false_from_ne_true (is_touched a k) (λ is. false≢true (sym none ∙ moves.more k is))
 
-  outside : (k : ℕ) → is_touched c k ≡ true → has (tree_at f u) k ≡ false
-  outside k is = false_from_ne_true (has (tree_at f u) k) (λ i. false≢true (sym (rests k i) ∙ is))
-
-  pub ready-then : IsReady box a f s m → AllFitBut r n (known_at box b) f → ((k : ℕ) → has (tree_at f u) k ≡ true → IsScrolledIn (known_at box b) b.scrolls f k) → IsReady box c f r n
+  pub ready-then : IsReady box a f s m → AllFitBut r n (known_at box b) f → ((k : ℕ) → has (tree_at f u) k ≡ true → IsScrolledIn (known_at box b) b.scrolls f k) → IsReady box b f r n
   ready-then was fit scrolled = record {
-    fit = subst (λ (l : Layout). AllFitBut r n (known_at box l) f) (sym but) fit;
-    closed = λ k p there looked is parent.
-        let out = outside k is in
-        let up : is_touched a p ≡ true = was.closed k p there (fewer k looked) (sym (same_flag k out) ∙ is) parent in
-        let away : has (tree_at f u) p ≡ false = false_from_ne_true (has (tree_at f u) p) (λ i. both_ways (has (tree_at f u) k) out (child-in u k p None f distinct there parent i (λ e. absurd (no_parent p e)))) in
-        same_flag p away ∙ up;
+    fit = fit;
+    closed = λ k p there looked is parent. closed s was.closed k p there (fewer k looked) is parent;
     marked = λ k there is.
         let out : has (tree_at f u) k ≡ false = false_from_ne_true (has (tree_at f u) k) (λ i. false≢true (sym (own k i) ∙ is)) in
-        same_flag k out ∙ was.marked k there (sym (others k out) ∙ is);
-    scrolled = λ k there looked none. subst (λ (l : Layout). IsScrolledIn (known_at box l) l.scrolls f k) (sym but) (elim (cases_Bool (has (tree_at f u) k)) [
+        moves.more k (was.marked k there (sym (others k out) ∙ is));
+    scrolled = λ k there looked none. elim (cases_Bool (has (tree_at f u) k)) [
       | inl i ↦ scrolled k i
-      | inr out ↦ kept k there (fewer k looked) out (sym (same_flag k out) ∙ none) was
-    ]);
+      | inr out ↦ kept k there (fewer k looked) none was
+    ];
   }
     where
-      no_parent : (p : ℕ) → None ≡ Some p → ⊥
-      no_parent p e = cc
-
-      kept : (k : ℕ) → has f k ≡ true → s k ≡ true → has (tree_at f u) k ≡ false → is_touched a k ≡ false → IsReady box a f s m → IsScrolledIn (known_at box b) b.scrolls f k
-      kept k there looked out none was =
-          let calm : is_touched b k ≡ false = moves.others k out ∙ none in
-          scrolled-same a b box f k (moves.known k calm) (moves.scrolls k calm) (λ j kid. moves.known j (kid_calm j kid)) (was.scrolled k there looked none)
+      kept : (k : ℕ) → has f k ≡ true → s k ≡ true → is_touched b k ≡ false → IsReady box a f s m → IsScrolledIn (known_at box b) b.scrolls f k
+      kept k there looked calm was =
+          scrolled-same a b box f k (moves.known k calm) (moves.scrolls k calm) (λ j kid. moves.known j (kid_calm j kid)) (was.scrolled k there looked (before k calm))
         where
           kid_calm : (j : ℕ) → is_root j (children_of f k) ≡ true → is_touched b j ≡ false
           kid_calm j kid =
               let parent : parent_of f j ≡ Some k = kid-parent f None j k distinct kid in
-              let low : is_touched a j ≡ false = false_from_ne_true (is_touched a j) (λ is. false≢true (sym none ∙ was.closed j k (root-in f j k kid) (lower j k looked kid) is parent)) in
-              let away : has (tree_at f u) j ≡ false = false_from_ne_true (has (tree_at f u) j) (λ i. false≢true (sym low ∙ subst (λ v. is_touched a v ≡ true) (kid-top f u j k distinct kid i out) top)) in
-              moves.others j away ∙ low
+              false_from_ne_true (is_touched b j) (λ is. false≢true (sym calm ∙ closed s was.closed j k (root-in f j k kid) (lower j k looked kid) is parent))

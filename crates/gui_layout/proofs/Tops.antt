@@ -41,7 +41,7 @@ in-second f [] vs k is = is
 in-second f (u ∷ us) vs k is = or_right (has (tree_at f u.0) k) (in_trees_at f (us ++ vs) k) (in-second f us vs k is)
 
 -- a list of one
-only-top : (u : Handle) (j : ℕ) → 0 < times (u ∷ []) j → u.0 ≡ j
+pub only-top : (u : Handle) (j : ℕ) → 0 < times (u ∷ []) j → u.0 ≡ j
 only-top u j some = elim (cases_Bool (eqb u.0 j)) [
   | inl is ↦ eqb-true u.0 j is
   | inr isnt ↦ absurd (let none : times (u ∷ []) j ≡ 0 = ap (λ b. cond b 1 0 + 0) isnt in omega arith)

@@ -24,6 +24,7 @@ pub record MovesTouched (box : ℕ → Box) (old new : Layout) (f : Forest ℕ) 
   pub closed : IsClosed (is_touched new) f
   pub known : (k : ℕ) → is_touched new k ≡ false → known_at box new k ≡ known_at box old k
   pub scrolls : (k : ℕ) → is_touched new k ≡ false → scrolled_at new.scrolls k ≡ scrolled_at old.scrolls k
+  pub reported : new.reported ≡ old.reported
 
 -- the parent of a touched object that is looked at is touched
 abbrev pub IsClosedUp : Forest ℕ → (ℕ → Bool) → (ℕ → Bool) → Type 0

@@ -14,3 +14,4 @@ pub mod SettledBut
 pub mod Kept
 pub mod Laws
 pub mod Calm
+pub mod Moved

@@ -13,7 +13,7 @@ use Rattle.gui_boxes.specs.Settled.{FillsPanel, Fits}
 use Rattle.gui_layout.specs.Settles.{known_in}
 use Rattle.gui_layout.specs.Scrolled.{IsScrolledIn}
 use Rattle.gui_boxes.specs.Scrolls.{scrolled_at}
-use Rattle.gui_boxes.specs.Touched.{is_touched}
+use Rattle.gui_boxes.specs.Touched.{IsAtRest}
 use Rattle.gui_layout.specs.Solved.{AreSettled, AreStanding, layout_of, offset_at, place_at, reach_at}
 use Rattle.scene_defs.specs.Place.{offset, place, reach}
 
@@ -39,8 +39,8 @@ AreScrolledBut p scene s m c =
     AreLooked s m (children_of (handles_of scene.trees) k) →
     IsScrolledIn (known_in p scene) (layout_of p).scrolls (handles_of scene.trees) k
 
--- so it is but for those, and for the lists of children of others, told by c, and no object that is looked at is
--- touched
+-- so it is but for those, and for the lists of children of others, told by c, and each object that is looked at is
+-- at rest
 pub record AreRightBut (p : Places) (scene : Scene) (s m c : ℕ → Bool) : Type 0 where
   pub boxes : (k : ℕ) → has (handles_of scene.trees) k ≡ true → s k ≡ true → m k ≡ false →
       IsRenewed scene (layout_of p).boxes k
@@ -49,7 +49,7 @@ pub record AreRightBut (p : Places) (scene : Scene) (s m c : ℕ → Bool) : Typ
   pub fit : AllFitButBoth s m c (known_in p scene) (handles_of scene.trees)
   pub scrolled : AreScrolledBut p scene s m c
   pub fill : AllFillBut s m scene.limits.width scene.limits.height (known_in p scene) (handles_of scene.trees)
-  pub calm : (k : ℕ) → has (handles_of scene.trees) k ≡ true → s k ≡ true → is_touched (layout_of p) k ≡ false
+  pub calm : (k : ℕ) → has (handles_of scene.trees) k ≡ true → s k ≡ true → IsAtRest (layout_of p) k
 
 -- the objects of the marked trees
 abbrev pub in_marked : (ℕ → Bool) → Scene → ℕ → Bool
@@ -90,12 +90,12 @@ pub record WasSolved (p : Places) (before scene : Scene) (m c : ℕ → Bool) (k
   pub scrolled : IsScrolledIn (known_in p before) (layout_of p).scrolls (handles_of before.trees) k
 
 -- there is a scene that differs from this one in what the marks tell alone, for it the objects that are looked at
--- were solved, and none of them is touched
+-- were solved, and they are at rest
 pub record DiffersInMarks (p : Places) (scene : Scene) (s m c : ℕ → Bool) : Type 0 where
   pub before : Scene
   pub each : (k : ℕ) → has (handles_of scene.trees) k ≡ true → s k ≡ true → m k ≡ false →
       WasSolved p before scene m c k
-  pub calm : (k : ℕ) → has (handles_of scene.trees) k ≡ true → s k ≡ true → is_touched (layout_of p) k ≡ false
+  pub calm : (k : ℕ) → has (handles_of scene.trees) k ≡ true → s k ≡ true → IsAtRest (layout_of p) k
 
 -- The trees in which an object has changed are solved, what has changed and is gone has no place, and all other
 -- trees stay as they were, whatever they were. Where all was right but for those, all is settled.

@@ -1,10 +1,11 @@
 -- What `Places` shows: its limits, and the place of each object.
-use Rattle.std.specs.Prelude.{◌≡◌, ℕ, true, false, option_map, is_some}
+use Rattle.std.specs.Prelude.{◌≡◌, ℕ, true, List, option_map, is_some}
 use Rattle.std.specs.declared.option.Option.{Option}
 use Rattle.gui_base.specs.Area.{Rect}
 use Rattle.gui_base.specs.Bounded.{bounds_of}
 use Rattle.gui_base.specs.Limits.{Bounds}
 use Rattle.gui_base.specs.Forest.{has}
+use Rattle.gui_base.specs.declared.Handle.{Handle}
 use Rattle.gui_pool.specs.Table.{value_at}
 use Rattle.scene_defs.specs.Scene.{Scene, handles_of}
 use Rattle.gui_layout.specs.declared.places.Places.{Places}
@@ -17,7 +18,7 @@ use Rattle.gui_layout.specs.Scrolled.{IsScrolledIn}
 use Rattle.gui_boxes.specs.Scrolls.{moves_of, span_of}
 use Rattle.gui_boxes.specs.Settled.{Layout, known, known_at, IsSettled}
 use Rattle.gui_boxes.specs.Tables.{area_in, told}
-use Rattle.gui_boxes.specs.Touched.{is_touched}
+use Rattle.gui_boxes.specs.Touched.{IsAtRest}
 
 abbrev pub limits_of : Places → Bounds
 limits_of p = bounds_of p.limits
@@ -38,6 +39,10 @@ reach_at p h = option_map reach_in (value_at p.entries h)
 
 abbrev pub offset_at : Places → ℕ → Option Span
 offset_at p h = option_map offset_in (value_at p.entries h)
+
+-- the objects that were listed when the places were settled last
+abbrev pub moved_in : Places → List Handle
+moved_in p = p.found.items
 
 -- each object of a scene has its place, and nothing else has one
 abbrev pub AreSolved : Places → Scene → Type 0
@@ -60,7 +65,7 @@ pub record AreStanding (p : Places) (scene : Scene) : Type 0 where
   pub there : (h : ℕ) → is_some (value_at p.entries h) ≡ has (handles_of scene.trees) h
   pub solved : AreSolved p scene
 
--- and how far its children are scrolled, its natural sizes are those of the definition, and none is touched
+-- and how far its children are scrolled, its natural sizes are those of the definition, and all are at rest
 pub record AreSettled (p : Places) (scene : Scene) : Type 0 where
   pub boxes : HoldsBoxes (layout_of p).boxes scene
   pub settled : IsSettled scene.limits.width scene.limits.height
@@ -71,4 +76,4 @@ pub record AreSettled (p : Places) (scene : Scene) : Type 0 where
       IsScrolledIn (known_at (scene_box scene) (layout_of p)) (layout_of p).scrolls (handles_of scene.trees) h
   pub reached : AreReached p scene
   pub naturals : AreNatural p scene
-  pub calm : (h : ℕ) → has (handles_of scene.trees) h ≡ true → is_touched (layout_of p) h ≡ false
+  pub calm : (h : ℕ) → has (handles_of scene.trees) h ≡ true → IsAtRest (layout_of p) h

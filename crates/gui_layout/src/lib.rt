@@ -25,6 +25,7 @@ mod own_heights;
 mod places;
 mod raising;
 mod renewal;
+mod telling;
 mod touching;
 mod tree;
 

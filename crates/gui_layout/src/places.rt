@@ -1,7 +1,7 @@
 //! The places of the objects of a store.
 ghost use Rattle.std.specs.Prelude.{◌≡◌, ◌≤◌, ◌+ℤ◌, ◌-ℤ◌, pos, ℕ, Bool, [], ◌∷◌, true, false, None, Some, IfOk};
 ghost use Rattle.std.specs.Prelude.{IfSome, MatchOption, eqb, is_some, option_map};
-ghost use Rattle.std.specs.Prelude.{◌<◌, ◌+◌, length, vec_len, vec_capacity};
+ghost use Rattle.std.specs.Prelude.{◌<◌, ◌+◌, ◌⊎◌, length, vec_len, vec_capacity};
 ghost use Rattle.std.specs.Option.{option_to_list};
 ghost use Rattle.gui_base.specs.Area.{area_at, is_empty, width_of};
 ghost use Rattle.gui_base.specs.Bounded.{bounds_of};
@@ -31,13 +31,13 @@ ghost use Rattle.gui_boxes.specs.Reaches.{IsPlaced};
 ghost use Rattle.gui_layout.specs.Renewed.{AreRenewed, IsRenewed, KeepsRenewed};
 ghost use Rattle.gui_layout.specs.Marked.{is_any_root, marked_trees};
 ghost use Rattle.gui_layout.specs.Scrolled.{IsScrolledIn};
-ghost use Rattle.gui_boxes.specs.Pending.{is_any, is_marked_in, is_partly, is_pending};
+ghost use Rattle.gui_boxes.specs.Pending.{is_any, is_first, is_marked_in, is_partly, is_pending};
 ghost use Rattle.gui_pool.specs.Table.{value_at};
-ghost use Rattle.gui_boxes.specs.Touched.{IsClosed, is_touched};
+ghost use Rattle.gui_boxes.specs.Telling.{Tells};
+ghost use Rattle.gui_boxes.specs.Touched.{is_touched};
 ghost use Rattle.gui_layout.specs.Calm.{ButTouchedBoxes, IsClosedUp, IsReady, MovesTouched, StandsOver};
 ghost use Rattle.gui_layout.specs.Scenes.{HoldsBoxes, scene_box, shown_panel};
 ghost use Rattle.gui_boxes.specs.Listing.{AddsValue, AreProper, HasThese, KeepsThose, SameValue, times};
-ghost use Rattle.gui_boxes.specs.Layouts.{ButTouched};
 ghost use Rattle.gui_boxes.specs.Tables.{AreListed, IsListed, listing_of, touched_or};
 
 use crate::all::solve_trees;
@@ -48,7 +48,8 @@ use crate::looks::{look_in, paint_look_in};
 use crate::objects::box_in;
 use crate::raising::{raise_marks, rests};
 use crate::renewal::{renew_all, renew_marked};
-use crate::touching::{rest_all, rest_marked, touch_all, touch_marked};
+use crate::telling::{tell_marked, tell_trees};
+use crate::touching::{rest_all, touch_all, touch_marked};
 use crate::tree::solve_tree;
 use arrayvec::ArrayVec;
 use gui_base::intervals::HANDLE;
@@ -62,7 +63,7 @@ use gui_boxes::items::new_item;
 use gui_boxes::listing::{add_any, are_same, clear, fill, list_trees, put};
 use gui_boxes::mark::Mark;
 use gui_boxes::marks::{Marks, clear_marks};
-use gui_boxes::pending::{is_pending, rest_tree};
+use gui_boxes::pending::{finish_touched, is_pending};
 use gui_boxes::position::Position;
 use gui_boxes::positions::inside_of;
 use gui_boxes::size::Size;
@@ -89,7 +90,7 @@ pub struct Places {
     entries: Table<Entry>,
     // The objects that have entries.
     listed: Vec<Handle>,
-    // Room to list those of a store.
+    // Room to list those of a store. Once places are settled, those that moved.
     found: Vec<Handle>,
     // Room for the children of one object that take part in its flow.
     items: Vec<FlexItem>,
@@ -101,7 +102,7 @@ pub struct Places {
 }
 
 impl Drop for Places {
-    /// Lets go of all that it holds. Who owns one calls this, where each field by itself would be dear to prove.
+    /// Lets go of every field in one call, which keeps the proofs of its owners short.
     fn drop(self) {
         let Places {
             entries: _,
@@ -191,7 +192,7 @@ fn shown_panel(store: &Store, root: Handle) -> Option<Area>
 }
 
 impl Places {
-    ghost use Rattle.gui_layout.specs.Solved.{limits_of, layout_of, offset_at, place_at, reach_at};
+    ghost use Rattle.gui_layout.specs.Solved.{limits_of, layout_of, moved_in, offset_at, place_at, reach_at};
     ghost use Rattle.gui_layout.specs.Solved.{AreReached, AreSettled, AreSolved};
     ghost use Rattle.gui_layout.specs.Naturals.{AreNatural, naturals, naturals_at};
     ghost use Rattle.gui_boxes.specs.Marks.{is_changed, is_marked, is_parent, mark_count, most_marks, solved_in};
@@ -199,6 +200,7 @@ impl Places {
     ghost use Rattle.gui_layout.specs.SettledBut.{SettlesChanged, SettlesMarks, WereSettled, in_marked, nobody};
     ghost use Rattle.gui_layout.specs.Settles.{Settles, SolvesTree};
     ghost use Rattle.gui_boxes.specs.Around.{IsFlat, IsFlatWithout, ReadsReaches};
+    ghost use Rattle.gui_layout.specs.Moved.{AreClosed, ListsMoved, Propagates, Spreads};
     ghost use Rattle.gui_layout.specs.Raised.{rests_at};
     ghost use Rattle.gui_boxes.specs.Scrolls.{scrolled_at};
     ghost use Rattle.gui_layout.specs.Tops.{MovesAt, ScrollsAt, ScrollsStay, SolvesAt, in_trees_at, is_over};
@@ -240,7 +242,8 @@ impl Places {
     /// Settles the places of a store in which marked objects alone may differ from what they were when the
     /// places were settled: objects that have changed, come or gone, and those whose children are others. From
     /// what that follows is a law ([`crate::laws`]). Of a tree in which none is marked all places stay as they
-    /// were. The marks are let go, and they tell at which objects trees were solved.
+    /// were. The marks are let go, and they tell at which objects trees were solved. [`Places::moved`] tells which
+    /// objects moved.
     ///
     /// No contract says how little is solved: where the list of children alone is another, nothing is for an
     /// object whose sizes are not those of its content and whose children stand by themselves.
@@ -289,6 +292,19 @@ impl Places {
             place_at self.new k ≡ place_at self.old k }
         ensures scrolls_stay { ScrollsStay self.old self.new (scene_of store.now)
             (is_marked marks.old) (solved_in marks.new) }
+        ensures moved_once { (k : ℕ) → times (moved_in self.new) k ≤ 1 }
+        ensures moved_there { (k : ℕ) → 0 < times (moved_in self.new) k → is_there (scene_of store.now) k ≡ true }
+        ensures moved_whole { (k : ℕ) → is_there (scene_of store.now) k ≡ true → is_changed marks.old k ≡ true →
+            0 < times (moved_in self.new) k }
+        ensures moved_stays { (k : ℕ) → is_there (scene_of store.now) k ≡ true →
+            times (moved_in self.new) k ≡ 0 → place_at self.new k ≡ place_at self.old k }
+        ensures moved_reaches { (k : ℕ) → is_there (scene_of store.now) k ≡ true →
+            times (moved_in self.new) k ≡ 0 → reach_at self.new k ≡ reach_at self.old k }
+        ensures moved_offsets { (k : ℕ) → is_there (scene_of store.now) k ≡ true →
+            times (moved_in self.new) k ≡ 0 → offset_at self.new k ≡ offset_at self.old k }
+        ensures moved_only { (k : ℕ) → is_there (scene_of store.now) k ≡ true → is_changed marks.old k ≡ false →
+            place_at self.new k ≡ place_at self.old k → reach_at self.new k ≡ reach_at self.old k →
+            offset_at self.new k ≡ offset_at self.old k → times (moved_in self.new) k ≡ 0 }
         ensures empty { (k : ℕ) → is_marked marks.new k ≡ false }
         ensures count { mark_count marks.new ≡ 0 }
         ensures most { most_marks marks.new ≡ most_marks marks.old }
@@ -299,7 +315,7 @@ impl Places {
 
     /// Settles places that were settled for an earlier scene, from which this one differs in what is marked
     /// alone, as [`Places::settle`] does. The marks are let go, and they tell at which objects trees were
-    /// solved.
+    /// solved. [`Places::moved`] tells which objects moved.
     ///
     /// No contract says what it saves: where one object is marked alone, its parent moves no children and these
     /// reach as far without it, no sibling is visited.
@@ -316,6 +332,19 @@ impl Places {
             place_at self.new k ≡ place_at self.old k }
         ensures scrolls_stay { ScrollsStay self.old self.new (scene_of store.now)
             (is_marked marks.old) (solved_in marks.new) }
+        ensures moved_once { (k : ℕ) → times (moved_in self.new) k ≤ 1 }
+        ensures moved_there { (k : ℕ) → 0 < times (moved_in self.new) k → is_there (scene_of store.now) k ≡ true }
+        ensures moved_whole { (k : ℕ) → is_there (scene_of store.now) k ≡ true → is_changed marks.old k ≡ true →
+            0 < times (moved_in self.new) k }
+        ensures moved_stays { (k : ℕ) → is_there (scene_of store.now) k ≡ true →
+            times (moved_in self.new) k ≡ 0 → place_at self.new k ≡ place_at self.old k }
+        ensures moved_reaches { (k : ℕ) → is_there (scene_of store.now) k ≡ true →
+            times (moved_in self.new) k ≡ 0 → reach_at self.new k ≡ reach_at self.old k }
+        ensures moved_offsets { (k : ℕ) → is_there (scene_of store.now) k ≡ true →
+            times (moved_in self.new) k ≡ 0 → offset_at self.new k ≡ offset_at self.old k }
+        ensures moved_only { (k : ℕ) → is_there (scene_of store.now) k ≡ true → is_changed marks.old k ≡ false →
+            place_at self.new k ≡ place_at self.old k → reach_at self.new k ≡ reach_at self.old k →
+            offset_at self.new k ≡ offset_at self.old k → times (moved_in self.new) k ≡ 0 }
         ensures empty { (k : ℕ) → is_marked marks.new k ≡ false }
         ensures count { mark_count marks.new ≡ 0 }
         ensures most { most_marks marks.new ≡ most_marks marks.old }
@@ -342,6 +371,14 @@ impl Places {
         } else {
             None
         }
+    }
+
+    /// The objects that moved when places were settled last, each once: those that had changed, and those whose place,
+    /// reach or offset became another. Once all places are solved anew it tells nothing.
+    pub fn moved(&self) -> &[Handle]
+        ensures { result.now ≡ moved_in self.now }
+    {
+        self.found.as_slice()
     }
 
     /// Whether places that were settled stay so where the children of an object stand in another order, and
@@ -665,6 +702,7 @@ impl Places {
         ensures moves { MovesAt self.old self.new (scene_of store.now) (is_changed marks.old) (solved_in marks.new) }
         ensures scrolls { ScrollsStay self.old self.new (scene_of store.now)
             (is_marked marks.old) (solved_in marks.new) }
+        ensures lists { ListsMoved self.old self.new (scene_of store.now) (is_changed marks.old) }
         ensures empty { (k : ℕ) → is_marked marks.new k ≡ false }
         ensures count { mark_count marks.new ≡ 0 }
         ensures most { most_marks marks.new ≡ most_marks marks.old }
@@ -700,6 +738,7 @@ impl Places {
         requires alone { IfSome lone (λ h. marked.now ≡ h ∷ []) }
         requires without { IfSome lone (λ h. (q : ℕ) → parent_of (handles_of (scene_of store.now).trees) h.0 ≡ Some q →
             IsFlatWithout (handles_of (scene_of store.now).trees) (layout_of self.old) h.0 q) }
+        requires first { (k : ℕ) → is_first pending.old k ≡ is_pending pending.old k }
         requires empty { solved.old.items ≡ [] }
         requires room { length marked.now ≤ vec_capacity solved.old }
         ensures settles { SettlesMarks self.old self.new (scene_of store.now)
@@ -707,6 +746,7 @@ impl Places {
         ensures moves { MovesAt self.old self.new (scene_of store.now) (is_pending pending.old) solved.new.items }
         ensures scrolls { ScrollsStay self.old self.new (scene_of store.now)
             (is_marked_in pending.old) solved.new.items }
+        ensures lists { ListsMoved self.old self.new (scene_of store.now) (is_pending pending.old) }
         ensures marks { listing_of pending.new ≡ listing_of pending.old }
         ensures capacity { vec_capacity solved.new ≡ vec_capacity solved.old }
         ensures limits { limits_of self.new ≡ limits_of self.old }
@@ -715,6 +755,45 @@ impl Places {
         raise_marks(tree, &self.entries, pending, marked);
         self.settle_changed(store, marked, pending, solved);
         self.renew_reaches(store, marked, solved.as_slice(), lone);
+        self.tell_moved(store, marked, pending, solved.as_slice());
+    }
+
+    /// Lets go of the touched objects in the trees at these tops, of those that are listed, and of all above these. What
+    /// is marked of them, or has changed since it was told last, has moved.
+    fn tell_moved(
+        &mut self,
+        store: &Store,
+        marked: &[Handle],
+        pending: &Table<Mark>,
+        tops: &[Handle],
+    )
+        requires limits { limits_of self.old ≡ (scene_of store.now).limits }
+        requires there { (u : ℕ) → 0 < times tops.now u → has (handles_of (scene_of store.now).trees) u ≡ true }
+        requires trees { (u : ℕ) → 0 < times tops.now u →
+            AreListed (listing_of self.old.entries) (tree_at (handles_of (scene_of store.now).trees) u) }
+        requires closed { AreClosed (handles_of (scene_of store.now).trees)
+            (is_touched (layout_of self.old)) tops.now }
+        requires above { (h k : ℕ) → 0 < times marked.now h →
+            has (handles_of (scene_of store.now).trees) h ≡ true →
+            Encloses (handles_of (scene_of store.now).trees) k h →
+            has (handles_of (scene_of store.now).trees) k ≡ true → IsListed (listing_of self.old.entries) k }
+        ensures tells { Tells (handles_of (scene_of store.now).trees) (is_first pending.now)
+            (layout_of self.old) (layout_of self.new) [] (moved_in self.new) }
+        ensures own { (k : ℕ) → StandsOver (handles_of (scene_of store.now).trees) marked.now k →
+            is_touched (layout_of self.new) k ≡ false }
+        ensures inside { (k : ℕ) → in_trees_at (handles_of (scene_of store.now).trees) tops.now k ≡ true →
+            is_touched (layout_of self.new) k ≡ false }
+        ensures within { (k : ℕ) → is_touched (layout_of self.old) k ≡ true →
+            is_touched (layout_of self.new) k ≡ false →
+            StandsOver (handles_of (scene_of store.now).trees) marked.now k
+            ⊎ (in_trees_at (handles_of (scene_of store.now).trees) tops.now k ≡ true) }
+        ensures listed { listing_of self.new.entries ≡ listing_of self.old.entries }
+        ensures limits { limits_of self.new ≡ limits_of self.old }
+    {
+        let tree = store.tree();
+        self.found.clear();
+        tell_trees(tree, &mut self.entries, pending, &mut self.found, tops);
+        tell_marked(tree, &mut self.entries, pending, &mut self.found, marked);
     }
 
     /// Finds anew how far the children reach of the parents of the trees that were solved, and of the marked
@@ -791,8 +870,9 @@ impl Places {
         ensures settles { SettlesChanged self.old self.new (scene_of store.now) (is_pending pending.old) }
         ensures moves { MovesAt self.old self.new (scene_of store.now) (is_pending pending.old) solved.new.items }
         ensures scrolls { ScrollsAt self.old self.new (scene_of store.now) (is_pending pending.old) solved.new.items }
-        ensures calm { (k : ℕ) → has (handles_of (scene_of store.now).trees) k ≡ true →
-            is_touched (layout_of self.old) k ≡ false → is_touched (layout_of self.new) k ≡ false }
+        ensures spreads { Spreads self.old self.new (scene_of store.now)
+            (is_pending pending.old) marked.now solved.new.items }
+        ensures first { (k : ℕ) → is_first pending.new k ≡ is_first pending.old k }
         ensures marks { listing_of pending.new ≡ listing_of pending.old }
         ensures capacity { vec_capacity solved.new ≡ vec_capacity solved.old }
         ensures limits { limits_of self.new ≡ limits_of self.old }
@@ -838,29 +918,6 @@ impl Places {
         top
     }
 
-    /// What the marks of the touched objects in the tree of an object concern is settled, and these are let go.
-    fn let_go(&mut self, tree: &Tree, pending: &mut Table<Mark>, h: Handle)
-        requires there { has tree.now.forest h.0 ≡ true }
-        requires listed { AreListed (listing_of self.old.entries) (tree_at tree.now.forest h.0) }
-        requires closed { IsClosed (is_touched (layout_of self.old)) (tree_at tree.now.forest h.0) }
-        requires marked { (k : ℕ) → has (tree_at tree.now.forest h.0) k ≡ true →
-            is_pending pending.old k ≡ true → is_touched (layout_of self.old) k ≡ true }
-        ensures own { (k : ℕ) → has (tree_at tree.now.forest h.0) k ≡ true →
-            is_pending pending.new k ≡ false }
-        ensures others { (k : ℕ) → has (tree_at tree.now.forest h.0) k ≡ false →
-            is_pending pending.new k ≡ is_pending pending.old k }
-        ensures marks { listing_of pending.new ≡ listing_of pending.old }
-        ensures rests { (k : ℕ) → has (tree_at tree.now.forest h.0) k ≡ true →
-            is_touched (layout_of self.new) k ≡ false }
-        ensures touched { (k : ℕ) → has (tree_at tree.now.forest h.0) k ≡ false →
-            is_touched (layout_of self.new) k ≡ is_touched (layout_of self.old) k }
-        ensures rest { ButTouched (layout_of self.old) (layout_of self.new) }
-        ensures listed { listing_of self.new.entries ≡ listing_of self.old.entries }
-        ensures limits { limits_of self.new ≡ limits_of self.old }
-    {
-        rest_tree(tree, &mut self.entries, pending, h);
-    }
-
     /// Settles what the mark of an object concerns, if it is there and its mark is pending. The answer is the
     /// object at the top of the tree that was solved, or None.
     fn settle_mark(&mut self, store: &Store, pending: &mut Table<Mark>, h: Handle) -> Option<Handle>
@@ -881,8 +938,10 @@ impl Places {
         ensures ready { IsReady (scene_box (scene_of store.now)) (layout_of self.new)
             (handles_of (scene_of store.now).trees)
             (in_marked (is_pending pending.new) (scene_of store.now)) (is_pending pending.new) }
-        ensures calm { (k : ℕ) → is_touched (layout_of self.old) k ≡ false →
-            is_touched (layout_of self.new) k ≡ false }
+        ensures moves { Propagates (scene_box (scene_of store.now)) (handles_of (scene_of store.now).trees)
+            (in_marked (is_pending pending.old) (scene_of store.now))
+            (layout_of self.old) (layout_of self.new) (option_to_list result) }
+        ensures first { (k : ℕ) → is_first pending.new k ≡ is_first pending.old k }
         ensures own { has (handles_of (scene_of store.now).trees) h.0 ≡ true →
             is_pending pending.new h.0 ≡ false }
         ensures marks { listing_of pending.new ≡ listing_of pending.old }
@@ -895,51 +954,12 @@ impl Places {
             return None;
         }
         let top = self.settle_at(store, pending, h);
-        self.let_go(tree, pending, top);
+        finish_touched(tree, &self.entries, pending, top);
         Some(top)
     }
 
     /// Settles what the marks of these objects concern, of those that are there, and lists the objects at the
     /// top of the trees that were solved.
-    fn settle_each(
-        &mut self,
-        store: &Store,
-        marked: &[Handle],
-        pending: &mut Table<Mark>,
-        solved: &mut Vec<Handle>,
-    )
-        requires limits { limits_of self.old ≡ (scene_of store.now).limits }
-        requires entries { AreListed (listing_of self.old.entries)
-            (marked_trees (is_pending pending.old) (handles_of (scene_of store.now).trees)) }
-        requires boxes { AreRenewed (scene_of store.now) (layout_of self.old).boxes
-            (marked_trees (is_pending pending.old) (handles_of (scene_of store.now).trees)) }
-        requires marked { (k : ℕ) → is_pending pending.old k ≡ true → 0 < times marked.now k }
-        requires empty { solved.old.items ≡ [] }
-        requires room { length marked.now ≤ vec_capacity solved.old }
-        requires ready { IsReady (scene_box (scene_of store.now)) (layout_of self.old)
-            (handles_of (scene_of store.now).trees)
-            (in_marked (is_pending pending.old) (scene_of store.now)) (is_pending pending.old) }
-        ensures settles { Settles self.old self.new (scene_of store.now)
-            (is_pending pending.old) (is_pending pending.new) }
-        ensures solves { SolvesAt self.old self.new (scene_of store.now)
-            (is_pending pending.old) (is_pending pending.new) solved.new.items }
-        ensures scrolls { ScrollsAt self.old self.new (scene_of store.now)
-            (is_pending pending.old) solved.new.items }
-        ensures calm { (k : ℕ) → is_touched (layout_of self.old) k ≡ false →
-            is_touched (layout_of self.new) k ≡ false }
-        ensures all { (k : ℕ) → has (handles_of (scene_of store.now).trees) k ≡ true →
-            is_pending pending.new k ≡ false }
-        ensures marks { listing_of pending.new ≡ listing_of pending.old }
-        ensures capacity { vec_capacity solved.new ≡ vec_capacity solved.old }
-    {
-        for h in marked {
-            let top = self.settle_mark(store, pending, *h);
-            add_any(solved, top);
-        }
-    }
-
-    /// Settles what the marks of these objects concern, of those that are there, and lists the objects at the
-    /// top of the trees that were solved. No listed object is touched then, nor one above one.
     fn settle_marked(
         &mut self,
         store: &Store,
@@ -953,10 +973,6 @@ impl Places {
         requires boxes { AreRenewed (scene_of store.now) (layout_of self.old).boxes
             (marked_trees (is_pending pending.old) (handles_of (scene_of store.now).trees)) }
         requires marked { (k : ℕ) → is_pending pending.old k ≡ true → 0 < times marked.now k }
-        requires above { (h k : ℕ) → 0 < times marked.now h →
-            has (handles_of (scene_of store.now).trees) h ≡ true →
-            Encloses (handles_of (scene_of store.now).trees) k h →
-            has (handles_of (scene_of store.now).trees) k ≡ true → IsListed (listing_of self.old.entries) k }
         requires empty { solved.old.items ≡ [] }
         requires room { length marked.now ≤ vec_capacity solved.old }
         requires ready { IsReady (scene_box (scene_of store.now)) (layout_of self.old)
@@ -968,34 +984,19 @@ impl Places {
             (is_pending pending.old) (is_pending pending.new) solved.new.items }
         ensures scrolls { ScrollsAt self.old self.new (scene_of store.now)
             (is_pending pending.old) solved.new.items }
-        ensures calm { (k : ℕ) → is_touched (layout_of self.old) k ≡ false →
-            is_touched (layout_of self.new) k ≡ false }
-        ensures rests { (k : ℕ) → StandsOver (handles_of (scene_of store.now).trees) marked.now k →
-            is_touched (layout_of self.new) k ≡ false }
+        ensures moves { Propagates (scene_box (scene_of store.now)) (handles_of (scene_of store.now).trees)
+            (in_marked (is_pending pending.old) (scene_of store.now))
+            (layout_of self.old) (layout_of self.new) solved.new.items }
+        ensures first { (k : ℕ) → is_first pending.new k ≡ is_first pending.old k }
         ensures all { (k : ℕ) → has (handles_of (scene_of store.now).trees) k ≡ true →
             is_pending pending.new k ≡ false }
         ensures marks { listing_of pending.new ≡ listing_of pending.old }
         ensures capacity { vec_capacity solved.new ≡ vec_capacity solved.old }
     {
-        self.settle_each(store, marked, pending, solved);
-        self.rest_marked(store, marked);
-    }
-
-    /// Lets go of the listed objects that are there, and of all above them.
-    fn rest_marked(&mut self, store: &Store, marked: &[Handle])
-        requires above { (h k : ℕ) → 0 < times marked.now h →
-            has (handles_of (scene_of store.now).trees) h ≡ true →
-            Encloses (handles_of (scene_of store.now).trees) k h →
-            has (handles_of (scene_of store.now).trees) k ≡ true → IsListed (listing_of self.old.entries) k }
-        ensures calm { (k : ℕ) → is_touched (layout_of self.old) k ≡ false →
-            is_touched (layout_of self.new) k ≡ false }
-        ensures rests { (k : ℕ) → StandsOver (handles_of (scene_of store.now).trees) marked.now k →
-            is_touched (layout_of self.new) k ≡ false }
-        ensures rest { ButTouched (layout_of self.old) (layout_of self.new) }
-        ensures listed { listing_of self.new.entries ≡ listing_of self.old.entries }
-        ensures limits { limits_of self.new ≡ limits_of self.old }
-    {
-        rest_marked(store.tree(), &mut self.entries, marked);
+        for h in marked {
+            let top = self.settle_mark(store, pending, *h);
+            add_any(solved, top);
+        }
     }
 
     /// What a root stands in.

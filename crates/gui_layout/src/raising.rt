@@ -2,7 +2,7 @@
 ghost use Rattle.std.specs.Prelude.{◌≡◌, ◌<◌, ℕ, true, false, eqb};
 ghost use Rattle.gui_pool.specs.Table.{value_at};
 ghost use Rattle.gui_boxes.specs.Listing.{times};
-ghost use Rattle.gui_boxes.specs.Pending.{is_any, is_partly, is_pending};
+ghost use Rattle.gui_boxes.specs.Pending.{is_any, is_first, is_partly, is_pending};
 ghost use Rattle.gui_layout.specs.Raised.{Rests, rests};
 ghost use Rattle.gui_boxes.specs.Tables.{listing_of};
 
@@ -35,6 +35,7 @@ fn raise(tree: &Tree, entries: &Table<Entry>, pending: &mut Table<Mark>, h: Hand
     ensures still { (k : ℕ) → is_partly pending.old k ≡ true → is_pending pending.new k ≡ false →
         is_partly pending.new k ≡ true }
     ensures any { (k : ℕ) → is_any (value_at pending.new k) ≡ is_any (value_at pending.old k) }
+    ensures first { (k : ℕ) → is_first pending.new k ≡ is_first pending.old k }
     ensures listed { listing_of pending.new ≡ listing_of pending.old }
 {
     if !is_partly(pending, h) {
@@ -43,7 +44,7 @@ fn raise(tree: &Tree, entries: &Table<Entry>, pending: &mut Table<Mark>, h: Hand
     if rests(tree, entries, h) {
         return;
     }
-    let _ = pending.replace(h.0 as u32, Mark::All);
+    let _ = pending.replace(h.0 as u32, Mark::Raised);
 }
 
 /// Makes the marks of children marks of their parents, but of those that rest.
@@ -57,6 +58,7 @@ pub(crate) fn raise_marks(
         is_pending pending.new k ≡ false → Rests tree.now.forest entries.now k }
     ensures more { (k : ℕ) → is_pending pending.old k ≡ true → is_pending pending.new k ≡ true }
     ensures any { (k : ℕ) → is_any (value_at pending.new k) ≡ is_any (value_at pending.old k) }
+    ensures first { (k : ℕ) → is_first pending.new k ≡ is_first pending.old k }
     ensures listed { listing_of pending.new ≡ listing_of pending.old }
 {
     for h in marked {

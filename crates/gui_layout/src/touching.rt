@@ -3,9 +3,9 @@ ghost use Rattle.std.specs.Prelude.{◌≡◌, ◌<◌, ℕ, Bool, true, false};
 ghost use Rattle.gui_boxes.specs.Listing.{times};
 ghost use Rattle.gui_base.specs.Forest.{StandsOnce, has};
 ghost use Rattle.gui_boxes.specs.Frames.{Encloses};
-ghost use Rattle.gui_boxes.specs.Layouts.{ButTouched};
+ghost use Rattle.gui_boxes.specs.Layouts.{ButTold, ButTouched};
 ghost use Rattle.gui_boxes.specs.Tables.{IsListed, listing_of, told};
-ghost use Rattle.gui_boxes.specs.Touched.{is_touched};
+ghost use Rattle.gui_boxes.specs.Touched.{IsAtRest, is_touched};
 ghost use Rattle.gui_layout.specs.Calm.{IsClosedBut, IsClosedUp, StandsOver, is_up};
 
 use gui_base::Handle;
@@ -83,57 +83,6 @@ pub(crate) fn touch_marked(tree: &Tree, entries: &mut Table<Entry>, marked: &[Ha
     }
 }
 
-/// Lets go of an object and of all above it: they are touched no more.
-fn rest_up(tree: &Tree, entries: &mut Table<Entry>, h: Handle)
-    requires once { StandsOnce tree.now.forest }
-    requires there { has tree.now.forest h.0 ≡ true }
-    requires listed { (k : ℕ) → Encloses tree.now.forest k h.0 → has tree.now.forest k ≡ true →
-        IsListed (listing_of entries.old) k }
-    ensures own { (k : ℕ) → is_up tree.now.forest k h.0 ≡ true → is_touched (told entries.new) k ≡ false }
-    ensures calm { (k : ℕ) → is_touched (told entries.old) k ≡ false →
-        is_touched (told entries.new) k ≡ false }
-    ensures rest { ButTouched (told entries.old) (told entries.new) }
-    ensures listed { listing_of entries.new ≡ listing_of entries.old }
-{
-    let_rest(entries, h);
-    if let Some(parent) = tree.parent(h) {
-        rest_up(tree, entries, parent);
-    }
-}
-
-/// Lets go of an object and of all above it, if it is there.
-fn rest_there(tree: &Tree, entries: &mut Table<Entry>, h: Handle)
-    requires once { StandsOnce tree.now.forest }
-    requires listed { has tree.now.forest h.0 ≡ true → (k : ℕ) → Encloses tree.now.forest k h.0 →
-        has tree.now.forest k ≡ true → IsListed (listing_of entries.old) k }
-    ensures own { has tree.now.forest h.0 ≡ true → (k : ℕ) → is_up tree.now.forest k h.0 ≡ true →
-        is_touched (told entries.new) k ≡ false }
-    ensures calm { (k : ℕ) → is_touched (told entries.old) k ≡ false →
-        is_touched (told entries.new) k ≡ false }
-    ensures rest { ButTouched (told entries.old) (told entries.new) }
-    ensures listed { listing_of entries.new ≡ listing_of entries.old }
-{
-    if tree.has(h) {
-        rest_up(tree, entries, h);
-    }
-}
-
-/// Lets go of the marked objects that are there, and of all above them.
-pub(crate) fn rest_marked(tree: &Tree, entries: &mut Table<Entry>, marked: &[Handle])
-    requires once { StandsOnce tree.now.forest }
-    requires listed { (h : ℕ) → 0 < times marked.now h → has tree.now.forest h ≡ true → (k : ℕ) →
-        Encloses tree.now.forest k h → has tree.now.forest k ≡ true → IsListed (listing_of entries.old) k }
-    ensures own { (k : ℕ) → StandsOver tree.now.forest marked.now k → is_touched (told entries.new) k ≡ false }
-    ensures calm { (k : ℕ) → is_touched (told entries.old) k ≡ false →
-        is_touched (told entries.new) k ≡ false }
-    ensures rest { ButTouched (told entries.old) (told entries.new) }
-    ensures listed { listing_of entries.new ≡ listing_of entries.old }
-{
-    for h in marked {
-        rest_there(tree, entries, *h);
-    }
-}
-
 /// Touches all listed objects.
 pub(crate) fn touch_all(entries: &mut Table<Entry>, listed: &[Handle])
     requires { (k : ℕ) → 0 < times listed.now k → IsListed (listing_of entries.old) k }
@@ -146,11 +95,11 @@ pub(crate) fn touch_all(entries: &mut Table<Entry>, listed: &[Handle])
     }
 }
 
-/// Lets go of all listed objects.
+/// Lets go of all listed objects: they count as told as they stand.
 pub(crate) fn rest_all(entries: &mut Table<Entry>, listed: &[Handle])
     requires { (k : ℕ) → 0 < times listed.now k → IsListed (listing_of entries.old) k }
-    ensures own { (k : ℕ) → 0 < times listed.now k → is_touched (told entries.new) k ≡ false }
-    ensures rest { ButTouched (told entries.old) (told entries.new) }
+    ensures own { (k : ℕ) → 0 < times listed.now k → IsAtRest (told entries.new) k }
+    ensures rest { ButTold (told entries.old) (told entries.new) }
     ensures listed { listing_of entries.new ≡ listing_of entries.old }
 {
     for h in listed {

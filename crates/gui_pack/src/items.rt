@@ -23,7 +23,7 @@ impl Paints {
         items
     }
 
-    /// The same of an object that paints its own part alone, as most do: the fill and the ring of its border.
+    /// The fill and the border of an object that paints its own part alone, as most do. `None` for any other.
     pub fn alone(&self) -> Option<[Item; 2]>
         ensures alone { is_some result ≡ is_alone self.now.more }
         ensures items { IfSome result (λ items. items_of items ≡ items_in (paints_in self.now)) }

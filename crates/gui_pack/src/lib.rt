@@ -1,5 +1,5 @@
-//! All that an object paints, kept in a record of a fixed size: a few areas, and colours and opacities once
-//! for each part. The items are made of it again where they are needed.
+//! All that an object paints, kept in a record of a fixed size: a few areas, and colours and opacities once for
+//! each part. The items are made of it again when they are needed.
 //!
 //! No call takes memory.
 #![tactic(auto)]

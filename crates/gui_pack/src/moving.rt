@@ -11,8 +11,8 @@ use crate::record::{More, Paints};
 use gui_base::Area;
 
 impl Paints {
-    /// The record of the same object in another place, where it paints its own part alone: none where more stands
-    /// in its content area, which goes by its pads.
+    /// The record of the same object in another place, if it paints its own part alone: none if more stands in
+    /// its content area, which depends on its pads.
     pub fn moved(&self, place: Area) -> Option<Paints>
         ensures alone { is_some result ≡ is_alone self.now.more }
         ensures items { IfSome result (λ moved. (look : Look) (area : Rect) →

@@ -14,7 +14,7 @@ use gui_base::{Area, Rgb565};
 use gui_widgets::{Item, ItemPaint, Look, items};
 use pack_defs::{ImagePaint, PartPaint, TextPaint};
 
-/// All that an object paints which stands in a place.
+/// All that an object paints if it stands in a place.
 pub fn paints(look: &Look<'_>, place: Area) -> Paints
     requires look { IsLook look.now }
     requires place { IsPlace (rect_of place) }
@@ -27,7 +27,7 @@ pub fn paints(look: &Look<'_>, place: Area) -> Paints
     paints
 }
 
-/// The record of an object that paints these: none where it has no part of its own.
+/// The record of an object that paints these: none if it has no part of its own.
 fn packed(items: &[Item]) -> Option<Paints>
     ensures { option_map paints_in result ≡ packed (items_of items.now) }
 {

@@ -89,9 +89,9 @@ impl<'a> Shown<'a> {
     ghost use Rattle.gui_paint.specs.Painting.{Paints, painted_bars, painted_object};
 
     // Each parameter by itself, as in the drawing calls: a caller has them from different places.
-    /// Paints an object by itself over the pixels of the buffer that are in `visible`. It is there, and
-    /// `known` is all that it paints: nothing of it is looked up but the bytes of its text, where it has one.
-    /// `text` is room for a text.
+    /// Paints an object by itself over the pixels of the buffer that are in `visible`. It is there, and `known`
+    /// is all that it paints: nothing of it is looked up but the bytes of its text, if it has one. `text` is
+    /// room for a text.
     pub fn paint_known<L: Ledger>(
         &self,
         buf: &mut DrawBuf,

@@ -46,15 +46,14 @@ impl<'a> Picture for Shown<'a> {
             * items_shown (scene_of self.now.store.now) + slice_extra (scene_of self.now.store.now)) }
         ensures late { steps.new ≤ steps.old + slice_steps (scene_of self.now.store.now) buf.old.area }
     {
-        // Lending the tree tells that the scene is in order.
+        // For the proof alone: `tree` says that the scene is in order.
         let _tree = self.store.tree();
         let start = self.cover_start(buf.area(), steps);
         paint(self, buf, start, steps);
     }
 }
 
-/// Paints what is shown of a scene over the pixels of the buffer, from an object on, or all where that is
-/// `None`.
+/// Paints what is shown of a scene over the pixels of the buffer, from an object on, or all if that is `None`.
 fn paint<L: Ledger>(shown: &Shown, buf: &mut DrawBuf, start: Option<Handle>, steps: &mut Steps<L>)
     ensures painted { Paints buf.old buf.new
         (painted_each (from_handle (number_of start) (all_painted (scene_of shown.now.store.now)))) }

@@ -22,8 +22,8 @@ impl<'a> Shown<'a> {
     ghost use Rattle.cover_defs.specs.Cover.{cover};
     ghost use Rattle.cover_defs.specs.Steps.{object_count};
 
-    /// The last object that is shown and covers an area, or `None` where none does. What lies below it there
-    /// is not seen. Each object that is visited is a step.
+    /// The last object that is shown and covers an area, or `None` if none does. What lies below it there is
+    /// not seen. Each object that is visited is a step.
     pub fn cover_start<L: Ledger>(&self, area: Area, steps: &mut Steps<L>) -> Option<Handle>
         ensures cover { option_map (λ h. h.0) result ≡ cover (scene_of self.now.store.now) (rect_of area) }
         ensures steps { steps.new ≤ steps.old + object_count (scene_of self.now.store.now) }
@@ -74,7 +74,7 @@ fn find_cover<L: Ledger>(
     }
 }
 
-/// Finds an object that is seen so, where it covers an area.
+/// Finds an object that is seen so, if it covers an area.
 fn remember(shown: &Shown, seen: SeenObject, h: Handle, part: Area, search: &mut Search)
     requires valid { IsValid (scene_of shown.now.store.now) }
     requires stands { StandsAt (scene_of shown.now.store.now) h.0 (rect_of seen.place) }
@@ -87,8 +87,7 @@ fn remember(shown: &Shown, seen: SeenObject, h: Handle, part: Area, search: &mut
     }
 }
 
-/// Whether an object that is seen so covers an area. Nothing of it is looked up where too little is seen of
-/// it.
+/// Whether an object that is seen so covers an area. Nothing of it is looked up if too little is seen of it.
 fn is_cover(
     shown: &Shown,
     seen: SeenObject,

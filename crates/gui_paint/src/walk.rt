@@ -48,7 +48,7 @@ pub(crate) fn visit<L: Ledger>(
     Some(SeenObject { place, visible })
 }
 
-/// The part of an object's place that is seen through a clip, or `None` where nothing of it is seen.
+/// The part of an object's place that is seen through a clip, or `None` if nothing of it is seen.
 fn seen_part(row: &Row, clip: Area, place: Area) -> Option<Area>
     ensures { option_map rect_of result ≡ seen_through (rect_of clip) row.now (Some (rect_of place)) }
 {

@@ -82,7 +82,7 @@ fn unless_so(so: bool, change: Change<'static>) -> Option<Change<'static>>
     if so { None } else { Some(change) }
 }
 
-/// The change by which a variable of an object becomes this number, or none where it is so already.
+/// The change by which a variable of an object becomes this number, or none if it is so already.
 fn var_change(var: Var, row: &Row, n: i32, h: Handle) -> Option<Change<'static>>
     requires { IsEnd n }
     ensures value { result ≡ var_change var row.now n h }
@@ -108,7 +108,7 @@ fn var_change(var: Var, row: &Row, n: i32, h: Handle) -> Option<Change<'static>>
     }
 }
 
-/// A variable of an object becomes this number; no change where it is so already.
+/// A variable of an object becomes this number; no change if it is so already.
 fn put_var(board: &mut Board, var: Var, n: i32, h: Handle)
     requires { IsEnd n }
     ensures { Quiet board.old board.new (put_var var n h) }

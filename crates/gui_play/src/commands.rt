@@ -82,7 +82,7 @@ fn lifted() -> PointerReading
     }
 }
 
-/// The first refusal of a command on events, groups, devices and animations, or none where it is done.
+/// The first refusal of a command on events, groups, devices and animations, or none if it is done.
 fn refusal_of(board: &Board, command: &Command) -> Option<Refusal>
     requires { IsPlay command.now }
     ensures { result ≡ answer (machine_of board.now) command.now }

@@ -114,7 +114,7 @@ fn drag_pointer<S: Sink>(board: &mut Board, drag: Drag, at: Option<PointerReadin
     hold_pointer(board, at, log);
 }
 
-/// The end of a press: where it scrolled, the target is not clicked.
+/// The end of a press: if it scrolled, the target is not clicked.
 fn end_press<S: Sink>(
     board: &mut Board,
     scrolling: Option<Scrolling>,
@@ -131,7 +131,7 @@ fn end_press<S: Sink>(
     }
 }
 
-/// Tells of what time makes of a press, which comes to nothing where it scrolls.
+/// Tells of what time makes of a press, which comes to nothing if it scrolls.
 fn tell_press<S: Sink>(
     board: &mut Board,
     scrolling: Option<Scrolling>,
@@ -203,7 +203,7 @@ fn pointer_tells_all<S: Sink>(
     }
 }
 
-/// A reading of the pointer, or none where only time passed.
+/// A reading of the pointer, or none if only time passed.
 pub(crate) fn feed_pointer<S: Sink>(board: &mut Board, reading: Option<PointerReading>, log: &mut S)
     requires { IfSome reading IsPoint }
     ensures { Plays board.old board.new (S.state log.old) (S.state log.new) (feed_pointer reading) }
@@ -254,7 +254,7 @@ fn keypad_tells_all<S: Sink>(board: &mut Board, tells: &[InputEvent], log: &mut 
     }
 }
 
-/// A reading of the keypad, or none where only time passed.
+/// A reading of the keypad, or none if only time passed.
 pub(crate) fn feed_keypad<S: Sink>(board: &mut Board, reading: Option<KeyReading>, log: &mut S)
     ensures { Plays board.old board.new (S.state log.old) (S.state log.new) (feed_keypad reading) }
 {
@@ -279,7 +279,7 @@ fn arrow_in<S: Sink>(board: &mut Board, key: Key, id: u8, log: &mut S)
     arrow_aimed(board, focused, key, log);
 }
 
-/// One step of a turn: an arrow where the group is editing, else a move of the focus.
+/// One step of a turn: an arrow if the group is editing, else a move of the focus.
 #[tactic(auto, unfolding(run_defs::specs::Devices::turn_once))]
 fn turn_once<S: Sink>(board: &mut Board, editing: bool, forwards: bool, id: u8, log: &mut S)
     ensures { Plays board.old board.new (S.state log.old) (S.state log.new)
@@ -337,7 +337,7 @@ fn edit_by(board: &mut Board, editing: bool, id: u8, h: Handle)
     }
 }
 
-/// The same where there is an object.
+/// Editing ends on an object, or begins if it takes input. Nothing happens without an object.
 fn edit_aimed(board: &mut Board, target: Option<Handle>, editing: bool, id: u8)
     ensures { Quiet board.old board.new (aimed target (edit_by editing id)) }
 {
@@ -355,7 +355,7 @@ fn change_editing(board: &mut Board, id: u8)
     edit_aimed(board, focused, editing, id);
 }
 
-/// A push becomes a long one: nothing comes of it where its target is gone.
+/// A push becomes a long one: nothing comes of it if its target is gone.
 fn long_push(board: &mut Board, target: Option<Handle>, id: u8)
     ensures { Quiet board.old board.new (long_push target id) }
 {
@@ -420,7 +420,7 @@ fn encoder_tells_all<S: Sink>(board: &mut Board, tells: &[InputEvent], log: &mut
     }
 }
 
-/// A reading of the encoder, or none where only time passed.
+/// A reading of the encoder, or none if only time passed.
 pub(crate) fn feed_encoder<S: Sink>(board: &mut Board, reading: Option<EncoderReading>, log: &mut S)
     ensures { Plays board.old board.new (S.state log.old) (S.state log.new) (feed_encoder reading) }
 {

@@ -103,7 +103,7 @@ fn columns(board: &Board, h: Handle) -> Option<(i32, u32)>
     Some((place.x1 + left as i32, count))
 }
 
-/// The value that a slider has at x, where it is one that is there.
+/// The value that a slider has at x, if it is one that is there.
 pub(crate) fn slid_value(board: &Board, x: i32, h: Handle) -> Option<i32>
     ensures { result ≡ slid_value (machine_of board.now).scene x h }
 {

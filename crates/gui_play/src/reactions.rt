@@ -42,7 +42,7 @@ fn step_of(key: Key) -> i32
     if goes_up(key) { 1 } else { -1 }
 }
 
-/// Gives an object a value, brought into its range; no change where it is so already.
+/// Gives an object a value, brought into its range; no change if it is so already.
 fn put_value(board: &mut Board, n: i32, h: Handle)
     ensures { Quiet board.old board.new (put_value n h) }
 {
@@ -64,7 +64,7 @@ fn slide(board: &mut Board, x: i32, h: Handle)
     }
 }
 
-/// The same, where a pointer points.
+/// A slider takes its value from the column of the pointer, if a pointer points.
 fn slide_to(board: &mut Board, at: Option<PointerReading>, h: Handle)
     ensures { Quiet board.old board.new (slide_to at h) }
 {
@@ -89,7 +89,7 @@ fn control_value(board: &Board, h: Handle) -> ControlValue
     }
 }
 
-/// Tells of another value, where there is one.
+/// Tells of another value, if there is one.
 #[tactic(auto, unfolding(run_defs::specs::Reactions::tell_change), using(gui_board::proofs::Plays::idle))]
 fn tell_change<S: Sink>(board: &mut Board, changed: bool, h: Handle, log: &mut S)
     ensures { Plays board.old board.new (S.state log.old) (S.state log.new) (tell_change changed h) }
@@ -99,7 +99,7 @@ fn tell_change<S: Sink>(board: &mut Board, changed: bool, h: Handle, log: &mut S
     }
 }
 
-/// An event, and then value_changed where that value was another before.
+/// An event, and then value_changed if that value was another before.
 fn tell_after<S: Sink>(
     board: &mut Board,
     before: ControlValue,

@@ -22,6 +22,7 @@ IsFree t (suc slot) = text_of t (suc slot) ≡ None
 abbrev pub chunk_count : ℕ → ℕ
 chunk_count len = (len + 27) / 28
 
+-- how many chunks a text takes
 abbrev pub need_of : List ℕ → ℕ
 need_of text = chunk_count (length text)
 

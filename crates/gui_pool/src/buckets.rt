@@ -17,8 +17,8 @@ use std::mem;
 /// Where a bucket ends. No slot has this number.
 const NOWHERE: u32 = u32::MAX;
 
-/// What a slot holds: a value, and the slot of the value after it. Which bucket it is in is told by the bucket's
-/// first slot alone.
+/// What a slot holds: a value, and the slot of the value after it. The bucket's first slot alone tells which
+/// bucket it is in.
 #[derive(Drop)]
 pub struct Node<T> {
     value: T,
@@ -35,7 +35,7 @@ pub struct Buckets<T> {
 }
 
 impl<T: Drop> Drop for Buckets<T> {
-    /// Lets go of all that it holds. Who owns one calls this, where each field by itself would be dear to prove.
+    /// Lets go of every field in one call, which keeps the proofs of its owners short.
     fn drop(self) {
         let Buckets {
             slots: _,
@@ -173,8 +173,7 @@ impl<T> Buckets<T> {
         count
     }
 
-    /// Puts a value last in a bucket. The value is handed back, with all as before, exactly where no slot
-    /// is spare.
+    /// Puts a value last in a bucket. It hands the value back, with all as before, exactly if no slot is spare.
     pub fn push(&mut self, bucket: u32, value: T) -> Result<(), T>
         requires { bucket < length self.old.lists }
         ensures full { IsErr result ↔ (self.old.spare ≡ 0) }
@@ -241,7 +240,7 @@ impl<T> Buckets<T> {
     }
 }
 
-/// The values of a bucket that are still to come. A contract sees them as a list.
+/// The remaining values of a bucket. A contract sees them as a list.
 #[derive(Drop)]
 pub struct Bucket<'a, T> {
     slots: &'a Slab<Node<T>>,
@@ -264,7 +263,7 @@ impl<'a, T> Model for Bucket<'a, T> {
 }
 
 impl<'a, T> Bucket<'a, T> {
-    /// The next value: `None` exactly where none is left.
+    /// The next value: `None` exactly if none is left.
     pub fn next(&mut self) -> Option<&'a T>
         ensures { MatchOption result ((self.old ≡ []) × (self.new ≡ [])) (λ v. self.old ≡ v.now ∷ self.new) }
     {

@@ -34,8 +34,8 @@ pub struct NoChunks;
 /// A contract sees the text of each name, and the number `spare` of chunks that are free. The chunks in use
 /// and the spare ones add up to those that were there at opening.
 ///
-/// A chunk takes 40 bytes, and a text 8 more. Each call takes time by the square of the number of chunks of
-/// its text, of which there are at most 36.
+/// A chunk takes 40 bytes, and a text 8 more. Each call takes time in proportion to the square of the number of
+/// chunks of its text, of which there are at most 36.
 #[derive(Drop)]
 pub struct Chains {
     // The length of each text. A text's name is one more than its slot.
@@ -57,7 +57,7 @@ impl Model for Chains {
 }
 
 impl Chains {
-    /// No text, and `n` free chunks, or `NoMemory` where there is no memory for so many. No later call takes
+    /// No text, and `n` free chunks, or `NoMemory` if there is no memory for so many. No later call takes
     /// memory.
     pub fn with_capacity(alloc: Global, n: u32) -> Result<Chains, NoMemory>
         ensures empty { IfOk result (λ t. (slot : ℕ) → text_of t (suc slot) ≡ None) }
@@ -82,7 +82,7 @@ impl Chains {
     ///
     /// # Errors
     ///
-    /// `NoChunks`, with all as before, exactly where the text needs more chunks than are free.
+    /// `NoChunks`, with all as before, exactly if the text needs more chunks than are free.
     pub fn put(&mut self, text: &[u8]) -> Result<TextId, NoChunks>
         requires { length text.now ≤ 1000 }
         ensures full { IsErr result ↔ (self.old.spare < need_of text.now) }
@@ -98,7 +98,7 @@ impl Chains {
         if need > self.chunks.spare() {
             return Err(NoChunks);
         }
-        // Each text has a chunk at least, so where a chunk is free a slot is.
+        // Each text has a chunk at least, so if a chunk is free, a slot is.
         let slots = self.lens.spare();
         if slots == 0 {
             return Err(NoChunks);
@@ -114,8 +114,8 @@ impl Chains {
     ///
     /// # Errors
     ///
-    /// `NoChunks`, with all as before, exactly where the text needs more chunks than are free together with
-    /// those of the other.
+    /// `NoChunks`, with all as before, exactly if the text needs more chunks than are free together with those
+    /// of the other.
     pub fn replace(&mut self, old: TextId, text: &[u8]) -> Result<TextId, NoChunks>
         requires short { length text.now ≤ 1000 }
         requires there { IsSome (text_of self.old old.0) }

@@ -1,10 +1,10 @@
-//! Containers whose memory goes by the number of values that they may hold, which is settled at opening.
+//! Containers whose memory depends on the number of values that they may hold, which is settled at opening.
 //!
 //! A [`Slab`] numbers its slots itself. A [`Table`] has a value for each of its keys, and [`Lists`] a list
 //! of values for each of its owners. [`Chains`] keep texts.
 //!
-//! Each takes all its memory when it is opened. From then on no call takes memory: a value finds a spare
-//! slot, or is handed back where none is left.
+//! Each takes all its memory when it is opened. From then on no call takes memory: a value finds a spare slot,
+//! or is handed back if none is left.
 #![tactic(auto)]
 
 mod block;

@@ -17,12 +17,12 @@ use std::marker::Model;
 /// A contract sees the list of each owner, the number `spare` of values that still fit, and the number `size`
 /// of slots. The values that are left are dropped once each when the lists end.
 ///
-/// An owner without values takes no memory. Where `T` is aligned to 4 bytes, each slot takes
-/// `12 + size_of::<T>()` bytes, and from one to two buckets for each slot take 4 bytes each.
+/// An owner without values takes no memory. If `T` is aligned to 4 bytes, each slot takes `12 + size_of::<T>()`
+/// bytes, and from one to two buckets for each slot take 4 bytes each.
 ///
 /// The low bits of an owner name its bucket. Owners in a row have a bucket each, as long as there are no more
-/// of them than slots; owners with the same low bits share one. A call takes time by the number of values in
-/// the owner's bucket.
+/// of them than slots; owners with the same low bits share one. A call takes time in proportion to the number
+/// of values in the owner's bucket.
 #[derive(Drop)]
 pub struct Lists<T> {
     buckets: Buckets<Entry<T>>,
@@ -65,8 +65,8 @@ fn nth_place_in<T>(buckets: &Buckets<Entry<T>>, bucket: u32, owner: u32, n: u32)
 }
 
 impl<T> Lists<T> {
-    /// Empty lists for the owners below `owners`, which share `slots` slots, or `NoMemory` where there is no
-    /// memory for so many. No later call takes memory. It takes time by `slots`, not by `owners`.
+    /// Empty lists for the owners below `owners`, which share `slots` slots, or `NoMemory` if there is no
+    /// memory for so many. No later call takes memory. Its time grows with `slots`, not with `owners`.
     pub fn open(alloc: Global, owners: u32, slots: u32) -> Result<Lists<T>, NoMemory>
         ensures owners { IfOk result (λ l. length l.lists ≡ owners) }
         ensures empty { IfOk result (λ l. (owner : ℕ) → list_of l owner ≡ []) }
@@ -128,8 +128,8 @@ impl<T> Lists<T> {
         count
     }
 
-    /// Puts a value last in an owner's list. The value is handed back, with all as before, exactly where no
-    /// slot is spare.
+    /// Puts a value last in an owner's list. It hands the value back, with all as before, exactly if no slot is
+    /// spare.
     pub fn push(&mut self, owner: u32, value: T) -> Result<(), T>
         requires { owner < length self.old.lists }
         ensures full { IsErr result ↔ (self.old.spare ≡ 0) }
@@ -190,7 +190,7 @@ impl<T: Drop> Lists<T> {
     }
 }
 
-/// The values of an owner that are still to come. A contract sees them as a list.
+/// The remaining values of an owner. A contract sees them as a list.
 #[derive(Drop)]
 pub struct ListIter<'a, T> {
     entries: Bucket<'a, Entry<T>>,
@@ -211,7 +211,7 @@ impl<'a, T> Model for ListIter<'a, T> {
 }
 
 impl<'a, T> ListIter<'a, T> {
-    /// The next value: `None` exactly where none is left.
+    /// The next value: `None` exactly if none is left.
     pub fn next(&mut self) -> Option<&'a T>
         ensures { MatchOption result ((self.old ≡ []) × (self.new ≡ [])) (λ v. self.old ≡ v.now ∷ self.new) }
     {

@@ -1,4 +1,4 @@
-//! A value for each of a fixed number of keys, in memory that goes by the number of values.
+//! A value for each of a fixed number of keys, in memory that depends on the number of values.
 ghost use Rattle.std.specs.Prelude.{◌≡◌, ℕ, ◌<◌, ◌≤◌, ◌↔◌, length, is_some};
 ghost use Rattle.std.specs.Prelude.{None, Some, IsSome, IfOk, IfErr, OnOk, OnSome, IfNone, IsErr};
 ghost use Rattle.std.specs.Option.{option_copied, option_copied_mut};
@@ -17,12 +17,12 @@ use std::marker::Model;
 /// A contract sees the value of each key, the number `spare` of values that still fit, and `size`. The
 /// values that are left are dropped once each when the table ends.
 ///
-/// A key without a value takes no memory. Where `T` is aligned to 4 bytes, each of the `size` slots takes
+/// A key without a value takes no memory. If `T` is aligned to 4 bytes, each of the `size` slots takes
 /// `12 + size_of::<T>()` bytes, and from one to two buckets for each slot take 4 bytes each.
 ///
 /// Every call but `open` looks through the one bucket of its key. Keys in a row have a bucket each, so a call
-/// takes constant time for them. At worst, where all keys have the same low bits, it takes time by the number
-/// of values.
+/// takes constant time for them. At worst, if all keys have the same low bits, it takes time in proportion to
+/// the number of values.
 #[derive(Drop)]
 pub struct Table<T> {
     // The low bits of a key name its bucket.
@@ -79,8 +79,8 @@ impl<T> Table<T> {
     ghost use Rattle.std.specs.Borrow.{sem};
     ghost use Rattle.gui_pool.specs.TableLends.{lends_key, lends_key_if};
 
-    /// A table without values, for keys below `keys`, at most `size` of them at a time, or `NoMemory` where
-    /// there is no memory for so many. No later call takes memory. It takes time by `size`, not by `keys`.
+    /// A table without values, for keys below `keys`, at most `size` of them at a time, or `NoMemory` if there
+    /// is no memory for so many. No later call takes memory. Its time grows with `size`, not with `keys`.
     pub fn open(alloc: Global, keys: u32, size: u32) -> Result<Table<T>, NoMemory>
         ensures keys { IfOk result (λ t. length t.values ≡ keys) }
         ensures empty { IfOk result (λ t. (key : ℕ) → value_at t key ≡ None) }
@@ -105,7 +105,7 @@ impl<T> Table<T> {
         self.buckets.spare()
     }
 
-    /// The value of a key: `None` exactly where it has none. A key that is not below the limit has none.
+    /// The value of a key: `None` exactly if it has none. A key that is not below the limit has none.
     pub fn get(&self, key: u32) -> Option<&T>
         ensures { option_copied result ≡ value_at self.now key }
     {
@@ -115,8 +115,8 @@ impl<T> Table<T> {
         find_in(&self.buckets, key & self.mask, key)
     }
 
-    /// Gives a value to a key that has none. The value is handed back, with all as before, exactly where none
-    /// is spare.
+    /// Gives a value to a key that has none. It hands the value back, with all as before, exactly if none is
+    /// spare.
     pub fn insert(&mut self, key: u32, value: T) -> Result<(), T>
         requires within { key < length self.old.values }
         requires vacant { value_at self.old key ≡ None }
@@ -141,7 +141,7 @@ impl<T> Table<T> {
         self.get(key).is_some()
     }
 
-    /// The value of a key, to be changed in its place: `None` exactly where `get` answers it.
+    /// The value of a key, to be changed in its place: `None` exactly if `get` answers it.
     pub fn get_mut(&mut self, key: u32) -> Option<&mut T>
         ensures* writes_back { sem 𝓛 (lends_key_if T.row self.entry key result) }
         ensures value { option_copied_mut result ≡ value_at self.old key }
@@ -183,8 +183,8 @@ impl<T> Table<T> {
         old
     }
 
-    /// Hands out the value of a key, which has none from then on: `None`, with all as before, exactly where
-    /// `get` answers it.
+    /// Hands out the value of a key, which has none from then on: `None`, with all as before, exactly if `get`
+    /// answers it.
     pub fn remove(&mut self, key: u32) -> Option<T>
         ensures value { result ≡ value_at self.old key }
         ensures removes { OnSome result (self.new ≡ value_removed self.old key) }

@@ -1,5 +1,5 @@
-//! How a picture comes to a panel: what is pending is painted and sent, slice by slice, by two buffers, of
-//! which one may be drawn while the other is in flight.
+//! How a picture comes to a panel: what is pending is painted and sent, slice by slice, through two buffers.
+//! One may be drawn while the other is in flight.
 #![tactic(auto)]
 
 pub mod laws;

@@ -40,7 +40,7 @@ pub struct Refresher {
 }
 
 impl Drop for Refresher {
-    /// Lets go of all that it holds. Who owns one calls this, where each field by itself would be dear to prove.
+    /// Lets go of every field in one call, which keeps the proofs of its owners short.
     fn drop(self) {
         let Refresher {
             width: _,
@@ -113,8 +113,8 @@ impl Refresher {
     }
 
     /// Joins the pending areas, and pumps until nothing is pending, drawn or in flight. It stops at the first
-    /// start or transfer that fails, whose slice is pending again. `steps` counts the pixels that are made
-    /// black as each slice begins, and what painting it takes. The blocks of `damage` are the refresher's.
+    /// start or transfer that fails. The slice of that one is pending again. `steps` counts the pixels that are
+    /// made black as each slice begins, and what painting it takes. The blocks of `damage` are the refresher's.
     pub fn refresh<Q: Picture, P: Panel, L: Ledger>(
         &mut self,
         picture: &Q,
@@ -133,7 +133,7 @@ impl Refresher {
             (stage self.new (P.state panel.new) (listed_in damage.new))
             (failures result) steps.old steps.new }
     {
-        // Looking at the refresher and at the list tells that both are sound.
+        // For the proof alone: these calls say that the refresher and the list are sound.
         let _started = self.is_started();
         let _areas = damage.areas();
         damage.join_all();
@@ -146,9 +146,9 @@ impl Refresher {
         }
     }
 
-    /// Goes one step on. Where a transfer is in flight it is polled; where that ends it, this is the step.
-    /// Else, where nothing is in flight, a drawn buffer that waits is started. Else the next slice is drawn
-    /// into a free buffer, where there is one and something is pending; the areas are joined first where
+    /// Goes one step on. If a transfer is in flight, it is polled; if that ends it, this is the step.
+    /// Otherwise, if nothing is in flight, a drawn buffer that waits is started. Otherwise the next slice is
+    /// drawn into a free buffer, if there is one and something is pending. The areas are joined before that if
     /// nothing is in flight. `steps` counts as in a refresh. The blocks of `damage` are the refresher's.
     pub fn pump<Q: Picture, P: Panel, L: Ledger>(
         &mut self,
@@ -329,7 +329,7 @@ impl Refresher {
     }
 
     /// The sum of the numbers of the colours of all pixels of a picture, modulo 65536. The picture is painted
-    /// in slices into a free buffer, which `steps` counts as in a refresh. Nothing else changes.
+    /// in slices into a free buffer, and `steps` counts that as in a refresh. Nothing else changes.
     pub fn sum_of<Q: Picture, L: Ledger>(&mut self, picture: &Q, steps: &mut Steps<L>) -> u16
         requires free { 0 < self.old.free }
         ensures same { self.new ≡ self.old }

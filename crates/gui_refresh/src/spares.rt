@@ -41,7 +41,7 @@ impl Spares {
         }
     }
 
-    /// Takes a buffer. `None` where none is free.
+    /// Takes a buffer. `None` if none is free.
     pub(crate) fn take(&mut self) -> Option<DrawBuf>
         ensures none { MatchOption result (self.old.count ≡ 0)
             (λ buf. (buf.limit ≡ self.old.limit) × (self.old.count ≡ self.new.count + 1)) }

@@ -28,7 +28,7 @@ pub struct RowTable {
 }
 
 impl Drop for RowTable {
-    /// Lets go of all that it holds. Who owns one calls this, where each field by itself would be dear to prove.
+    /// Lets go of every field in one call, which keeps the proofs of its owners short.
     fn drop(self) {
         let RowTable { rows: _, texts: _ } = self;
     }
@@ -48,7 +48,7 @@ impl Model for RowTable {
 
 impl RowTable {
     /// No rows, for handles below `handles`, at most `objects` rows at a time, and `texts` chunks for their
-    /// texts, or `NoMemory` where there is no memory for so many. No later call takes memory.
+    /// texts, or `NoMemory` if there is no memory for so many. No later call takes memory.
     pub fn open(alloc: Global, handles: u32, objects: u32, texts: u32) -> Result<RowTable, NoMemory>
         ensures handles { IfOk result (λ r. length r.rows.values ≡ handles) }
         ensures empty { IfOk result (λ r. (h : ℕ) → value_at r.rows h ≡ None) }
@@ -61,7 +61,7 @@ impl RowTable {
         Ok(RowTable { rows, texts })
     }
 
-    /// The row of a handle: `None` exactly where it has none.
+    /// The row of a handle: `None` exactly if it has none.
     pub fn get(&self, h: u32) -> Option<&Row>
         ensures value { option_map (λ r. shown_row r.now) result
             ≡ option_map (λ k. k.row) (value_at self.now.rows h) }
@@ -112,8 +112,8 @@ impl RowTable {
     ///
     /// # Errors
     ///
-    /// `NoChunks`, with all as before, exactly where the text needs more chunks than are free together with
-    /// those of the one that it had.
+    /// `NoChunks`, with all as before, exactly if the text needs more chunks than are free together with those
+    /// of the one that it had.
     pub fn set_text(&mut self, h: u32, text: &[u8]) -> Result<(), NoChunks>
         requires there { IsSome (value_at self.old.rows h) }
         requires short { length text.now ≤ 1000 }

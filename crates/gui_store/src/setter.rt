@@ -19,7 +19,7 @@ pub(crate) struct Setter {
     pub(crate) fits: bool,
     /// Roots refuse it.
     pub(crate) needs_parent: bool,
-    /// What it sets, where not all kinds have it.
+    /// What it sets, if not all kinds have it.
     pub(crate) feature: Option<Feature>,
     /// The image that it names.
     pub(crate) image: Option<u16>,
@@ -103,7 +103,7 @@ impl Setter {
     }
 }
 
-/// What a change asks for, where it sets the row of one object and does nothing else.
+/// What a change asks for, if it sets the row of one object and does nothing else.
 pub(crate) fn setter_of(change: &Change) -> Option<Setter>
     ensures { result ≡ option_map asked_of (setter_of change.now) }
 {

@@ -75,7 +75,7 @@ pub struct Store {
 }
 
 impl Drop for Store {
-    /// Lets go of all that it holds. Who owns one calls this, where each field by itself would be dear to prove.
+    /// Lets go of every field in one call, which keeps the proofs of its owners short.
     fn drop(self) {
         let Store {
             tree: _,
@@ -102,8 +102,8 @@ fn remove_rows(rows: &mut RowTable, handles: &[Handle])
 impl Store {
     ghost use Rattle.gui_store.specs.Views.{parts_of, scene_of, removed_of, Changes};
 
-    /// The top layer, the system layer and a screen, which is active. It takes all the memory that the
-    /// store will need; NoMemory where there is too little.
+    /// The top layer, the system layer and a screen, which is active. It takes all the memory that the store
+    /// will need; NoMemory if there is too little.
     pub fn open(alloc: Global, limits: &Limits) -> Result<Store, NoMemory>
         ensures scene { IfOk result (λ store. scene_of store ≡ first_scene (bounds_of limits.now)) }
         ensures removed { IfOk result (λ store. removed_of store ≡ []) }
@@ -129,8 +129,9 @@ impl Store {
         })
     }
 
-    /// Changes the scene, or answers the first refusal of this change, which leaves all as it was: Range
-    /// where a number of it lies outside its interval or a text is too long, and then those of each change.
+    /// Changes the scene, or answers the first refusal of this change. A refused change leaves all as it was.
+    /// Range comes first, if a number lies outside its interval or a text is too long. Then come the refusals
+    /// of each change.
     pub fn apply(&mut self, change: &Change) -> Result<(), Refusal>
         requires { IsChange change.now }
         ensures answer { result ≡ result_of (answer_of (scene_of self.old) change.now) }
@@ -209,7 +210,7 @@ impl Store {
         }
     }
 
-    /// The row of an object, or none where it is not there.
+    /// The row of an object, or none if it is not there.
     pub fn row(&self, h: Handle) -> Option<&Row>
         ensures value { option_map (λ r. shown_row r.now) result ≡ row_at (scene_of self.now) h.0 }
         ensures handle { IfSome result (λ row. is_counted HANDLE h.0 ≡ true) }
@@ -228,8 +229,8 @@ impl Store {
     }
 
     /// The value of a property of a part of an object that is there: what wins for that part in the object's
-    /// states. Where nothing does, an inherited property has what wins for the object's own part, or else for
-    /// that of the nearest object above, each in its own states, and then the default.
+    /// states. If nothing does, an inherited property has what wins for the object's own part, or else for that
+    /// of the nearest object above, each in its own states, and then the default.
     pub fn value(&self, h: Handle, part: Part, prop: Prop) -> i32
         requires { is_there (scene_of self.now) h.0 ≡ true }
         ensures value { result ≡ value (scene_of self.now) h.0 part prop }
@@ -241,7 +242,8 @@ impl Store {
         self.value_by_row(h, row, part, prop)
     }
 
-    /// The same of an object whose row is read already.
+    /// The value of a property of a part of an object, as `value` gives it. The caller has read the object's
+    /// row already.
     pub fn value_by_row(&self, h: Handle, row: &Row, part: Part, prop: Prop) -> i32
         requires { Some (shown_row row.now) ≡ row_at (scene_of self.now) h.0 }
         ensures value { result ≡ value (scene_of self.now) h.0 part prop }

@@ -6,7 +6,7 @@ use crate::setter::setter_of;
 use debt_defs::{Reach, Subject};
 use scene_defs::Change;
 
-/// What a change is about: much that is asked of it goes by that alone.
+/// What a change is about: much that is asked of it depends on that alone.
 pub fn subject_of(change: &Change) -> Subject
     ensures { result ≡ subject_of change.now }
 {

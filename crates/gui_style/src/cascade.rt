@@ -22,7 +22,7 @@ pub fn applies(selector: Selector, part: Part, states: u16) -> bool
     selector.part == part && selector.states & states == selector.states
 }
 
-/// Of the winner so far and the next candidate, the one that wins.
+/// The one that wins of the winner so far and the next candidate.
 pub fn stronger(best: Option<Candidate>, next: Candidate) -> Candidate
     ensures { Some result ≡ stronger best (Some next) }
 {

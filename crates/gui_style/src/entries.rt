@@ -19,8 +19,8 @@ const PROP_COUNT: u32 = 19;
 /// pairs of owner and property share a key.
 ///
 /// A key's low bits name its bucket, and a walk passes over the others in the bucket. This is a nineteenth of
-/// 2^27: however many buckets there are, a power of two up to that, the properties of one owner come a
-/// nineteenth of them apart, and a property of owners in a row comes into buckets in a row.
+/// 2^27. The number of buckets is a power of two up to 2^27. So the properties of one owner come a nineteenth
+/// of the buckets apart. One property of owners in a row comes into buckets in a row.
 const SPREAD: u32 = 7_064_091;
 
 /// What is set, in a list for each owner, in the order of arrival. What an owner sets of one property is
@@ -31,7 +31,7 @@ const SPREAD: u32 = 7_064_091;
 pub(crate) struct Entries {
     // By owner.
     all: Lists<Entry>,
-    // The same entries by owner and property: each stands in two lists.
+    // By owner and property. Each entry stands in both lists.
     by_prop: Lists<Entry>,
 }
 
@@ -76,8 +76,8 @@ fn rank(entries: &Lists<Entry>, owner: u32, n: u32, prop: Prop) -> u32
 }
 
 impl Entries {
-    /// Empty lists for the owners below `owners`, with room for so many entries, or `NoMemory` where there is
-    /// no memory for so many. No later call takes memory.
+    /// Empty lists for the owners below `owners`, with room for so many entries, or `NoMemory` if there is no
+    /// memory for so many. No later call takes memory.
     pub(crate) fn open(alloc: Global, owners: u32, entries: u32) -> Result<Entries, NoMemory>
         requires { owners ≤ spread }
         ensures owners { IfOk result (λ e. length e.lists ≡ owners) }
@@ -109,7 +109,7 @@ impl Entries {
         self.all.of(owner)
     }
 
-    /// The entries of an owner that are of a property, in order. No others are read.
+    /// An owner's entries of a property, in order. It reads no others.
     pub(crate) fn of_prop(&self, owner: u32, prop: Prop) -> ListIter<'_, Entry>
         requires { owner < length self.now.lists }
         ensures value { result ≡ filter (has_prop prop) (list_of self.now owner) }
@@ -122,7 +122,7 @@ impl Entries {
     ///
     /// # Errors
     ///
-    /// `Full` of entries where no more entries fit. All is then as before.
+    /// `Full` of entries if no more entries fit. All is then as before.
     pub(crate) fn push(&mut self, owner: u32, entry: Entry) -> Result<(), Refusal>
         requires { owner < length self.old.lists }
         ensures answer { result ≡ full_answer self.old.spare EntrySlots }

@@ -44,8 +44,8 @@ fn entry_in(row: &KindRow) -> Entry
     }
 }
 
-/// What a kind gives a property of a part, for an object in these states: `None` exactly where it sets
-/// nothing that applies.
+/// What a kind gives a property of a part, for an object in these states: `None` exactly if it sets nothing
+/// that applies.
 pub fn kind_value(kind: Kind, part: Part, states: u16, prop: Prop) -> Option<i32>
     ensures { result ≡ kind_value kind part states prop }
 {
@@ -58,7 +58,7 @@ pub fn kind_value(kind: Kind, part: Part, states: u16, prop: Prop) -> Option<i32
     Some(best?.value)
 }
 
-/// What a part of an object has where nothing is set and nothing is inherited.
+/// What a part of an object has if nothing is set and nothing is inherited.
 pub fn default_in(kind: Kind, part: Part, states: u16, prop: Prop) -> i32
     ensures { result ≡ default_in kind part states prop }
 {

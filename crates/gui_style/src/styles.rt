@@ -30,7 +30,7 @@ const NUMBERS: u32 = 65_536;
 /// of the objects.
 const FIRST_STYLE: u32 = 75_536;
 
-/// What is written beside a property of a shared style, which has no selector of its own.
+/// What is written as the selector of a property of a shared style, since a style has none of its own.
 const NO_SELECTOR: Selector = Selector {
     part: Part::Main,
     states: 0,
@@ -44,10 +44,10 @@ const NO_SELECTOR: Selector = Selector {
 ///
 /// A style takes 16 to 20 bytes, an entry 48 to 56 and a use 44 to 52. Handles and numbers take no memory.
 ///
-/// A call takes time by the number of entries or uses of the object or the style that it names; taking a use
-/// from an object, by the number of all uses of its style. A look-up
-/// takes time by the uses of the object, and by the entries of the property alone: those of the object and of
-/// the styles that it uses. Others are passed over where they share a bucket.
+/// A call takes time in proportion to the number of entries or uses of the object or the style that it names.
+/// To take a use from an object takes time in proportion to the number of all uses of its style. A look-up
+/// takes time in proportion to the uses of the object, and to the entries of the property alone: those of the
+/// object and of the styles that it uses. Others are passed over if they share a bucket.
 pub struct Styles {
     // The styles that are there, by number.
     made: Table<()>,
@@ -58,7 +58,7 @@ pub struct Styles {
 }
 
 impl Drop for Styles {
-    /// Lets go of all that it holds. Who owns one calls this, where each field by itself would be dear to prove.
+    /// Lets go of every field in one call, which keeps the proofs of its owners short.
     fn drop(self) {
         let Styles {
             made: _,
@@ -101,8 +101,8 @@ fn entry_of(selector: Selector, prop: Prop, value: i32) -> Entry
 }
 
 impl Styles {
-    /// No styles, and room for so many styles, entries and uses. `NoMemory` where there is no memory for
-    /// them. No later call takes memory.
+    /// No styles, and room for so many styles, entries and uses. `NoMemory` if there is no memory for them. No
+    /// later call takes memory.
     pub fn open(alloc: Global, styles: u32, entries: u32, uses: u32) -> Result<Styles, NoMemory>
         ensures no_styles { IfOk result (λ s. s.book.styles ≡ []) }
         ensures no_locals { IfOk result (λ s. (h : ℕ) → locals_of s.book h ≡ []) }
@@ -161,8 +161,7 @@ impl Styles {
     ///
     /// # Errors
     ///
-    /// `Taken` where the style is there, and then `Full` of styles where no more styles fit. All is then as
-    /// before.
+    /// `Taken` if the style is there, and then `Full` of styles if no more styles fit. All is then as before.
     pub fn style(&mut self, id: u16) -> Result<(), Refusal>
         ensures answer { result ≡ style_answer self.old id }
         ensures ok { OnOk result (self.new ≡ with_style self.old id) }
@@ -205,8 +204,8 @@ impl Styles {
     ///
     /// # Errors
     ///
-    /// `Unknown` where there is no such style, and then `Full` of entries where the property is not set yet
-    /// and no more entries fit. All is then as before.
+    /// `Unknown` if there is no such style, and then `Full` of entries if the property is not set yet and no
+    /// more entries fit. All is then as before.
     pub fn style_prop(&mut self, id: u16, prop: Prop, value: i32) -> Result<(), Refusal>
         ensures answer { result ≡ style_prop_answer self.old id prop }
         ensures ok { OnOk result (self.new ≡ with_prop self.old id (a_setting prop value)) }
@@ -229,7 +228,7 @@ impl Styles {
     ///
     /// # Errors
     ///
-    /// `Unknown` where it is not set. All is then as before.
+    /// `Unknown` if it is not set. All is then as before.
     pub fn unset_prop(&mut self, id: u16, prop: Prop) -> Result<(), Refusal>
         ensures answer { result ≡ unset_prop_answer self.old id prop }
         ensures ok { OnOk result (self.new ≡ without_prop self.old id prop) }
@@ -263,8 +262,8 @@ impl Styles {
     ///
     /// # Errors
     ///
-    /// `Unknown` where there is no such style, then `Taken` where the object uses it for that selector, and
-    /// then `Full` of uses where no more uses fit. All is then as before.
+    /// `Unknown` if there is no such style, then `Taken` if the object uses it for that selector, and then
+    /// `Full` of uses if no more uses fit. All is then as before.
     pub fn add_style(&mut self, h: Handle, id: u16, selector: Selector) -> Result<(), Refusal>
         ensures answer { result ≡ add_style_answer self.old h.0 (a_use id selector) }
         ensures ok { OnOk result (self.new ≡ with_use self.old h.0 (a_use id selector)) }
@@ -287,7 +286,7 @@ impl Styles {
     ///
     /// # Errors
     ///
-    /// `Unknown` where it does not. All is then as before.
+    /// `Unknown` if it does not. All is then as before.
     pub fn remove_style(&mut self, h: Handle, id: u16, selector: Selector) -> Result<(), Refusal>
         ensures answer { result ≡ remove_style_answer self.old h.0 (a_use id selector) }
         ensures ok { OnOk result (self.new ≡ without_use self.old h.0 (a_use id selector)) }
@@ -320,7 +319,7 @@ impl Styles {
     }
 
     /// The objects that use a style, for any selector. One that uses it for several selectors comes once for
-    /// each of them. They come in no order, and no others are read.
+    /// each of them. They come in no order. It reads no others.
     pub fn users(&self, id: u16) -> ListIter<'_, Handle>
         ensures these { (h : ℕ) → list_any (is_handle h) result ≡ uses_style self.now.book h id }
         ensures few { length result < 2 ^ 32 }
@@ -328,7 +327,7 @@ impl Styles {
         self.uses.users(id)
     }
 
-    /// Where a property that is set locally for a selector stands among the entries of an object.
+    /// The place of a local property for a selector among the entries of an object.
     fn local_place(&self, h: Handle, selector: Selector, prop: Prop) -> Option<u32>
         ensures { result ≡ place_by (is_for selector prop) (locals_of self.now.book h.0) }
     {
@@ -347,7 +346,7 @@ impl Styles {
     ///
     /// # Errors
     ///
-    /// `Full` of entries where the property is not set yet and no more entries fit. All is then as before.
+    /// `Full` of entries if the property is not set yet and no more entries fit. All is then as before.
     pub fn set_local(
         &mut self,
         h: Handle,
@@ -373,7 +372,7 @@ impl Styles {
     ///
     /// # Errors
     ///
-    /// `Unknown` where it is not set. All is then as before.
+    /// `Unknown` if it is not set. All is then as before.
     pub fn unset_local(&mut self, h: Handle, selector: Selector, prop: Prop) -> Result<(), Refusal>
         ensures answer { result ≡ unset_local_answer self.old h.0 selector prop }
         ensures ok { OnOk result (self.new ≡ without_local self.old h.0 selector prop) }
@@ -406,7 +405,7 @@ impl Styles {
         }
     }
 
-    /// What a style that is used gives a property of a part, for an object in these states.
+    /// What a used style gives a property of a part, for an object in these states.
     fn shared_by(&self, used: &Use, part: Part, states: u16, prop: Prop) -> Option<Candidate>
         ensures { result ≡ of_use self.now.book.styles part states prop used.now }
     {
@@ -455,7 +454,7 @@ impl Styles {
         best
     }
 
-    /// The value of a property of a part that wins, for an object in these states: `None` exactly where none
+    /// The value that wins for a property of a part, for an object in these states: `None` exactly if none
     /// applies. Of what is set at the object and in the styles that it uses, it reads the entries of this
     /// property alone.
     pub fn lookup(&self, h: Handle, part: Part, states: u16, prop: Prop) -> Option<i32>

@@ -23,7 +23,7 @@ const NUMBERS: u32 = 65_536;
 pub(crate) struct Uses {
     // By handle.
     all: Lists<Use>,
-    // The same uses by style, of each the handle of its object.
+    // By style: the handle of the object of each use.
     users: Lists<Handle>,
 }
 
@@ -57,7 +57,7 @@ fn place_of(users: &Lists<Handle>, style: u16, h: Handle) -> Option<u32>
 }
 
 impl Uses {
-    /// No uses, and room for so many, or `NoMemory` where there is no memory for so many. No later call takes
+    /// No uses, and room for so many, or `NoMemory` if there is no memory for so many. No later call takes
     /// memory.
     pub(crate) fn open(alloc: Global, uses: u32) -> Result<Uses, NoMemory>
         ensures handles { IfOk result (λ u. length u.lists ≡ 65536) }
@@ -102,7 +102,7 @@ impl Uses {
     ///
     /// # Errors
     ///
-    /// `Full` of uses where no more uses fit. All is then as before.
+    /// `Full` of uses if no more uses fit. All is then as before.
     pub(crate) fn push(&mut self, h: Handle, used: Use) -> Result<(), Refusal>
         requires { h.0 < length self.old.lists }
         ensures answer { result ≡ full_answer self.old.spare UseSlots }

@@ -33,7 +33,7 @@ impl Tree {
     pub fn ancestors(&self, h: Handle) -> Ancestors<'_>
         ensures { result ≡ line_of self.now.forest h.0 }
     {
-        // A call that tells of all trees: each handle stands once.
+        // For the proof alone: this call says that each handle stands once in all trees.
         let _ = self.spare();
         Ancestors {
             tree: self,

@@ -37,7 +37,7 @@ impl Tree {
         ensures walk { result ≡ walk self.now.forest (children_of self.now.forest h.0) }
         ensures once { StandsOnce self.now.forest }
     {
-        // A call that tells of all trees: each handle stands once.
+        // For the proof alone: this call says that each handle stands once in all trees.
         let _ = self.spare();
         Children {
             tree: self,
@@ -50,7 +50,7 @@ impl Tree {
         ensures walk { result ≡ walk self.now.forest self.now.forest }
         ensures once { StandsOnce self.now.forest }
     {
-        // A call that tells of all trees: each handle stands once.
+        // For the proof alone: this call says that each handle stands once in all trees.
         let _ = self.spare();
         Children {
             tree: self,

@@ -51,13 +51,13 @@ impl<'a> Picture for View<'a> {
         ensures late { steps.new ≤ steps.old + slice_steps (scene_in self.now.canvas.now) buf.old.area }
     {
         let start = first_painted(self.canvas, buf.area(), steps);
-        // Lending the tree tells that the scene is in order.
+        // For the proof alone: `tree` says that the scene is in order.
         let _tree = self.canvas.store().tree();
         paint(self.canvas, start, buf, steps);
     }
 }
 
-/// The number of the last entry that covers an area, or 0 where none does. Each object that is looked at is a
+/// The number of the last entry that covers an area, or 0 if none does. Each object that is looked at is a
 /// step.
 fn first_painted<L: Ledger>(canvas: &Canvas, part: Area, steps: &mut Steps<L>) -> usize
     ensures within { result ≤ length (entries (scene_in canvas.now)) }
@@ -92,7 +92,7 @@ fn covers_at<L: Ledger>(canvas: &Canvas, n: usize, part: Area, steps: &mut Steps
     }
 }
 
-/// Whether an entry covers an area, by what is known of it.
+/// Whether an entry covers an area, according to what is known of it.
 fn covers_by<L: Ledger>(entry: &ShownEntry<'_>, part: Area, steps: &mut Steps<L>) -> bool
     ensures covers { result ≡ covers_known entry.now (rect_of part) }
     ensures steps { steps.new ≤ steps.old + asked_steps (entry_of entry.now) }

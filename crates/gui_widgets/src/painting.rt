@@ -24,7 +24,7 @@ use gui_kinds::shows;
 use widget_defs::kinds::Shown;
 use widget_defs::{ImageLook, ItemPaint, Values};
 
-/// All that an object paints which stands in a place, from back to front. Its text can be drawn: it is set no
+/// All that an object paints if it stands in a place, from back to front. Its text can be drawn: it is set no
 /// wider than the place, or than a text can be.
 pub fn items(look: &Look<'_>, place: Area) -> ArrayVec<Item, 6>
     requires look { IsLook look.now }
@@ -184,7 +184,7 @@ fn box_area(look: &Look<'_>, content: Area) -> Area
     first_part(content, side, side)
 }
 
-/// The area of a checkbox's text, as large as it is where lines end at newlines alone.
+/// The area of a checkbox's text, as large as it is if lines end at newlines alone.
 fn caption_area(look: &Look<'_>, content: Area) -> Area
     requires look { IsLook look.now }
     requires content { IsContent (rect_of content) }

@@ -14,8 +14,8 @@ use arrayvec::ArrayVec;
 use gui_base::Area;
 use widget_defs::Values;
 
-/// The bars that an object shows over its children which stands in a place, from back to front: none where it
-/// is not scrollable, and one for each direction in which they do not fit.
+/// The bars that an object in a place shows over its children, from back to front. It shows none if it is not
+/// scrollable, and else one for each direction in which the children do not fit.
 pub fn bars(look: &Look<'_>, place: Area) -> ArrayVec<Item, 2>
     requires look { IsLook look.now }
     requires place { IsPlace (rect_of place) }

@@ -11,8 +11,8 @@ use gui_base::Prop;
 use gui_kinds::shows;
 use widget_defs::kinds::Shown;
 
-/// The own width of an object: of a label its text's, where lines end at newlines alone, of an image its
-/// picture's, of a checkbox that of its box and its text with `pad_column` between them, and else 0.
+/// The own width of an object. A label has its text's, if lines end at newlines alone, and an image its
+/// picture's. A checkbox has that of its box and its text with `pad_column` between them. All others have 0.
 pub fn own_width(look: &Look<'_>) -> i32
     requires { IsLook look.now }
     ensures value { result ≡ pos (own_width (widget_of look.now)) }
@@ -29,8 +29,8 @@ pub fn own_width(look: &Look<'_>) -> i32
     }
 }
 
-/// The own height of an object whose content area is so wide: of a label its text's, in lines of this width,
-/// of an image its picture's, of a checkbox the greater of its box's and its text's, and else 0.
+/// The own height of an object whose content area is so wide. A label has its text's, in lines of this width,
+/// and an image its picture's. A checkbox has the greater of its box's and its text's. All others have 0.
 pub fn own_height(look: &Look<'_>, content: i32) -> i32
     requires look { IsLook look.now }
     requires content { pos 0 ≤ℤ content }

@@ -73,7 +73,7 @@ pub(crate) fn text_look(values: &Values) -> TextLook
     }
 }
 
-/// The same with its lines at the left.
+/// How a text looks whose lines stand at the left, whatever its alignment.
 pub(crate) fn left_look(values: &Values) -> TextLook
     requires { AreValues (value_in values.now) }
     ensures look { result ≡ left_look (value_in values.now) }

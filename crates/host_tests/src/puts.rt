@@ -1,5 +1,5 @@
-//! The stream of a white frame, and what it is where one of its puts fails. A put that fails writes the first half of its
-//! bytes.
+//! The stream of a white frame, and what it is if one of its puts fails. A put that fails writes the first half
+//! of its bytes.
 
 use crate::running::run;
 use scene_run::Status;

@@ -17,8 +17,8 @@ pub(crate) struct Ran {
     out: MemSink,
 }
 
-/// What a script comes to on a panel of 4 by 2 pixels and slices of one line, where the puts of these numbers on the stream and
-/// on the answers fail.
+/// What a script comes to on a panel of 4 by 2 pixels and slices of one line, if the puts of these numbers on
+/// the stream and on the answers fail.
 pub(crate) fn run(
     alloc: Global,
     script: &[u8],
@@ -48,18 +48,18 @@ pub(crate) fn run(
 }
 
 impl Ran {
-    /// Fails where the run ended otherwise or has another log.
+    /// Fails if the run ended otherwise or has another log.
     pub(crate) fn check_end(&self, rt: &impl Abort, status: Status, log: &str) {
         assert_eq!(rt; self.status as u8, status as u8);
         assert_eq!(rt; self.log.bytes(), log.as_bytes());
     }
 
-    /// Fails where the stream is another one.
+    /// Fails if the stream is another one.
     pub(crate) fn check_stream(&self, rt: &impl Abort, stream: &[u8]) {
         assert!(rt; self.out.bytes() == stream);
     }
 
-    /// Fails where the answers are others, or whether all of them were written.
+    /// Fails if the answers are others, or whether all of them were written.
     pub(crate) fn check_answers(&self, rt: &impl Abort, answered: bool, answers: &str) {
         assert_eq!(rt; self.answered, answered);
         assert_eq!(rt; self.answers.bytes(), answers.as_bytes());

@@ -13,7 +13,7 @@ const ONE_LABEL: &[u8] =
 
 const ITS_LINES: &[u8] = b"new 10 3 label\npos 10 1 2\ntext 10 \"a\\\"b\"\n";
 
-/// The same with an id that is none of an object's.
+/// The scene of one label with the id 9, which no object may have.
 const LOW_ID: &[u8] =
     b"{\"children\":[{\"id\":9,\"kind\":\"label\",\"text\":\"a\\\"b\",\"pos\":[1,2]}]}";
 

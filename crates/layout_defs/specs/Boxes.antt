@@ -29,6 +29,7 @@ pub record Axis : Type 0 where
   -- how far its children are to be scrolled, where it is scrollable
   pub scroll : ℕ
 
+-- all of an object that layout goes by
 pub record Box : Type 0 where
   pub handle : ℕ
   pub hidden : Bool
@@ -42,7 +43,7 @@ pub record Box : Type 0 where
   pub own_width : ℕ
   pub own_height : ℕ → ℕ
 
--- the side that an alignment means across, and down
+-- the side that an alignment means across
 abbrev pub side_across : Align → Side
 side_across TopLeft = Near
 side_across LeftMid = Near
@@ -54,6 +55,7 @@ side_across TopRight = Far
 side_across RightMid = Far
 side_across BottomRight = Far
 
+-- the side that an alignment means down
 abbrev pub side_down : Align → Side
 side_down TopLeft = Near
 side_down TopMid = Near

@@ -18,12 +18,15 @@ pub record Spot : Type 0 where
   pub main_at : ℤ
   pub cross_at : ℤ
 
+-- the size of an item along the flow
 abbrev pub main_of : TrackItem → ℕ
 main_of item = item.main
 
+-- the size of an item across the flow
 abbrev pub cross_of : TrackItem → ℕ
 cross_of item = item.cross
 
+-- the weight of an item in sharing what is free
 abbrev pub grow_of : TrackItem → ℕ
 grow_of item = item.grow
 
@@ -77,6 +80,7 @@ free_of extent gap track = extent - spanned gap (map counted track)
 abbrev pub weight_to : List TrackItem → ℕ → ℕ
 weight_to track n = sum_by grow_of (take n track)
 
+-- the weight of all items of a track
 abbrev pub weight_of : List TrackItem → ℕ
 weight_of track = sum_by grow_of track
 
@@ -85,10 +89,12 @@ abbrev pub share_of : ℕ → List TrackItem → ℕ → ℕ
 share_of free track i =
     free * weight_to track (i + 1) / weight_of track - free * weight_to track i / weight_of track
 
+-- an item with its share of the free space as its size along the flow, if it grows
 abbrev pub shared_item : ℕ → List TrackItem → ℕ → TrackItem → TrackItem
 shared_item free track i item =
     if item.grow == 0 then item else record item { main = share_of free track i }
 
+-- the items of a track with the shares of those that grow
 abbrev pub shared_track : ℕ → ℕ → List TrackItem → List TrackItem
 shared_track extent gap track = numbered (shared_item (free_of extent gap track) track) 0 track
 
@@ -130,6 +136,7 @@ pub record Placings : Type 0 where
   pub cross : Placing
   pub track : Placing
 
+-- where item i of a track stands that stands there across the flow
 abbrev pub item_spot : Placings → ℕ → ℕ → ℕ → List TrackItem → ℕ → TrackItem → Spot
 item_spot placings extent gap at track i item = record {
   main_at = pos (stand placings.main (left_over extent gap track) gap (map main_of track) i);

@@ -23,6 +23,7 @@ abbrev pub root_by : {A : Type 0} → (A → Bool) → Forest A → Forest A
 root_by test Empty = Empty
 root_by test (Tree row cs rest) = if test row then Tree row cs Empty else root_by test rest
 
+-- whether a placed object is h
 abbrev pub is_placed_at : ℕ → Placed → Bool
 is_placed_at h p = p.tall.box.handle == h
 

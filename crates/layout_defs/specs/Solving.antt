@@ -50,6 +50,7 @@ pub record Wide : Type 0 where
   pub box : Box
   pub natural : ℕ
 
+-- the box of an object with its natural width
 abbrev pub wide_box : Wide → Box
 wide_box wide = wide.box
 
@@ -60,11 +61,13 @@ kids_width Free box kids =
 kids_width Across box kids = spanned box.across.gap (map (λ (k : Wide). flowing k.box k.natural) kids)
 kids_width Down box kids = greatest (map (λ (k : Wide). k.natural) kids)
 
+-- the width that an object has by its own wish, what it shows and its children; 0 for a percentage
 abbrev pub natural_width : Box → List Wide → ℕ
 natural_width box kids =
     let inside = kids_width (course_of box.flow) box (taking_part wide_box kids) in
     natural_size box.across.size (inset box.across) (max box.own_width inside)
 
+-- the trees with natural widths, those of children before their parent's
 abbrev pub with_natural_widths : Forest Box → Forest Wide
 with_natural_widths Empty = Empty
 with_natural_widths (Tree box cs rest) =
@@ -83,9 +86,11 @@ widened_box w = w.box
 abbrev pub width_in : ℕ → Wide → ℕ
 width_in room kid = size_in kid.box.across.size room kid.natural
 
+-- a child as an item of a row, with only its width
 abbrev pub width_item : ℕ → Wide → TrackItem
 width_item room kid = record { main = width_in room kid; cross = 0; grow = kid.box.grow }
 
+-- the sizes of items along the flow, each brought into the interval of sizes
 abbrev pub main_sizes : List TrackItem → List ℕ
 main_sizes items = map (λ (item : TrackItem). brought item.main) items
 
@@ -96,6 +101,7 @@ row_widths box room kids =
     let items = in_order back (map (width_item room) (taking_part wide_box kids)) in
     in_order back (main_sizes (shared (wraps box.flow) room box.across.gap items))
 
+-- the widths of children in a content area so wide: only the flow across shares out what is free
 abbrev pub kid_widths_by : Course → Box → ℕ → List Wide → List ℕ
 kid_widths_by Free box room kids = map (width_in room) kids
 kid_widths_by Across box room kids = dealt wide_box (width_in room) kids (row_widths box room kids)
@@ -120,9 +126,11 @@ pub record Tall : Type 0 where
   pub width : ℕ
   pub natural_height : ℕ
 
+-- the box of an object with its natural height
 abbrev pub tall_box : Tall → Box
 tall_box tall = tall.box
 
+-- a child as an item of a row, as high as it is by nature
 abbrev pub height_item : Tall → TrackItem
 height_item kid = record { main = kid.width; cross = kid.natural_height; grow = kid.box.grow }
 
@@ -136,12 +144,14 @@ kids_height Across box room kids =
 kids_height Down box room kids =
     spanned box.down.gap (map (λ (k : Tall). flowing k.box k.natural_height) kids)
 
+-- the height that an object so wide has by its own wish, what it shows and its children; 0 for a percentage
 abbrev pub natural_height : Box → ℕ → List Tall → ℕ
 natural_height box width kids =
     let room = inner box.across width in
     let inside = kids_height (course_of box.flow) box room (taking_part tall_box kids) in
     natural_size box.down.size (inset box.down) (max (box.own_height room) inside)
 
+-- the trees with natural heights, those of children before their parent's
 abbrev pub with_natural_heights : Forest Widened → Forest Tall
 with_natural_heights Empty = Empty
 with_natural_heights (Tree w cs rest) =
@@ -178,6 +188,7 @@ pub record Room : Type 0 where
   pub width : ℕ
   pub height : ℕ
 
+-- the content area of an object in its slot
 abbrev pub room_of : Tall → Slot → Room
 room_of tall slot = record {
   x = slot.x +ℤ pos tall.box.across.before;
@@ -200,11 +211,12 @@ own_slot room kid =
       height = height;
     }
 
--- the slots of the items of a row, and of a column
+-- the slot of an item of a row, at its spot
 abbrev pub row_slot : Room → TrackItem → Spot → Slot
 row_slot room item spot =
     record { x = room.x +ℤ spot.main_at; y = room.y +ℤ spot.cross_at; height = item.cross }
 
+-- the slot of an item of a column, at its spot
 abbrev pub column_slot : Room → TrackItem → Spot → Slot
 column_slot room item spot =
     record { x = room.x +ℤ spot.cross_at; y = room.y +ℤ spot.main_at; height = item.main }
@@ -215,9 +227,11 @@ paired f [] ys = []
 paired f (x ∷ xs) [] = []
 paired f (x ∷ xs) (y ∷ ys) = f x y ∷ paired f xs ys
 
+-- a child as an item of a row, in a content area so high
 abbrev pub row_item : ℕ → Tall → TrackItem
 row_item room kid = record { main = kid.width; cross = height_in room kid; grow = kid.box.grow }
 
+-- a child as an item of a column, in a content area so high
 abbrev pub column_item : ℕ → Tall → TrackItem
 column_item room kid = record { main = height_in room kid; cross = kid.width; grow = kid.box.grow }
 
@@ -250,13 +264,15 @@ pub record Span : Type 0 where
   pub across : ℕ
   pub down : ℕ
 
+-- no pixels in either direction
 abbrev pub no_span : Span
 no_span = record { across = 0; down = 0 }
 
--- the right and the bottom end of a child in its slot, counted from a content area's corner
+-- the right end of a child in its slot, counted from a content area's left side
 abbrev pub end_across : Room → Tall → Slot → ℕ
 end_across room kid slot = nat_of ((slot.x +ℤ pos kid.width) -ℤ room.x)
 
+-- the bottom end of a child in its slot, counted from a content area's top
 abbrev pub end_down : Room → Tall → Slot → ℕ
 end_down room kid slot = nat_of ((slot.y +ℤ pos slot.height) -ℤ room.y)
 
@@ -285,6 +301,7 @@ offset_of box reach =
     record { across = min box.across.scroll reach.across; down = min box.down.scroll reach.down }
     else no_span
 
+-- a slot that an offset moves to the left and upward
 abbrev pub moved : Span → Slot → Slot
 moved offset slot =
     record slot { x = slot.x -ℤ pos offset.across; y = slot.y -ℤ pos offset.down }
@@ -294,9 +311,11 @@ abbrev pub kid_slots : Tall → Slot → List Tall → List Slot
 kid_slots tall slot kids =
     map (moved (offset_of tall.box (kid_reach tall slot kids))) (flat_slots tall slot kids)
 
+-- an empty slot, for an object that none is given to
 abbrev pub nowhere : Slot
 nowhere = record { x = pos 0; y = pos 0; height = 0 }
 
+-- an object with its width, its slot, and how far its children reach out of its content area
 pub record Placed : Type 0 where
   pub tall : Tall
   pub slot : Slot

@@ -27,8 +27,8 @@ pub fn tracks_are_filled_in_order()
     ensures full { TracksAreFull }
 {}
 
-/// Where an item grows, the shares and the other sizes fill the track, if those fit. Where none grows, all
-/// keep their sizes. What is shared stands in the same tracks as before.
+/// If an item grows, the shares and the other sizes fill the track, if those fit. If none grows, all keep their
+/// sizes. What is shared stands in the same tracks as before.
 pub fn shares_fill_tracks()
     ensures filled { SharesFillTracks }
     ensures none { NothingShared }
@@ -58,8 +58,8 @@ pub fn places_are_near()
 {}
 
 /// The children of an object that is not to be scrolled stand flat. Those of another stand as in a content area
-/// that is moved. How far they reach does not go by where their parent stands, and no size goes by how far an
-/// object is to be scrolled.
+/// that is moved. How far they reach does not depend on where their parent stands, and no size depends on how
+/// far an object is to be scrolled.
 pub fn scrolled_children()
     ensures flat { StillStandsFlat }
     ensures moved { MovedAsTheirRoom }
@@ -67,9 +67,9 @@ pub fn scrolled_children()
     ensures sizes { SizesAskNoScroll }
 {}
 
-/// What is as wide as its content, and less wide than the greatest size, is wide enough. Without flex it holds each
-/// child that stands by its near side, where that is not a percentage wide. The children of a row that does not wrap
-/// fill it with their gaps, where none grows or is a percentage wide and what the row shows is not wider.
+/// What is as wide as its content, and less wide than the greatest size, is wide enough. Without flex it holds
+/// each child that stands by its near side, if that is not a percentage wide. The children of a row that does
+/// not wrap fill it with their gaps, if none grows or is a percentage wide and what the row shows is not wider.
 pub fn contents_hold_children()
     ensures near { ContentHoldsChildren }
     ensures row { ChildrenFillRow }
@@ -81,8 +81,8 @@ pub fn solved_apart()
     ensures roots { SolvedByRoot }
 {}
 
-/// Solving asks how high an object is by what it shows only where its content area is as wide as its solved
-/// width leaves it. Widths, and slots by natural heights, do not ask it at all.
+/// Solving asks how high an object is by what it shows only if its content area is as wide as its solved width
+/// leaves it. Widths, and slots by natural heights, do not ask it at all.
 pub fn own_heights_count_at_widths()
     ensures natural_widths { NaturalWidthsAskNone }
     ensures widths { WidthsAskNone }

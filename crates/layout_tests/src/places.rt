@@ -203,7 +203,7 @@ fn settle_unmarked(alloc: Global, store: &Store, places: &mut Places) -> Result<
     Ok(())
 }
 
-/// Whether all places stay where that is done after objects were removed.
+/// Whether all places stay if that is done after objects were removed.
 fn unmarked_stay(
     alloc: Global,
     store: &mut Store,
@@ -232,7 +232,7 @@ fn make_wider(store: &mut Store) -> Result<(), &'static str>
     make_all(store, &changes)
 }
 
-/// Whether all places stay where they are settled with no marks for that other store.
+/// Whether all places stay if they are settled with no marks for that other store.
 fn unmarked_stay_for(
     alloc: Global,
     other: &mut Store,
@@ -251,7 +251,7 @@ fn unmarked_stay_for(
     Ok(stand(places, &wanted))
 }
 
-/// The same, where the places were solved for this store.
+/// Whether places that were solved for this store serve another store, in which nothing is marked.
 fn unmarked_stay_for_another(
     alloc: Global,
     store: &mut Store,
@@ -341,8 +341,8 @@ fn holds(
     }
 }
 
-/// The same on a panel of this size. But for a second store no other function owns a store or places, and this one
-/// has one way out for both, since to let them go takes most of a proof's time.
+/// Whether all is as it should be in a case on a panel of this size. This function alone owns the store and the
+/// places, apart from a second store. It lets both go in one way out, since that takes most of a proof's time.
 fn holds_on(alloc: Global, limits: &Limits, case: Case) -> Result<bool, &'static str> {
     match Store::open(alloc, limits) {
         Ok(mut store) => match Places::open(alloc, limits) {

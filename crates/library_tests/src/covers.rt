@@ -1,4 +1,4 @@
-//! What painting takes where objects hide others, as worked out by hand.
+//! What painting takes if objects hide others, as worked out by hand.
 ghost use Rattle.std.specs.Prelude.{◌≡◌, ◌≤◌, ◌+◌};
 ghost use Rattle.cover_defs.specs.Examples.{stacked};
 ghost use Rattle.gui_store.specs.Views.{scene_of};

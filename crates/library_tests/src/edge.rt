@@ -20,7 +20,7 @@ use std::process::Abort;
 use std::sync::ledger::{Blank, Ledger};
 use std::test::Fail;
 
-/// Moves so many bytes at each call, or fails where none is said, and after the last turn moves none.
+/// Moves so many bytes at each call, or fails if none is said, and after the last turn moves none.
 #[derive(Drop)]
 struct Device {
     turns: &'static [Option<usize>],
@@ -144,7 +144,7 @@ fn black_buffer<L: Ledger>(alloc: Global, area: Area, blank: Blank) -> Result<Dr
     Ok(buf)
 }
 
-/// The same with steps that nobody counts.
+/// A buffer of two pixels that is black in an area. Nobody counts its steps.
 fn black(alloc: Global, area: Area) -> Result<DrawBuf, Fail>
     requires some { is_empty (rect_of area) ≡ false }
     requires two { size_of (rect_of area) ≡ 2 }
@@ -249,7 +249,7 @@ fn send_all(rt: &impl Abort, alloc: Global, panel: &mut SimPanel<MemSink>) -> Re
     Ok(())
 }
 
-/// Presents to a sink in memory. Where that is Ok no put failed, which its count of faults tells.
+/// Presents to a sink in memory. If that is Ok, no put failed, which its count of faults tells.
 fn present(panel: &mut SimPanel<MemSink>) -> Result<(), Failed>
     requires opened { 0 < panel.old.limit }
     requires still { panel.old.coming ≡ None }

@@ -4,7 +4,7 @@ ghost use Rattle.line_texts.specs.Laws.{CountSays, DigitsSay, NumberSays, Prints
 ghost use Rattle.line_texts.specs.Laws.{TextSays, WordsSay};
 ghost use Rattle.line_texts.specs.MadeLines.{MadeCommandsSay};
 
-/// The text of a line says what its words say, where its name begins no comment, its words are words of a line,
+/// The text of a line says what its words say, if its name begins no comment, its words are words of a line,
 /// and it is not too long.
 #[tactic(auto, using(crate::proofs::Words::words_say_so))]
 pub fn lines_say_their_words()
@@ -37,7 +37,8 @@ pub fn printed_words_are_words()
     ensures short { PrintsShort }
 {}
 
-/// The lines by which fonts and trees of objects are made say their commands, by what their words say.
+/// The lines by which fonts and trees of objects are made say their commands, according to what their words
+/// say.
 #[tactic(auto, using(crate::proofs::Commands::font_lines_say, crate::proofs::Commands::scene_lines_say))]
 pub fn lines_say_their_commands()
     ensures font { FontLinesSay }

@@ -17,11 +17,13 @@ owing Rest = Fresh
 owing Fresh = Fresh
 owing (Busy n) = Busy 3
 
+-- after a pump that moved something
 abbrev pub moved : PumpState → PumpState
 moved Rest = Rest
 moved Fresh = Busy 2
 moved (Busy n) = Busy (n - 1)
 
+-- the state after a happening; a fault leaves all pixels of a slice to be sent again
 abbrev pub pump_after : PumpState → Happening → PumpState
 pump_after state (Owes debt) = if nat_lt 0 debt.count then owing state else state
 pump_after state Finished = Rest
@@ -59,7 +61,7 @@ Obeys state [] = ⊤
 Obeys state (happening ∷ happenings) =
     MayHappen state happening × Obeys (pump_after state happening) happenings
 
--- whether the happening is a moved pump, a waiting one
+-- 1 for a moved pump, else 0
 abbrev pub moves_in : Happening → ℕ
 moves_in (Owes debt) = 0
 moves_in Finished = 0
@@ -69,6 +71,7 @@ moves_in (Pumps Moved) = 1
 moves_in (Pumps Waiting) = 0
 moves_in (Pumps Fault) = 0
 
+-- 1 for a waiting pump, else 0
 abbrev pub waits_in : Happening → ℕ
 waits_in (Owes debt) = 0
 waits_in Finished = 0

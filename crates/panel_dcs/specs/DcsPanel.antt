@@ -19,6 +19,7 @@ use Rattle.panel_dcs.specs.Polls.{Sides, rows_of, next_row, IsSending}
 use Rattle.panel_dcs.specs.declared.turn.Turn.{Turn}
 use Rattle.panel_dcs.specs.Turning.{Turned, quarters_of, columns_of, pages_of, turned_area, shown, device}
 
+-- a panel that is turned on its device, which stands behind a bus
 pub record DcsState (Frames Link : Type 0) : Type 0 where
   pub frames : Frames
   pub bus : Link
@@ -70,6 +71,7 @@ abbrev pub left_of : Turned → ℕ → Option Buffer → ℕ
 left_of t row None = 0
 left_of t row (Some buf) = (rows_of t buf.area - row) * width_of (turned_area t buf.area)
 
+-- what is known of it as a panel, by what is known of its file of frames and of its bus
 abbrev pub dcs_state : {Frames Link : Type 0} → (Frames → SinkState) → (Link → BusState) →
     DcsState Frames Link → PanelState
 dcs_state frames bus panel = record {

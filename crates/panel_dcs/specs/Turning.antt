@@ -11,7 +11,7 @@ use Rattle.panel_dcs.specs.declared.turn.Sizes.{Sizes}
 use Rattle.panel_dcs.specs.declared.turn.Turn.{Turn}
 use Rattle.panel_dcs.specs.declared.turn.Turn.TheVariants.{Upright, Quarter, Half, ThreeQuarters}
 
--- by these numbers; every number from 3 on stands for three quarters
+-- the turn of a number of quarters; every number from 3 on stands for three quarters
 abbrev pub quarters : ℕ → Turn
 quarters n = if n == 0 then Upright else if n == 1 then Quarter else if n == 2 then Half else ThreeQuarters
 
@@ -22,7 +22,7 @@ quarters_of Quarter = 1
 quarters_of Half = 2
 quarters_of ThreeQuarters = 3
 
--- a panel of these sizes
+-- how a panel is turned on its device, and its own sizes in pixels
 pub record Turned : Type 0 where
   pub turn : Turn
   pub width : ℕ
@@ -35,10 +35,11 @@ upright_or Quarter a b = b
 upright_or Half a b = a
 upright_or ThreeQuarters a b = b
 
--- the sizes of its device
+-- how many columns its device has
 abbrev pub columns_of : Turned → ℕ
 columns_of t = upright_or t.turn t.width t.height
 
+-- how many pages its device has
 abbrev pub pages_of : Turned → ℕ
 pages_of t = upright_or t.turn t.height t.width
 
@@ -46,22 +47,25 @@ pages_of t = upright_or t.turn t.height t.width
 abbrev pub back_from : ℕ → ℤ → ℤ
 back_from n x = (pos n -ℤ pos 1) -ℤ x
 
--- the column and the page of a pixel
+-- the column of the device on which a pixel lies
 abbrev pub column_by : Turn → Turned → ℤ → ℤ → ℤ
 column_by Upright t x y = x
 column_by Quarter t x y = back_from t.height y
 column_by Half t x y = back_from t.width x
 column_by ThreeQuarters t x y = y
 
+-- the page of the device on which a pixel lies
 abbrev pub page_by : Turn → Turned → ℤ → ℤ → ℤ
 page_by Upright t x y = y
 page_by Quarter t x y = x
 page_by Half t x y = back_from t.height y
 page_by ThreeQuarters t x y = back_from t.width x
 
+-- the column of a pixel of this panel
 abbrev pub column_at : Turned → ℤ → ℤ → ℤ
 column_at t x y = column_by t.turn t x y
 
+-- the page of a pixel of this panel
 abbrev pub page_at : Turned → ℤ → ℤ → ℤ
 page_at t x y = page_by t.turn t x y
 
@@ -104,12 +108,14 @@ area_by ThreeQuarters t area = record {
   y2 = back_from t.width area.x1;
 }
 
+-- the columns and pages of an area of this panel
 abbrev pub turned_area : Turned → Rect → Rect
 turned_area t area = area_by t.turn t area
 
 abbrev pub panel_of : Turned → Rect
 panel_of t = area_at (pos 0) (pos 0) t.width t.height
 
+-- all columns and pages of the device
 abbrev pub device : Turned → Rect
 device t = device_of (columns_of t) (pages_of t)
 

@@ -212,7 +212,7 @@ impl Chip {
         }
     }
 
-    /// Writes a colour at the cursor, where that lies in the window and in the device.
+    /// Writes a colour at the cursor, if that lies in the window and in the device.
     fn write(&mut self, color: Rgb565)
         ensures { self.new ≡ written color self.old }
     {

@@ -42,9 +42,9 @@ fn pages_of(sizes: Sizes) -> u16
     }
 }
 
-/// A panel over a bus to a controller, turned on its device. A transfer goes row by row of the device, a row at each
-/// poll. Its frames, picture files of the form P6, go to a sink. As a panel it tells what it shows where the bus tells
-/// its controller, and counts the faults of its bus and of its sink.
+/// A panel over a bus to a controller, turned on its device. A transfer goes row by row of the device, a row at
+/// each poll. Its frames, picture files of the form P6, go to a sink. As a panel it tells what it shows if the
+/// bus tells its controller, and counts the faults of its bus and of its sink.
 #[derive(Drop)]
 pub struct DcsPanel<F: Sink, B: Bus> {
     frames: F,
@@ -85,9 +85,10 @@ impl<F: Sink, B: Bus> Model for DcsPanel<F, B> {
 }
 
 impl<F: Sink, B: Bus> DcsPanel<F, B> {
-    /// A panel that is not opened, over a sink and a bus that is not opened, turned by so many quarters, at most 3:
-    /// the pixel (x, y) of a panel of `width` by `height` pixels is at the column and the page (x, y),
-    /// (height - 1 - y, x), (width - 1 - x, height - 1 - y) or (y, width - 1 - x) of the device.
+    /// A panel that is not opened, over a sink and a bus that is not opened, turned by so many quarters, at
+    /// most 3. A turn tells the column and the page of the device at which the pixel (x, y) stands. For a panel
+    /// of `width` by `height` pixels they are (x, y), (height - 1 - y, x), (width - 1 - x, height - 1 - y) or
+    /// (y, width - 1 - x).
     pub fn new(frames: F, bus: B, turn: u8) -> DcsPanel<F, B>
         requires turn { turn ≤ 3 }
         requires closed { (B.state bus).columns ≡ 0 }
@@ -214,8 +215,8 @@ impl<F: Sink, B: Bus> DcsPanel<F, B> {
 impl<F: Sink, B: Bus> Panel for DcsPanel<F, B> {
     ghost state = { λ p. dcs_state F.state B.state p.state };
 
-    /// Opens the bus in the device's sizes, and sends what the controller wants to hear first: command 11, command 3A
-    /// with the byte 55, and command 29. It fails exactly where one of these calls does.
+    /// Opens the bus in the device's sizes, and sends what the controller wants to hear first: command 11,
+    /// command 3A with the byte 55, and command 29. It fails exactly if one of these calls does.
     fn open(
         &mut self,
         alloc: Global,

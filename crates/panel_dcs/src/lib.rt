@@ -26,9 +26,9 @@ pub fn worked_transfers()
     ensures { TransfersAreWorked }
 {}
 
-/// A law, of which nothing is computed: what a turned panel shows tells what its controller's memory holds. So where a
-/// call of the panel leaves what it shows outside an area, it leaves the memory outside the turned area, and where the
-/// area shows a buffer's colours, the memory has them at their turned places.
+/// A law, of which nothing is computed: what a turned panel shows tells what its controller's memory holds. If
+/// a call of the panel leaves what it shows outside an area, it leaves the memory outside the turned area. If
+/// the area shows a buffer's colours, the memory has them at their turned places.
 pub fn memory_is_as_shown()
     ensures { MemoryIsAsShown }
 {}

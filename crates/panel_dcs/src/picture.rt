@@ -72,7 +72,7 @@ fn line_behind<B: Bus>(bus: &B, sizes: Sizes, y: u16) -> [Rgb565; LINE]
     line
 }
 
-/// Writes the file of what a panel shows, line by line, or where the sink fails a prefix of it.
+/// Writes the file of what a panel shows, line by line, or, if the sink fails, a prefix of it.
 pub(crate) fn write_shown<F: Sink, B: Bus>(
     frames: &mut F,
     bus: &B,

@@ -13,6 +13,7 @@ use Rattle.gui_edge.specs.Panel.{PanelState}
 use Rattle.gui_edge.specs.Sink.{SinkState}
 use Rattle.panel_stream.specs.Viewer.{Viewer, replayed, picture_of, panel_of}
 
+-- a panel whose pixels go to a stream as records, and not to a device
 pub record StreamState (Out : Type 0) : Type 0 where
   -- where the stream goes
   pub out : Out
@@ -70,9 +71,11 @@ color_seen viewer x y = color_at (panel_of viewer.width viewer.height) viewer.pi
 abbrev pub shown_by : ℕ → ℕ → List ℕ → List Rgb565
 shown_by width height bytes = picture_of width height (color_seen (replayed bytes))
 
+-- the pictures that a viewer kept who replays the bytes
 abbrev pub frames_by : List ℕ → List ℕ
 frames_by bytes = (replayed bytes).frames
 
+-- how many pixels of a buffer in flight are still to be written: all of them, since one poll writes them
 abbrev pub left_of : Option Buffer → ℕ
 left_of None = 0
 left_of (Some buf) = size_of buf.area

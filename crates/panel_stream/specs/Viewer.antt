@@ -8,6 +8,7 @@ use Rattle.gui_base.specs.Color.{black}
 use Rattle.gui_base.specs.Ppm.{ppm}
 use Rattle.gui_color.specs.Buffer.{Buffer, color_at}
 
+-- the picture that a viewer has, and the frames that it kept
 pub record Viewer : Type 0 where
   pub width : ℕ
   pub height : ℕ
@@ -26,12 +27,15 @@ first_viewer = record { width = 0; height = 0; pixels = []; frames = []; kept = 
 -- area, four numbers and then the colours of its pixels in reading order; `F`, a frame. A number or a colour
 -- has two bytes, high byte first. Any other byte is a record by itself, which does nothing.
 
+-- the byte `S`, which begins the sizes of the picture
 abbrev pub sizes_kind : ℕ
 sizes_kind = 83
 
+-- the byte `A`, which begins an area
 abbrev pub area_kind : ℕ
 area_kind = 65
 
+-- the byte `F`, which is a frame
 abbrev pub frame_kind : ℕ
 frame_kind = 70
 
@@ -39,10 +43,11 @@ frame_kind = 70
 abbrev pub sixteen : ℕ → ℕ → ℕ
 sixteen high low = high * 256 + low
 
--- the byte at a place of a record, and the number whose bytes begin there
+-- the byte at a place of a record, from 0
 abbrev pub byte_at : List ℕ → ℕ → ℕ
 byte_at bytes i = slice_index_or bytes i 0
 
+-- the number whose two bytes begin at a place of a record
 abbrev pub number_at : List ℕ → ℕ → ℕ
 number_at bytes i = sixteen (byte_at bytes i) (byte_at bytes (i + 1))
 
@@ -77,6 +82,7 @@ painted width height pixels area colors =
 
 -- What a whole record does.
 
+-- a picture of new sizes, all black
 abbrev pub takes_sizes : Viewer → List ℕ → Viewer
 takes_sizes viewer bytes = record viewer {
   width = number_at bytes 1;
@@ -84,19 +90,23 @@ takes_sizes viewer bytes = record viewer {
   pixels = replicate (number_at bytes 1 * number_at bytes 3) black;
 }
 
+-- the area that a record tells, by its corner, its width and its height
 abbrev pub area_said : List ℕ → Rect
 area_said bytes =
     area_at (pos (number_at bytes 1)) (pos (number_at bytes 3)) (number_at bytes 5) (number_at bytes 7)
 
+-- the picture with the colours of a record written over its area
 abbrev pub takes_area : Viewer → List ℕ → Viewer
 takes_area viewer bytes = record viewer {
   pixels = painted viewer.width viewer.height viewer.pixels (area_said bytes) (colors_in (drop 9 bytes));
 }
 
+-- the picture as it is, kept as the file of one frame more
 abbrev pub takes_frame : Viewer → Viewer
 takes_frame viewer =
     record viewer { frames = viewer.frames ++ ppm viewer.width viewer.height viewer.pixels }
 
+-- what a viewer makes of a whole record, by its kind
 abbrev pub takes : Viewer → List ℕ → Viewer
 takes viewer bytes =
     if byte_at bytes 0 == sizes_kind then takes_sizes viewer bytes
@@ -106,12 +116,14 @@ takes viewer bytes =
 
 -- The bytes, one after the other: the kept ones with this one are a whole record, or are kept.
 
+-- these bytes of a record are kept until it is whole
 abbrev pub with_bytes : Viewer → List ℕ → Viewer
 with_bytes viewer bytes =
     if nat_lt (length bytes) (record_len bytes)
     then record viewer { kept = bytes }
     else takes (record viewer { kept = [] }) bytes
 
+-- a viewer that gets one byte more
 abbrev pub with_byte : Viewer → ℕ → Viewer
 with_byte viewer byte = with_bytes viewer (viewer.kept ++ byte ∷ [])
 

@@ -13,8 +13,8 @@ mod writing;
 pub use steady::Steady;
 pub use stream_panel::StreamPanel;
 
-/// A law, of which nothing is computed: where a viewer who replays a stream has a panel's sizes, what the panel shows are
-/// the viewer's pixels.
+/// A law, of which nothing is computed: if a viewer who replays a stream has a panel's sizes, what the panel
+/// shows are the viewer's pixels.
 pub fn viewers_see()
     ensures { ViewersSee }
 {}

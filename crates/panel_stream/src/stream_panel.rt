@@ -60,8 +60,8 @@ impl<T: Sink, L: Ledger> Model for StreamPanel<T, L> {
 }
 
 impl<T: Sink, L: Ledger> StreamPanel<T, L> {
-    /// A panel that is not opened, over a sink that holds whole records, as an empty one does, where it tells what it
-    /// holds. The count of faults is an empty one.
+    /// A panel that is not opened, over a sink that holds whole records, as an empty one does, if it tells what
+    /// it holds. The count of faults is an empty one.
     pub fn new(out: T, faults: Steps<L>) -> StreamPanel<T, L>
         requires whole { ForSome (T.state out).held AreWhole }
         requires none { faults ≡ 0 }

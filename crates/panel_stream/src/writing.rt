@@ -61,7 +61,7 @@ fn fill_bytes(bytes: &mut [u8], colors: &[Rgb565])
     }
 }
 
-/// Puts the bytes of some colours, or where the sink fails a prefix of them. `bytes` has room for them.
+/// Puts the bytes of some colours, or, if the sink fails, a prefix of them. `bytes` has room for them.
 fn put_colors<T: Sink>(out: &mut T, bytes: &mut [u8], colors: &[Rgb565]) -> Result<(), Failed>
     requires { 2 * length colors.now ≤ length bytes.old }
     ensures ok { OnOk result
@@ -74,7 +74,7 @@ fn put_colors<T: Sink>(out: &mut T, bytes: &mut [u8], colors: &[Rgb565]) -> Resu
     out.put(&bytes[..2 * colors.len()])
 }
 
-/// Writes the record of a buffer's area with its colours, or where the sink fails a prefix of it.
+/// Writes the record of a buffer's area with its colours, or, if the sink fails, a prefix of it.
 pub(crate) fn write_area<T: Sink>(out: &mut T, buf: &DrawBuf) -> Result<(), Failed>
     requires { IsInside buf.now.area }
     ensures ok { OnOk result

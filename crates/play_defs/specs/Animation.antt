@@ -81,9 +81,11 @@ value_at spec elapsed = if nat_lt elapsed spec.delay then Before else after_dela
 abbrev pub moves : ℕ → Var → Anim → Bool
 moves h var anim = (anim.spec.h.0 == h) && same_var anim.spec.var var
 
+-- whether an animation runs for this variable of this object
 abbrev pub is_moved : ℕ → Var → List Anim → Bool
 is_moved h var anims = list_any (moves h var) anims
 
+-- without the one for this variable of this object
 abbrev pub stopped : ℕ → Var → List Anim → List Anim
 stopped h var anims = filter (λ anim. not (moves h var anim)) anims
 
@@ -95,6 +97,7 @@ started spec now anims = stopped spec.h.0 spec.var anims ++ record { spec = spec
 abbrev pub forgotten : ℕ → List Anim → List Anim
 forgotten h anims = filter (λ anim. not (anim.spec.h.0 == h)) anims
 
+-- whether a value is the last of its animation
 abbrev pub is_last : AnimValue → Bool
 is_last (Last n) = true
 is_last value = false

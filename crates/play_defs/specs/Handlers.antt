@@ -10,6 +10,7 @@ use Rattle.play_defs.specs.Same.{same_kind}
 unfoldable pub no_handlers : List (List Handler)
 no_handlers = replicate 65536 []
 
+-- the handlers of an object
 abbrev pub handlers_of : List (List Handler) → ℕ → List Handler
 handlers_of lists h = slice_index_or lists h []
 
@@ -17,6 +18,7 @@ handlers_of lists h = slice_index_or lists h []
 abbrev pub with_handlers : List (List Handler) → ℕ → List Handler → List (List Handler)
 with_handlers lists h handlers = slice_set lists h handlers
 
+-- whether a handler is for a kind of event
 abbrev pub is_of : EventKind → Handler → Bool
 is_of kind handler = same_kind handler.kind kind
 
@@ -33,6 +35,7 @@ with_handler lists h kind action =
 abbrev pub of_other_kinds : EventKind → List Handler → List Handler
 of_other_kinds kind handlers = filter (λ handler. not (is_of kind handler)) handlers
 
+-- without the handlers of an object for a kind of event
 abbrev pub without_kind : List (List Handler) → ℕ → EventKind → List (List Handler)
 without_kind lists h kind = with_handlers lists h (of_other_kinds kind (handlers_of lists h))
 

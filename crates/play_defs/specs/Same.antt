@@ -9,14 +9,18 @@ use Rattle.gui_base.specs.declared.events.EventKind.{EventKind}
 use Rattle.gui_base.specs.declared.events.Key.{Key}
 use Rattle.gui_base.specs.declared.events.Var.{Var}
 
+-- whether both are the same kind of event
 abbrev pub same_kind : EventKind → EventKind → Bool
 same_kind a b = sameb kind.the_type a b
 
+-- whether both are the same key
 abbrev pub same_key : Key → Key → Bool
 same_key a b = sameb key.the_type a b
 
+-- whether both are the same variable of an animation
 abbrev pub same_var : Var → Var → Bool
 same_var a b = sameb var.the_type a b
 
+-- whether both are the handle of the same object
 abbrev pub same_handle : Handle → Handle → Bool
 same_handle a b = a.0 == b.0

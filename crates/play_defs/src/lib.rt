@@ -13,7 +13,7 @@ pub const LONG_AFTER: u64 = 400;
 /// How long it lasts then from one repeat to the next, in milliseconds.
 pub const REPEAT_AFTER: u64 = 100;
 
-/// How far a pointer goes from where it went down, across or down, until it drags, in pixels.
+/// A pointer drags once it is so many pixels, across or down, from where it went down.
 pub const DRAG_AFTER: u32 = 10;
 
 /// The parts in which the time and the way of an animation are measured.
@@ -31,7 +31,7 @@ pub struct AnimSpec {
     pub time: u32,
     /// How long it waits before, up to 60000 ms.
     pub delay: u32,
-    /// How long it takes back to the start, up to 60000 ms. 0 is no way back.
+    /// How long it takes back to the start, up to 60000 ms. With 0 it does not go back.
     pub playback: u32,
     /// How often it is played, from 1 to 1000 times. `None` is for ever.
     pub repeat: Option<u16>,

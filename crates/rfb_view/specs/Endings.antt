@@ -65,6 +65,7 @@ pub record Outside : Type 0 where
   pub source : SourceState
   pub outs : Outs
 
+-- a source, a viewer and a log
 abbrev pub outside : SourceState → Outs → Outside
 outside source outs = record { source = source; outs = outs }
 

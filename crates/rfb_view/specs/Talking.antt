@@ -23,6 +23,7 @@ pub record Outs : Type 0 where
   pub out : SinkState
   pub log : SinkState
 
+-- a viewer and a log
 abbrev pub outs : SinkState → SinkState → Outs
 outs out log = record { out = out; log = log }
 

@@ -16,7 +16,7 @@ pub struct Block {
 }
 
 impl Block {
-    /// The number of the first pixel of one of its lines, where a line of the panel has so many.
+    /// The number of the first pixel of one of its lines, if a line of the panel has so many.
     pub(crate) fn first(self, width: u16, line: u16) -> usize
         ensures { result ≡ (self.top + line) * width + self.left }
     {

@@ -1,5 +1,5 @@
-//! A session with a viewer over the RFB protocol, version 3.8: what a viewer says is heard byte by byte, pixels
-//! are written as the numbers of its format, and a panel in memory keeps the picture.
+//! A session with a viewer over the RFB protocol, version 3.8. It hears byte by byte what a viewer says, and
+//! writes pixels as the numbers of the viewer's format. A panel in memory keeps the picture.
 #![tactic(auto)]
 
 mod block;

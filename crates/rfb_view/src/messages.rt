@@ -57,7 +57,7 @@ pub fn message_of(head: &[u8]) -> Message
     }
 }
 
-/// The format that a message asks for, where it may be asked for.
+/// The format that a message asks for, if it may be asked for.
 fn format_in(head: &[u8]) -> Option<Format>
     ensures format { result ≡ format_at head.now 4 }
     ensures may { IfSome result (λ format. is_format format ≡ true) }
@@ -120,7 +120,7 @@ fn area_in(head: &[u8]) -> Area
     )
 }
 
-/// The key that a symbol of the window system names, where it is one that is known.
+/// The key that a symbol of the window system names, if it is one that is known.
 fn key_of(symbol: u32) -> Option<Key>
     ensures { result ≡ key_of symbol }
 {
@@ -147,7 +147,7 @@ fn pressed(symbol: u32, down: bool) -> Option<Command<'static>>
     }
 }
 
-/// The input of a pointer: it is down where the first bit of the mask of its buttons is set.
+/// The input of a pointer: it is down if the first bit of the mask of its buttons is set.
 fn pointed(mask: u8, x: u16, y: u16) -> Command<'static>
     ensures input { result ≡ pointed mask x y }
     ensures command { IsCommand result }

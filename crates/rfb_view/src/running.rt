@@ -41,7 +41,7 @@ pub fn run_session<V: Viewed, S: Source, O: Sink, L: Sink>(
     read_pieces(&mut run, viewed, source, out, log)
 }
 
-/// The same with a run of which nothing is read yet.
+/// Reads the session to its end, piece by piece. The run has read nothing before.
 fn read_pieces<V: Viewed, S: Source, O: Sink, L: Sink>(
     run: &mut Run,
     viewed: &mut V,

@@ -174,8 +174,8 @@ impl Sight {
         }
     }
 
-    /// The area that is to be sent now: that of the open request, or where changes are wanted the least one
-    /// with what is news of it. It has no pixel where nothing is to be sent.
+    /// The area that is to be sent now: that of the open request, or, if changes are wanted, the least one with
+    /// what is news of it. It has no pixel if nothing is to be sent.
     fn area_due(&self, changes: bool, width: u16, height: u16, colors: &[Rgb565]) -> Area
         requires each { length colors.now ≡ width * height }
         requires ready { IsSight width height self.now }
@@ -193,7 +193,7 @@ impl Sight {
         }
     }
 
-    /// Answers the open request, if there is one: at once with its area, or where changes are wanted with what
+    /// Answers the open request, if there is one: at once with its area, or, if changes are wanted, with what
     /// changed of it, if anything did. `colors` are those of the panel, row by row.
     pub fn answer<O: Sink>(
         &mut self,

@@ -9,7 +9,7 @@ use session_defs::RfbBad;
 pub enum RfbStatus {
     /// The source ended after what a viewer said, and no line and no action was refused.
     Done,
-    /// The same, and one was refused.
+    /// The source ended after what a viewer said, and a line or an action was refused.
     Noted,
     /// The words have no settings.
     Usage,

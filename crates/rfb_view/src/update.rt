@@ -31,7 +31,7 @@ fn update_head(block: Block) -> ArrayVec<u8, 16>
     head
 }
 
-/// Puts the bytes of some pixels of a line, or where the sink fails a prefix of them.
+/// Puts the bytes of some pixels of a line, or, if the sink fails, a prefix of them.
 fn put_line<O: Sink>(out: &mut O, format: Format, colors: &[Rgb565]) -> Result<(), Failed>
     requires format { is_format format ≡ true }
     requires few { length colors.now ≤ 1024 }
@@ -46,7 +46,7 @@ fn put_line<O: Sink>(out: &mut O, format: Format, colors: &[Rgb565]) -> Result<(
     out.put(bytes.as_slice())
 }
 
-/// Puts the update of a block of a panel with so many columns, or where the sink fails a prefix of it. `colors`
+/// Puts the update of a block of a panel with so many columns, or, if the sink fails, a prefix of it. `colors`
 /// are those of the panel, row by row.
 pub(crate) fn put_update<O: Sink>(
     out: &mut O,

@@ -23,8 +23,8 @@ pub trait Viewed {
     ghost painted: { Self → List Color };
 
     /// Answers a line of the script, with this number, and tells whether it or an action was refused. A line
-    /// that asks for a frame or a pump has no form of the language. Where the log fails it holds a prefix of
-    /// what the line writes.
+    /// that asks for a frame or a pump has no form of the language. If the log fails, it holds a prefix of what
+    /// the line writes.
     fn answer<L: Sink>(
         &mut self,
         said: &Result<Line, LineFault>,
@@ -40,8 +40,8 @@ pub trait Viewed {
             (log_text (line_tells (machine self.old) number said.now))) }
         ensures cause { HasCause (L.state log.old).faults (L.state log.new).faults result };
 
-    /// Carries out an input, and tells whether it or an action was refused. What its events write goes to
-    /// the log, or where that fails a prefix of it.
+    /// Carries out an input, and tells whether it or an action was refused. What its events write goes to the
+    /// log, or, if that fails, a prefix of it.
     fn hear<L: Sink>(&mut self, command: &Command, log: &mut L) -> Result<bool, Failed>
         requires { IsCommand command.now }
         ensures machine { machine self.new ≡ (step (machine self.old) command.now).machine }

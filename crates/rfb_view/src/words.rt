@@ -7,7 +7,7 @@ use gui_base::{Limits, NoMemory};
 use scene_script::{limits_of, natural};
 use std::alloc::Global;
 
-/// What a session goes by.
+/// What a session depends on.
 #[derive(Clone, Copy, Debug)]
 pub struct Settings {
     /// How many milliseconds pass at each request of a viewer, up to 60,000.

@@ -43,9 +43,11 @@ abbrev pub pair_of : Option Span → ℕ × ℕ
 pair_of None = (0, 0)
 pair_of (Some span) = (span.across, span.down)
 
+-- how far the children of h reach out of its content area across and down, in pixels
 abbrev pub reach_of : Scene → ℕ → ℕ × ℕ
 reach_of scene h = pair_of (reach scene h)
 
+-- how far h moves its children across and down, in pixels
 abbrev pub offset_of : Scene → ℕ → ℕ × ℕ
 offset_of scene h = pair_of (offset scene h)
 
@@ -54,6 +56,7 @@ abbrev pub can_scroll : Scene → Bool → Object → Bool
 can_scroll scene down object =
     is_on object.row.flags Scrollable && nat_lt 0 (along down (reach_of scene object.handle))
 
+-- the handle of an object
 abbrev named : Object → Handle
 named object = record { 0 = object.handle }
 
@@ -63,6 +66,7 @@ scrolled_from scene down h = option_map named (find (can_scroll scene down) (pat
 
 -- The beginning.
 
+-- whether there is an object that is a slider
 abbrev pub is_slider_row : Option Row → Bool
 is_slider_row None = false
 is_slider_row (Some row) = is_slider row.kind
@@ -72,6 +76,7 @@ abbrev pub may_scroll : Scene → Drag → Handle → Bool
 may_scroll scene drag target =
     takes_input scene target && (not (is_slider_row (row_at scene target.0)) && is_far drag)
 
+-- the machine whose pointer scrolls this, or nothing
 abbrev pub scrolls : Option Scrolling → Machine → Machine
 scrolls scrolling machine = record machine { scrolling = scrolling }
 
@@ -81,6 +86,7 @@ begin_on down None = nothing
 begin_on down (Some h) =
     with (scrolls (Some (record { object = Some h; down = down }))) ▷ put_state Scrolled true h
 
+-- a drag on a target begins to scroll, where it may
 unfoldable pub begin : Drag → Handle → Rule
 begin drag target machine =
     (if may_scroll machine.scene drag target then
@@ -98,10 +104,12 @@ begin_once (Some scrolling) drag target = nothing
 abbrev pub stepped : ℕ → ℤ → ℕ → ℤ
 stepped offset step reach = brought_in (pos 0) (pos (min reach 8191)) (pos offset -ℤ step)
 
+-- an object of this row is to be scrolled so far; no change where it is so already
 abbrev pub make_scroll : Row → ℤ → ℤ → Handle → Rule
 make_scroll row x y h =
     if int_eq x row.scroll_x && int_eq y row.scroll_y then nothing else make (change.Scroll h x y)
 
+-- the same of an object that may not be there
 abbrev pub put_scroll_in : Option Row → ℤ → ℤ → Handle → Rule
 put_scroll_in None x y h = nothing
 put_scroll_in (Some row) x y h = make_scroll row x y h
@@ -115,10 +123,12 @@ abbrev pub scroll_in : Bool → ℕ × ℕ → ℕ × ℕ → Drag → Handle �
 scroll_in true offset reach drag h = put_scroll (pos offset.0) (stepped offset.1 drag.step_y reach.1) h
 scroll_in false offset reach drag h = put_scroll (stepped offset.0 drag.step_x reach.0) (pos offset.1) h
 
+-- h is scrolled by the last step of a drag
 unfoldable pub scroll_by : Bool → Drag → Handle → Rule
 scroll_by down drag h machine =
     scroll_in down (offset_of machine.scene h.0) (reach_of machine.scene h.0) drag h machine
 
+-- what is scrolled follows a drag
 unfoldable pub follow : Option Scrolling → Drag → Rule
 follow None drag = nothing
 follow (Some scrolling) drag = aimed scrolling.object (scroll_by scrolling.down drag)
@@ -127,9 +137,11 @@ follow (Some scrolling) drag = aimed scrolling.object (scroll_by scrolling.down 
 unfoldable pub begin_drag : Drag → Rule
 begin_drag drag machine = begin_once machine.scrolling drag machine.pointer.target machine
 
+-- what the machine scrolls follows a drag
 unfoldable pub follow_drag : Drag → Rule
 follow_drag drag machine = follow machine.scrolling drag machine
 
+-- a drag begins to scroll where nothing is scrolled yet, and what is scrolled follows it
 unfoldable pub serve_drag : Drag → Rule
 serve_drag drag = begin_drag drag ▷ follow_drag drag
 

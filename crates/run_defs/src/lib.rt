@@ -98,7 +98,7 @@ pub enum Line<'a> {
     Make(Command<'a>),
 }
 
-/// Why a line of the script is refused before it is looked at as a command. Where several apply, the first is
+/// Why a line of the script is refused before it is looked at as a command. If several apply, the first is
 /// answered.
 #[derive(Clone, Copy, Debug, PartialEq, Eq, Error)]
 pub enum LineFault {

@@ -28,6 +28,7 @@ owed_along scene (change ∷ changes) = debt_of scene change ++ owed_along (chan
 abbrev pub command_owes : Machine → Command → List Rect
 command_owes machine command = owed_along machine.scene (step machine command).changes
 
+-- what happens at a frame that ended so
 abbrev pub frame_end : FrameEnd → Happening
 frame_end Done = Finished
 frame_end Fault = Faulted
@@ -52,10 +53,11 @@ happenings now (said ∷ lines) outcomes =
     happens now.machine said outcomes
     ++ happenings (after now said) lines (drop (outcomes_asked said) outcomes)
 
--- how many pixels the panel has, and how many a slice may have
+-- how many pixels the panel has
 abbrev pub panel_size : Bounds → ℕ
 panel_size limits = limits.width * limits.height
 
+-- how many pixels a slice may have
 abbrev pub slice_limit : Bounds → ℕ
 slice_limit limits = limits.width * limits.lines
 

@@ -1,6 +1,6 @@
-//! Laws of a run: what goes on holding as the rules of the machine are played, and what its lines owe, which
-//! are the areas of its commands, the windows between its done frames, and what may be sent for them. There is
-//! no code here: each function does nothing, and its contract is a law.
+//! Laws of a run: what goes on holding as the rules of the machine are played, and what its lines owe. They owe
+//! the areas of its commands, the windows between its done frames, and what may be sent for them. There is no
+//! code here: each function does nothing, and its contract is a law.
 #![tactic(auto)]
 
 ghost use Rattle.run_laws.specs.Accounts.{RunOpens, LineKeepsAccount, AccountBounds};
@@ -72,17 +72,17 @@ pub fn machines_fit_their_pools()
     ensures step { StepsKeepPools }
 {}
 
-/// Where the panel consists of whole blocks, what a command owes lies in it. A refused one owes nothing. A
-/// pixel that a command does not owe keeps its paint.
+/// If the panel consists of whole blocks, what a command owes lies in it. A refused one owes nothing. A pixel
+/// that a command does not owe keeps its paint.
 pub fn commands_owe_what_they_change()
     ensures within { CommandWithinPanel }
     ensures refused { RefusedOwesNothing }
     ensures frame { OwedHoldsAllThatChanges }
 {}
 
-/// What was sent and what is pending stays within what the lines owe: before the first line, and over each
-/// line that lists what it owes, or sends what is pending. So no more was sent than may be, also where
-/// further lines were not reached.
+/// What was sent and what is pending stays within what the lines owe: before the first line, and over each line
+/// that lists what it owes, or sends what is pending. So no more was sent than may be, also if further lines
+/// were not reached.
 pub fn runs_are_accounted()
     ensures opens { RunOpens }
     ensures line { LineKeepsAccount }
@@ -95,8 +95,8 @@ pub fn worked_examples()
     ensures pumps { PumpsAreWorked }
 {}
 
-/// The pumps of a run answer as what its lines owe allows, over each line, and so also where further lines
-/// were not reached.
+/// The pumps of a run answer as what its lines owe allows, over each line, and so also if further lines were
+/// not reached.
 pub fn pumps_are_accounted()
     ensures line { LineKeepsFlight }
     ensures bound { FlightsBound }

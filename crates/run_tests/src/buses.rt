@@ -39,8 +39,8 @@ fn run(alloc: Global, call: u64) -> Result<Ran, Fail> {
     })
 }
 
-/// Four calls open the bus; for each of two slices five start it and one sends its row. Where one of the opening fails the
-/// run ends, where another does the frame is at fault, and where none does it is done.
+/// Four calls open the bus; for each of two slices five start it and one sends its row. If one of the opening
+/// fails, the run ends, if another does, the frame is at fault, and if none does, it is done.
 #[test]
 fn each_call_of_the_bus_fails_in_turn(rt: HostRuntime) -> Result<(), Fail> {
     for call in 1..=17 {

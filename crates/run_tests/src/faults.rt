@@ -8,7 +8,7 @@ use std::test::Fail;
 use test_runs::Fault::{self, Frames, Log, Open, Poll, Read, Start};
 use test_runs::{WHITE_FRAME, WORDS};
 
-/// Whether the bytes are `whole` white frames and, where `part` is set, the first bytes of a further one.
+/// Whether the bytes are `whole` white frames and, if `part` is set, the first bytes of a further one.
 fn are_white_frames(bytes: &[u8], whole: usize, part: bool) -> bool {
     let mut rest = bytes;
     for _ in 0..whole {
@@ -27,7 +27,7 @@ const MIXED_LOG: &str = "1 frame 1 done\n3 refused syntax\n5 frame 2 done\n6 fra
 
 const MIXED_UP_TO_5: &str = "1 frame 1 done\n3 refused syntax\n5 frame 2 done\n";
 
-/// A script of two frames, and its log where both, the first alone, the second or neither is done.
+/// A script of two frames, and its log if both, the first alone, the second or neither is done.
 const TWO: &[u8] = b"frame\nframe\n";
 
 const BOTH: &str = "1 frame 1 done\n2 frame 2 done\n";

@@ -1,5 +1,5 @@
-//! Tests of whole runs: over a panel that lists what it is asked to start, with calls on the outside and on a bus that
-//! fail, of what is sent by each frame and in pieces to a viewer, and of the laws of the language.
+//! Tests of whole runs over a panel that lists what it is asked to start, with failing calls on the outside and
+//! on a bus. They also try what each frame sends, what a viewer gets in pieces, and the laws of the language.
 #![tactic(auto)]
 
 #[cfg(test)]

@@ -13,7 +13,7 @@ const WORDS: [&str; 4] = ["4", "2", "1", "make=1"];
 const WHOLE: &str = "made 1 lines 1261 refused 0 frames 11 faults 0 sum 59587\n";
 
 /// The calls that fail. Then what the run comes to: the number of its status, its log, and how many bytes of
-/// frames are written, of which each whole frame takes 35, the first 11 of them in a put of their own.
+/// frames are written. Each whole frame takes 35 bytes, the first 11 of them in a put of their own.
 type Case = (&'static [Fault], u8, &'static str, usize);
 
 const CASES: &[Case] = &[

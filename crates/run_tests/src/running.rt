@@ -33,12 +33,13 @@ pub(crate) struct Ran {
     pub(crate) counts: ArrayVec<u64, 8>,
     /// How many were sent in all.
     pub(crate) sent: u64,
-    /// The bits of the colours that the first pixels of the panel show at the end, row by row: none where it was not opened.
+    /// The bits of the colours that the first pixels of the panel show at the end, row by row: none if it was
+    /// not opened.
     pub(crate) shown: ArrayVec<u16, 8>,
 }
 
 impl Drop for Ran {
-    /// Lets go of all that it holds. Who owns one calls this, where each field by itself would be dear to prove.
+    /// Lets go of every field in one call, which keeps the proofs of its owners short.
     fn drop(self) {
         let Ran {
             status: _,
@@ -64,32 +65,32 @@ fn shown_by(panel: &ListingPanel<SimPanel<MemSink>>) -> ArrayVec<u16, 8> {
 }
 
 impl Ran {
-    /// Fails where the run ended otherwise.
+    /// Fails if the run ended otherwise.
     pub(crate) fn check_status(&self, rt: &impl Abort, status: Status, name: &str) {
         assert_eq!(rt; self.status as u8, status as u8, "{name}");
     }
 
-    /// Fails where the log is another one.
+    /// Fails if the log is another one.
     pub(crate) fn check_log(&self, rt: &impl Abort, log: &str, name: &str) {
         assert_eq!(rt; self.log.bytes(), log.as_bytes(), "{name}");
     }
 
-    /// Fails where the files of the presented frames are others.
+    /// Fails if the files of the presented frames are others.
     pub(crate) fn check_frames(&self, rt: &impl Abort, frames: &[u8], name: &str) {
         assert!(rt; self.frames.bytes() == frames, "{name}");
     }
 
-    /// Fails where the panel was asked to start other areas.
+    /// Fails if the panel was asked to start other areas.
     pub(crate) fn check_starts(&self, rt: &impl Abort, corners: &[[i32; 4]], name: &str) {
         assert_eq!(rt; self.starts.as_slice(), corners, "{name}");
     }
 
-    /// Fails where another count of pixels was sent in all.
+    /// Fails if another count of pixels was sent in all.
     pub(crate) fn check_sent(&self, rt: &impl Abort, sent: u64, name: &str) {
         assert_eq!(rt; self.sent, sent, "{name}");
     }
 
-    /// Fails where the run ended otherwise, or its frames were sent other counts of pixels.
+    /// Fails if the run ended otherwise, or its frames were sent other counts of pixels.
     pub(crate) fn check_counts(&self, rt: &impl Abort, status: Status, counts: &[u64], name: &str) {
         self.check_status(rt, status, name);
         assert_eq!(rt; self.counts.as_slice(), counts, "{name}");
@@ -140,7 +141,7 @@ pub(crate) fn run(
     setup.run(alloc)
 }
 
-/// Fails where something differs in a run in which these calls fail.
+/// Fails if something differs in a run in which these calls fail.
 pub(crate) fn check(rt: &impl Abort, difference: Option<&str>, faults: &[Fault]) {
     assert_eq!(rt; difference, None, "{faults:?}");
 }

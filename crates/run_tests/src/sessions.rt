@@ -18,7 +18,7 @@ const TWO_WHITE: &[u8] =
     b"RFB 003.008\n\x01\x01\0\0\0\0\0\x02\0\x01\x10\x10\0\x01\0\x1F\0\x3F\0\x1F\x0B\x05\0\0\0\0\0\0\0\x05scene\
     \0\0\0\x01\0\0\0\0\0\x02\0\x01\0\0\0\0\xFF\xFF\xFF\xFF";
 
-/// What the session comes to where a read gives at most `piece` bytes: how it ended, and what was sent.
+/// What the session comes to if a read gives at most `piece` bytes: how it ended, and what was sent.
 fn sent(alloc: Global, piece: usize) -> Result<(RfbStatus, MemSink), Fail>
     requires { 0 < piece }
 {

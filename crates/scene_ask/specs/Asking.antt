@@ -30,10 +30,11 @@ abbrev pub says_of : {A : Type 0} → (A → List ℕ) → Option A → List ℕ
 says_of words None = codes " none"
 says_of words (Some x) = words x
 
--- a number, and one that is not below 0, after a space
+-- a number after a space
 abbrev pub integer : ℤ → List ℕ
 integer n = 32 ∷ signed_decimal n
 
+-- a number that is not below 0, after a space
 abbrev pub count : ℕ → List ℕ
 count n = 32 ∷ decimal n
 
@@ -41,9 +42,11 @@ count n = 32 ∷ decimal n
 abbrev pub area_says : Rect → List ℕ
 area_says area = (integer area.x1 ++ integer area.y1) ++ (integer area.x2 ++ integer area.y2)
 
+-- how far across and how far down, in pixels, or two other numbers from 0 on
 abbrev pub counts_say : ℕ → ℕ → List ℕ
 counts_say across down = count across ++ count down
 
+-- the handle of an object
 abbrev pub handle_says : Handle → List ℕ
 handle_says h = count h.0
 
@@ -61,7 +64,7 @@ fact_says scene h fact.Offset =
 fact_says scene h fact.Reach =
     codes " reach" ++ says_of (λ span. counts_say span.across span.down) (reach scene h)
 
--- the names of the children of an object that is there, in their order
+-- the handles of the children of an object that is there, in their order
 abbrev pub children_say : Scene → ℕ → List ℕ
 children_say scene h = flat_map count (roots (children_of (handles_of scene.trees) h))
 

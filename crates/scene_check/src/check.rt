@@ -9,9 +9,9 @@ ghost use Rattle.std.specs.Prelude.{◌≡◌, All};
 use gui_base::Refusal;
 use gui_store::{Change, Store};
 
-/// Does the changes in order, up to the first refusal. Where the store is as it was opened and they are those of a
-/// scene in JSON, only a full pool refuses one, and where none is refused, the trees of the scene stand on the
-/// first screen.
+/// Does the changes in order, up to the first refusal. Suppose the store is as it was opened, and the changes
+/// are those of a scene in JSON. Then only a full pool refuses one, and if none is refused, the trees of the
+/// scene stand on the first screen.
 #[tactic(auto, using(crate::proofs::Scenes::makes_scenes))]
 pub fn check_scene(lines: &[Change], store: &mut Store) -> Result<(), Refusal>
     requires { All IsChange lines.now }

@@ -11,7 +11,7 @@ ghost use Rattle.scene_check.specs.Own.{OwnWordsSay};
 ghost use Rattle.scene_check.specs.Scenes.{ScenesAreMade};
 ghost use Rattle.scene_check.specs.Trees.{TreesGrow};
 
-/// The changes of scenes are refused for a full pool alone, where what they name is there.
+/// The changes of scenes are refused for a full pool alone, if what they name is there.
 #[tactic(auto, using(crate::proofs::Fitting::changes_fit))]
 pub fn scene_changes_fit()
     ensures { ChangesFit }
@@ -29,29 +29,29 @@ pub fn scene_lines_are_fielded()
     ensures { LinesAreFielded }
 {}
 
-/// Changes that name what is there are refused for a full pool alone, and where none is refused, the objects
-/// stand as the changes say.
+/// Changes that name what is there are refused for a full pool alone, and if none is refused, the objects stand
+/// as the changes say.
 #[tactic(auto, using(crate::proofs::Outlines::scenes_are_outlined))]
 pub fn scenes_are_outlined()
     ensures { ScenesAreOutlined }
 {}
 
-/// Trees grow as they are wanted below an object that is there, where none of theirs is made twice or too deep.
+/// Trees grow as they are wanted below an object that is there, if none of theirs is made twice or too deep.
 #[tactic(auto, using(crate::proofs::Trees::trees_grow))]
 pub fn wanted_trees_grow()
     ensures { TreesGrow }
 {}
 
-/// The changes that make trees on a store as opened are refused for a full pool alone, and where none is refused,
+/// The changes that make trees on a store as opened are refused for a full pool alone, and if none is refused,
 /// the children of the first screen are these trees.
 #[tactic(auto, using(crate::proofs::Made::trees_are_made))]
 pub fn wanted_trees_are_made()
     ensures { TreesAreMade }
 {}
 
-/// The changes that the lines of a scene in JSON ask for are those that make its trees: on a store as opened they
-/// are refused for a full pool alone, and where none is refused, the trees of the scene are what stands on the
-/// first screen.
+/// The changes that the lines of a scene in JSON ask for are those that make its trees. On a store as opened a
+/// full pool alone refuses them. If none is refused, the trees of the scene are what stands on the first
+/// screen.
 #[tactic(auto, using(crate::proofs::Scenes::scenes_are_made))]
 pub fn scene_lines_make_trees()
     ensures { ScenesAreMade }

@@ -16,6 +16,7 @@ limits_under None words = None
 limits_under (Some turn) [] = None
 limits_under (Some turn) (word ∷ words) = limits_of words
 
+-- the limits that the words after the first one say, where that says a turn
 abbrev pub limits_behind : List (List ℕ) → Option Bounds
 limits_behind words = limits_under (turn_in words) words
 

@@ -14,9 +14,9 @@ use std::alloc::Global;
 /// Runs a scene, as `run_scene` does, on a panel over a bus, and hands the panel back. The first word is its turn: 0, 1, 2
 /// or 3 quarters; the words after it are those of `run_scene`. The bus is not opened. The frames go to a sink.
 ///
-/// Each promise of `run_scene` holds of that panel: what it shows is the memory of the controller, where the bus tells
-/// it, through the turn, and its frames are the bytes of the sink. Where the first word is no turn, or there is none,
-/// nothing is read, written or opened.
+/// Each promise of `run_scene` holds of that panel: what it shows is the memory of the controller, if the bus
+/// tells it, through the turn, and its frames are the bytes of the sink. If the first word is no turn, or there
+/// is none, nothing is read, written or opened.
 pub fn run_dcs<S: Source, L: Sink, F: Sink, B: Bus>(
     alloc: Global,
     words: &[&str],
@@ -31,20 +31,20 @@ pub fn run_dcs<S: Source, L: Sink, F: Sink, B: Bus>(
         (unopened frames bus (quarters (quarters_or_none (turn_in (map (λ w. w.now) words.now)))))))
         (outside (S.state source.new) (L.state log.new) (dcs_state F.state B.state result.1.state)) result.0 }
 
-    // Where no word says a turn, nothing else is answered.
+    // If no word says a turn, nothing else is answered.
     ensures turn { turn_in (map (λ w. w.now) words.now) ≡ None → result.0 ≡ Status.Usage }
 
     // The panel is turned as the first word says.
     ensures turned { result.1.state.turned.turn
         ≡ quarters (quarters_or_none (turn_in (map (λ w. w.now) words.now))) }
 
-    // Where no byte is read, what was handed in stays as it is, and not only what is told of it.
+    // If no byte is read, what was handed in stays as it is, and not only what is told of it.
     ensures unread { IfUnstarted result.0 (source.new ≡ source.old) }
     ensures unwritten { IfUnstarted result.0 (log.new ≡ log.old) }
     ensures unopened { result.0 ≡ Status.Usage → result.1.state
         ≡ unopened frames bus (quarters (quarters_or_none (turn_in (map (λ w. w.now) words.now)))) }
 
-    // Where a made script is asked for, the source stays as it is too, also where it tells nothing.
+    // If a made script is asked for, the source stays as it is too, also if it tells nothing.
     ensures made { AsksMade (limits_behind (map (λ w. w.now) words.now)) → source.new ≡ source.old }
 {
     match words {

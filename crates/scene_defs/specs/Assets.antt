@@ -23,25 +23,28 @@ pub record AssetChange : Type 0 where
   pub fonts : List Font
   pub images : List Image
 
--- so many slots of each pool: none, one of fonts, one of glyphs with so many bytes of ink, and one of images
--- with so many bytes of pixels
+-- no slots of any pool
 abbrev pub no_room : Pool → ℕ
 no_room pool = 0
 
+-- one slot of the pool of fonts
 abbrev pub of_fonts : Pool → ℕ
 of_fonts Fonts = 1
 of_fonts pool = 0
 
+-- one slot of the pool of glyphs, and so many bytes of ink
 abbrev pub of_glyphs : ℕ → Pool → ℕ
 of_glyphs ink Glyphs = 1
 of_glyphs ink Ink = ink
 of_glyphs ink pool = 0
 
+-- one slot of the pool of images, and so many bytes of pixels
 abbrev pub of_images : ℕ → Pool → ℕ
 of_images pixels Images = 1
 of_images pixels Pixels = pixels
 of_images pixels pool = 0
 
+-- the glyph of a code, with its box and the bytes of its rows
 abbrev pub glyph_in : ℕ → GlyphBox → List ℕ → Glyph
 glyph_in code shape rows = record { code = code; shape = shape; rows = rows }
 

@@ -30,13 +30,15 @@ need_by (Some styling) assets scene change pool = styling.need pool
 need_by None (Some assets) scene change pool = assets.need pool
 need_by None None scene change pool = (edit_of change).need scene pool
 
--- what a change asks for of the styles, where it changes them alone; and of the fonts and images, likewise
+-- what a change does to the styles of a scene, if it changes them
 abbrev pub styling_in : Scene → Change → Option Styling
 styling_in scene change = styling_of scene.fonts scene.book change
 
+-- what a change does to the fonts and images of a scene, if it changes them
 abbrev pub asset_change_in : Scene → Change → Option AssetChange
 asset_change_in scene change = asset_change_of scene.fonts scene.images change
 
+-- how many slots of a pool a change takes of a scene
 abbrev pub need_of : Scene → Change → Pool → ℕ
 need_of scene change pool = need_by (styling_in scene change) (asset_change_in scene change) scene change pool
 
@@ -56,18 +58,22 @@ first_short scene change (pool ∷ others) =
 
 -- The tests of a setter: of what it names, of the kind, and of the place.
 
+-- an image that is named is not there
 abbrev pub absent_image : List Image → Option ℕ → List Test
 absent_image images None = []
 absent_image images (Some i) = (not (has_image images i), Unknown) ∷ []
 
+-- an image that is named is not finished
 abbrev pub unfinished_image : List Image → Option ℕ → List Test
 unfinished_image images None = []
 unfinished_image images (Some i) = (not (is_whole_image images i), Place) ∷ []
 
+-- a root, where the change needs a parent
 abbrev pub root_test : Forest ℕ → Bool → ℕ → List Test
 root_test f true h = parentless f h ∷ []
 root_test f false h = []
 
+-- the tests of a setter, in order
 abbrev pub setter_tests : Scene → Setter → List Test
 setter_tests scene setter =
     absent (handles_of scene.trees) setter.handle.0
@@ -76,10 +82,12 @@ setter_tests scene setter =
     ++ (root_test (handles_of scene.trees) setter.needs_parent setter.handle.0
     ++ unfinished_image scene.images setter.image)))
 
+-- an object that is named is not there
 abbrev pub object_tests : Forest ℕ → Option Handle → List Test
 object_tests f None = []
 object_tests f (Some h) = absent f h.0 ∷ []
 
+-- the tests of a change of styles: its object comes first
 abbrev pub styling_tests : Forest ℕ → Styling → List Test
 styling_tests f styling = object_tests f styling.object ++ styling.tests
 
@@ -90,6 +98,7 @@ tests_by None (Some styling) assets scene change = styling_tests (handles_of sce
 tests_by None None (Some assets) scene change = assets.tests
 tests_by None None None scene change = (edit_of change).tests scene
 
+-- the tests of a change of a scene, in order
 abbrev pub tests : Scene → Change → List Test
 tests scene change =
     tests_by (setter_of change) (styling_in scene change) (asset_change_in scene change) scene change
@@ -112,6 +121,7 @@ after_by None None (Some assets) scene change =
     record scene { fonts = assets.fonts; images = assets.images }
 after_by None None None scene change = (edit_of change).after scene
 
+-- the scene after a change, if that is done
 abbrev pub scene_after : Scene → Change → Scene
 scene_after scene change =
     after_by (setter_of change) (styling_in scene change) (asset_change_in scene change) scene change

@@ -35,6 +35,7 @@ pub data Deed : Type 0 where
   SetsAssets : Bool → (List Font → List Image → AssetChange) → Deed
   Edits : Bool → Edit → Deed
 
+-- what each change does
 abbrev pub deed_of : Change → Deed
 deed_of (change.Flag h flag on) =
     SetsRow (of_any h true (λ row. record row { flags = with_bit row.flags (flag_bit flag) on }))
@@ -92,6 +93,7 @@ deed_of (change.Image i format w h) =
 deed_of (change.ImageRow i y bytes) =
     SetsAssets (is_counted IMAGE i && is_counted IMAGE_ROW y) (row_given i y bytes)
 
+-- whether each number of what is done lies in its interval, with the handle of a setter, and the text is one
 abbrev pub fits_by : Deed → Bool
 fits_by (SetsRow setter) = is_counted HANDLE setter.handle.0 && setter.fits
 fits_by (SetsStyles fits styling) = fits
@@ -104,30 +106,36 @@ is_in_range change = fits_by (deed_of change)
 
 -- What a change asks for, where it does one of these.
 
+-- the setter that a deed is, if it sets a row
 abbrev pub setter_in : Deed → Option Setter
 setter_in (SetsRow setter) = Some setter
 setter_in (SetsStyles fits styling) = None
 setter_in (SetsAssets fits assets) = None
 setter_in (Edits fits edit) = None
 
+-- the setter of a change, if it sets a row
 abbrev pub setter_of : Change → Option Setter
 setter_of change = setter_in (deed_of change)
 
+-- what a deed does to the styles, if it changes them; the fonts and the book are those before it
 abbrev pub styling_by : List Font → Book → Deed → Option Styling
 styling_by fonts book (SetsRow setter) = None
 styling_by fonts book (SetsStyles fits styling) = Some (styling fonts book)
 styling_by fonts book (SetsAssets fits assets) = None
 styling_by fonts book (Edits fits edit) = None
 
+-- what a change does to the styles, if it changes them
 abbrev pub styling_of : List Font → Book → Change → Option Styling
 styling_of fonts book change = styling_by fonts book (deed_of change)
 
+-- what a deed does to the fonts and images, if it changes them; these are given as they are before it
 abbrev pub asset_change_by : List Font → List Image → Deed → Option AssetChange
 asset_change_by fonts images (SetsRow setter) = None
 asset_change_by fonts images (SetsStyles fits styling) = None
 asset_change_by fonts images (SetsAssets fits assets) = Some (assets fonts images)
 asset_change_by fonts images (Edits fits edit) = None
 
+-- what a change does to the fonts and images, if it changes them
 abbrev pub asset_change_of : List Font → List Image → Change → Option AssetChange
 asset_change_of fonts images change = asset_change_by fonts images (deed_of change)
 
@@ -138,13 +146,15 @@ edit_in (SetsStyles fits styling) = no_edit
 edit_in (SetsAssets fits assets) = no_edit
 edit_in (Edits fits edit) = edit
 
+-- the edit of the objects that a change makes: nothing, where it does something else
 abbrev pub edit_of : Change → Edit
 edit_of change = edit_in (deed_of change)
 
--- the kind of the object that a change makes below another, and the object that it deletes with all below it
+-- the kind of the object that a change makes below another
 abbrev pub kind_made : Change → Option Kind
 kind_made change = (edit_of change).makes
 
+-- the object that a change deletes, with all below it
 abbrev pub deleted : Change → Option Handle
 deleted change = (edit_of change).removes
 

@@ -31,6 +31,7 @@ tree_below scene h = tree_by (is_at h) scene.trees
 abbrev pub parent_object : Scene → ℕ → Option Object
 parent_object scene h = parent_by (is_at h) None scene.trees
 
+-- whether it is the kind of a screen
 abbrev pub is_screen_kind : Kind → Bool
 is_screen_kind Screen = true
 is_screen_kind kind = false
@@ -40,6 +41,7 @@ abbrev pub has_screen : Option Object → Bool
 has_screen None = false
 has_screen (Some object) = is_screen_kind object.row.kind
 
+-- whether h is a screen that is there
 abbrev pub is_screen : Scene → ℕ → Bool
 is_screen scene h = has_screen (object_at scene h)
 
@@ -48,6 +50,7 @@ abbrev pub is_featured : Feature → Option Object → Bool
 is_featured feature None = false
 is_featured feature (Some object) = has_feature feature object.row.kind
 
+-- whether h is there and its kind has a feature
 abbrev pub has_feature_at : Scene → Feature → ℕ → Bool
 has_feature_at scene feature h = is_featured feature (object_at scene h)
 
@@ -56,6 +59,7 @@ abbrev pub text_of : Option Object → List ℕ
 text_of None = []
 text_of (Some object) = object.text
 
+-- the text of h, empty where it is not there
 abbrev pub text_at : Scene → ℕ → List ℕ
 text_at scene h = text_of (object_at scene h)
 
@@ -67,6 +71,7 @@ below scene h = preorder (handles_of (tree_below scene h))
 abbrev pub book_without : Scene → ℕ → Book
 book_without scene h = all_forgotten scene.book (below scene h)
 
+-- an object whose kind has not the feature that is needed
 abbrev pub kind_tests : Scene → Option Feature → ℕ → List Test
 kind_tests scene None h = []
 kind_tests scene (Some feature) h = (not (has_feature_at scene feature h), WrongKind) ∷ []
@@ -98,6 +103,7 @@ abbrev pub last_below : Option Object → Forest Object → ℕ → Forest Objec
 last_below None trees h = trees
 last_below (Some p) trees h = moved_last trees h p.handle
 
+-- the tree at h goes to an index among the children of p, if there is one
 abbrev pub at_index_below : Option Object → Forest Object → ℕ → ℕ → Forest Object
 at_index_below None trees h n = trees
 at_index_below (Some p) trees h n = moved_to trees h p.handle n
@@ -134,11 +140,12 @@ pub record Edit : Type 0 where
 
 -- The edits.
 
--- so many slots of the pool of objects, and of that of texts
+-- so many slots of the pool of objects, and none of the others
 abbrev pub of_objects : ℕ → Pool → ℕ
 of_objects n Objects = n
 of_objects n pool = 0
 
+-- so many chunks of the pool of texts, and none of the others
 abbrev pub of_texts : ℕ → Pool → ℕ
 of_texts n Texts = n
 of_texts n pool = 0
@@ -222,6 +229,7 @@ tree_at_index h n =
     rearranging (λ scene. move_tests (handles_of scene.trees) h.0)
     (λ scene. record scene { trees = at_index_below (parent_object scene h.0) scene.trees h.0 n })
 
+-- the tree at h goes behind all its siblings
 abbrev pub tree_at_last : Handle → Edit
 tree_at_last h =
     rearranging (λ scene. move_tests (handles_of scene.trees) h.0)

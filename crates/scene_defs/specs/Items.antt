@@ -24,6 +24,7 @@ items_of scene None area = []
 items_of scene (Some object) None = []
 items_of scene (Some object) (Some area) = widget.items (look_of scene object) area
 
+-- what h paints behind its children, if it is there
 abbrev pub items : Scene → ℕ → List Item
 items scene h = items_of scene (object_at scene h) (place scene h)
 
@@ -45,6 +46,7 @@ bars_of scene None area = []
 bars_of scene (Some object) None = []
 bars_of scene (Some object) (Some area) = widget.bars (bar_look scene object) area
 
+-- the bars that h shows over its children, if it is there
 abbrev pub bars : Scene → ℕ → List Item
 bars scene h = bars_of scene (object_at scene h) (place scene h)
 
@@ -53,6 +55,7 @@ abbrev pub chars_of : Option Object → List ℕ
 chars_of None = []
 chars_of (Some object) = chars object.text
 
+-- the characters of the text of h
 abbrev pub chars_at : Scene → ℕ → List ℕ
 chars_at scene h = chars_of (object_at scene h)
 
@@ -63,6 +66,7 @@ coat_of fonts images text area (Ring width color opa) = ring_coat area width col
 coat_of fonts images text area (Ink look color opa) = ink_coat area (face fonts look.font) look text color opa
 coat_of fonts images text area (Picture image recolor opa) = picture_coat area images image recolor opa
 
+-- what an item lays on each pixel
 abbrev pub coat_in : List Font → List Image → List ℕ → Item → Coat
 coat_in fonts images text item = coat_of fonts images text item.area item.paint
 

@@ -7,6 +7,7 @@ use Rattle.scene_defs.specs.Visible.{holds}
 use Rattle.scene_defs.specs.Items.{lay}
 use Rattle.scene_defs.specs.Shown.{Seen, painted}
 
+-- the colour of a pixel after one entry is painted over it, where the entry is seen there
 abbrev pub paint_seen : ℤ → ℤ → Rgb565 → Seen → Rgb565
 paint_seen x y under s = if holds s.visible x y then fold (lay x y) under s.coats else under
 

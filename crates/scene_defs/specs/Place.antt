@@ -17,6 +17,7 @@ use Rattle.scene_defs.specs.Looks.{look_of}
 use Rattle.scene_defs.specs.Row.{is_on}
 use Rattle.scene_defs.specs.Scene.{Object, Scene, value}
 
+-- all pixels of the panel
 abbrev pub panel_of : Scene → Rect
 panel_of scene = area_at (pos 0) (pos 0) scene.limits.width scene.limits.height
 
@@ -28,7 +29,7 @@ pixels_of scene h prop = nat_of (value scene h Main prop)
 abbrev pub inset_of : Scene → ℕ → Prop → ℕ
 inset_of scene h pad = pixels_of scene h BorderWidth + pixels_of scene h pad
 
--- what is wanted of an object across, and down
+-- what is wanted of an object across
 abbrev pub across_of : Scene → ℕ → Row → Axis
 across_of scene h row = record {
   size = row.width;
@@ -40,6 +41,7 @@ across_of scene h row = record {
   scroll = nat_of row.scroll_x;
 }
 
+-- what is wanted of an object down
 abbrev pub down_of : Scene → ℕ → Row → Axis
 down_of scene h row = record {
   size = row.height;
@@ -66,6 +68,7 @@ box_of scene object = record {
   own_height = own_height (look_of scene object);
 }
 
+-- the boxes of all objects, in their trees
 abbrev pub boxes_of : Scene → Forest Box
 boxes_of scene = map_forest (box_of scene) scene.trees
 
@@ -77,12 +80,14 @@ solved_of scene = solved scene.limits.width scene.limits.height (boxes_of scene)
 unfoldable pub place : Scene → ℕ → Option Rect
 place scene h = option_map place_of (row_by (is_placed_at h) (solved_of scene))
 
+-- how far the children of a placed object reach out of its content area
 abbrev reach_of : Placed → Span
 reach_of p = p.reach
 
--- how far the children of h reach out of its content area, and how far it moves them, if it is there
+-- how far the children of h reach out of its content area to the right and to the bottom, in pixels, if it is there
 unfoldable pub reach : Scene → ℕ → Option Span
 reach scene h = option_map reach_of (row_by (is_placed_at h) (solved_of scene))
 
+-- how far h moves its children to the left and upward, in pixels, if it is there
 unfoldable pub offset : Scene → ℕ → Option Span
 offset scene h = option_map offset_at (row_by (is_placed_at h) (solved_of scene))

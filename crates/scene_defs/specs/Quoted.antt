@@ -33,6 +33,7 @@ that_fits room (Some text) = if nat_le (length text) room then Some text else No
 abbrev pub most_quoted : ℕ
 most_quoted = 4096
 
+-- the bytes, where they are UTF-8
 abbrev pub if_utf8 : Option (List ℕ) → Option (List ℕ)
 if_utf8 None = None
 if_utf8 (Some text) = if is_utf8 text then Some text else None

@@ -97,24 +97,30 @@ is_row row =
 abbrev pub brought_in : ℤ → ℤ → ℤ → ℤ
 brought_in low high n = if int_lt n low then low else if int_lt high n then high else n
 
+-- the row with another value, which is brought into its range
 abbrev pub with_value : ℤ → Row → Row
 with_value n row = record row { value = brought_in row.min row.max n }
 
+-- the row with another range, into which its value is brought
 abbrev pub with_range : ℤ → ℤ → Row → Row
 with_range low high row =
     record row { min = low; max = high; value = brought_in low high row.value }
 
 -- The kinds that have a value, a picture, and a text.
 
+-- whether objects of a kind have a value in a range
 abbrev pub has_value : Kind → Bool
 has_value kind = (facts kind).value
 
+-- whether objects of a kind show an image
 abbrev pub has_picture : Kind → Bool
 has_picture kind = (facts kind).picture
 
+-- whether objects of a kind have a text of their own
 abbrev pub has_text : Kind → Bool
 has_text kind = (facts kind).text
 
+-- whether objects of a kind have a feature
 abbrev pub has_feature : Feature → Kind → Bool
 has_feature Text kind = has_text kind
 has_feature Value kind = has_value kind
@@ -134,7 +140,7 @@ pub record Setter : Type 0 where
   -- the row after it
   pub after : Row → Row
 
--- a setter of any object, and one of objects that have a parent
+-- a setter that any object takes
 abbrev pub of_any : Handle → Bool → (Row → Row) → Setter
 of_any h fits after = record {
   handle = h;
@@ -145,6 +151,7 @@ of_any h fits after = record {
   after = after;
 }
 
+-- a setter that only an object with a parent takes
 abbrev pub of_child : Handle → Bool → (Row → Row) → Setter
 of_child h fits after = record {
   handle = h;
@@ -155,7 +162,7 @@ of_child h fits after = record {
   after = after;
 }
 
--- a setter of objects that have a value, and one of objects that show a picture
+-- a setter that only an object with a value takes
 abbrev pub of_valued : Handle → Bool → (Row → Row) → Setter
 of_valued h fits after = record {
   handle = h;
@@ -166,6 +173,7 @@ of_valued h fits after = record {
   after = after;
 }
 
+-- a setter that only an object that shows an image takes, and the image that it names
 abbrev pub of_pictured : Handle → ℕ → Bool → (Row → Row) → Setter
 of_pictured h image fits after = record {
   handle = h;

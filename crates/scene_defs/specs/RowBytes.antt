@@ -11,6 +11,7 @@ use Rattle.scene_defs.specs.declared.row_bytes.Form.TheVariants.{Plain, Hex}
 abbrev pub most_digits : ℕ
 most_digits = 4096
 
+-- the bytes of digits that could be decoded
 abbrev pub decoded : Result (List ℕ) FromHexError → Option (List ℕ)
 decoded (Ok bytes) = Some bytes
 decoded (Err e) = None

@@ -25,6 +25,7 @@ pub record Object : Type 0 where
   pub row : Row
   pub text : List ℕ
 
+-- what the library draws: the trees of the layers and the screens, and all that these are shown with
 pub record Scene : Type 0 where
   pub trees : Forest Object
   pub active : ℕ
@@ -35,9 +36,11 @@ pub record Scene : Type 0 where
   pub images : List Image
   pub limits : Bounds
 
+-- the handle of an object
 abbrev pub handle_of : Object → ℕ
 handle_of object = object.handle
 
+-- the row of an object
 abbrev pub row_of : Object → Row
 row_of object = object.row
 
@@ -59,9 +62,11 @@ object_by test Empty = None
 object_by test (Tree object cs rest) =
     if test object then Some object else (if has_by test cs then object_by test cs else object_by test rest)
 
+-- the object h, if it is there
 abbrev pub object_at : Scene → ℕ → Option Object
 object_at scene h = object_by (is_at h) scene.trees
 
+-- the row of h, if it is there
 abbrev pub row_at : Scene → ℕ → Option Row
 row_at scene h = option_map row_of (object_at scene h)
 
@@ -73,15 +78,19 @@ chunks_in (Tree object cs rest) = chunks_of object.text + (chunks_in cs + chunks
 -- How many glyphs fonts have, how many bytes the bits of these, and how many bytes images have once they are
 -- finished.
 
+-- how many glyphs a font has
 abbrev pub glyph_count : Font → ℕ
 glyph_count font = length font.glyphs
 
+-- how many bytes the bits of a glyph take
 abbrev pub ink_of : Glyph → ℕ
 ink_of glyph = length glyph.rows
 
+-- how many bytes the bits of all glyphs of a font take
 abbrev pub ink_count : Font → ℕ
 ink_count font = sum_by ink_of font.glyphs
 
+-- how many bytes an image has once all its rows are given
 abbrev pub pixel_count : Image → ℕ
 pixel_count image = image_bytes image.format image.width image.height
 
@@ -120,6 +129,7 @@ path_at scene h = path_by (is_at h) [] scene.trees
 abbrev pub value : Scene → ℕ → Part → Prop → ℤ
 value scene h part prop = value_on scene.book.styles (map (styled_of scene.book) (path_at scene h)) part prop
 
+-- an object that has just been made, with the first values of its kind and without a text
 abbrev pub new_object : ℕ → Kind → Object
 new_object handle kind = record { handle = handle; row = new_row kind; text = [] }
 
@@ -129,6 +139,7 @@ first_trees =
     Tree (new_object 1 Layer) Empty
     (Tree (new_object 2 Layer) Empty (Tree (new_object 3 Screen) Empty Empty))
 
+-- the scene in which each run begins
 abbrev pub first_scene : Bounds → Scene
 first_scene limits =
     record { trees = first_trees; active = 3; book = empty_book; fonts = []; images = []; limits = limits }

@@ -14,9 +14,11 @@ pub record Entry : Type 0 where
   pub handle : ℕ
   pub is_bars : Bool
 
+-- the entry of what h shows by itself
 abbrev pub own : ℕ → Entry
 own h = record { handle = h; is_bars = false }
 
+-- the entry of the bars that h shows over its children
 abbrev pub bars_over : ℕ → Entry
 bars_over h = record { handle = h; is_bars = true }
 
@@ -36,9 +38,11 @@ seen_as lays visible e =
 abbrev pub entry_coats : Scene → Entry → List Coat
 entry_coats scene e = if e.is_bars then bar_coats scene e.handle else coats scene e.handle
 
+-- an entry as it is seen in a scene
 abbrev pub seen_entry : Scene → Entry → Seen
 seen_entry scene e = seen_as (entry_coats scene) (visible scene e.handle) e
 
+-- what h shows by itself, as it is seen
 abbrev pub seen : Scene → ℕ → Seen
 seen scene h = seen_entry scene (own h)
 
@@ -55,6 +59,7 @@ abbrev pub entries_in : Forest ℕ → List Entry
 entries_in Empty = []
 entries_in (Tree h cs rest) = own h ∷ (entries_in cs ++ (bars_over h ∷ entries_in rest))
 
+-- all entries of the trees that are shown, in paint order
 abbrev pub entries : Scene → List Entry
 entries scene = entries_in (handles_of (shown_trees scene))
 

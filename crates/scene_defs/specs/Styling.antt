@@ -35,22 +35,26 @@ font_tests fonts prop value =
     ∷ (same_prop prop TextFont && not (is_finished fonts (nat_of value)), Place)
     ∷ []
 
--- so many slots of one pool, and none of the others
+-- no slots of any pool
 abbrev pub no_slots : Pool → ℕ
 no_slots pool = 0
 
+-- so many slots of the pool of styles, and none of the others
 abbrev pub of_styles : ℕ → Pool → ℕ
 of_styles n Styles = n
 of_styles n pool = 0
 
+-- so many slots of the pool of entries, and none of the others
 abbrev pub of_entries : ℕ → Pool → ℕ
 of_entries n Entries = n
 of_entries n pool = 0
 
+-- so many slots of the pool of uses, and none of the others
 abbrev pub of_uses : ℕ → Pool → ℕ
 of_uses n Uses = n
 of_uses n pool = 0
 
+-- one slot, unless what would take it is there already
 abbrev pub one_unless : Bool → ℕ
 one_unless there = if there then 0 else 1
 

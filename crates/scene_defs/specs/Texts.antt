@@ -8,6 +8,7 @@ use Rattle.text_defs.specs.Images.{Image, finished}
 abbrev pub most_text : ℕ
 most_text = 1000
 
+-- whether a text is not too long for an object
 abbrev pub is_short : List ℕ → Bool
 is_short text = nat_le (length text) most_text
 

@@ -20,8 +20,8 @@ pub fn refusals_change_nothing()
     ensures range { RangeComesFirst }
 {}
 
-/// A change is refused for a full pool where it needs more slots than are free. All other refusals come
-/// before, and do not look at the limits.
+/// A change is refused for a full pool if it needs more slots than are free. All other refusals come before,
+/// and do not look at the limits.
 pub fn full_by_count()
     ensures without_room { FullWithoutRoom }
     ensures with_room { DoneWithRoom }
@@ -45,7 +45,7 @@ pub fn values_are_in_range()
     ensures { ValuesInRange }
 {}
 
-/// One walk down the trees meets what is shown, in its order, and goes no further where nothing is seen.
+/// One walk down the trees meets what is shown, in its order, and goes no further if nothing is seen.
 #[tactic(auto, using(crate::proofs::Walks::shown_by_walk, crate::proofs::Walks::nothing_below_nothing))]
 pub fn shown_by_walk()
     ensures same { ShownByWalk }

@@ -21,7 +21,7 @@ pub use texts::{MOST_TEXT, Text};
 pub enum Change<'a> {
     /// Makes a screen, which is not shown.
     Screen(Handle),
-    /// Makes the last child of the second.
+    /// Makes an object of this kind, the last child of the second.
     New(Handle, Handle, Kind),
     /// Removes an object and all below it.
     Delete(Handle),
@@ -48,16 +48,16 @@ pub enum Change<'a> {
     Scroll(Handle, i32, i32),
     /// How an object arranges its children.
     Flex(Handle, Flow),
-    /// The placings of its flow: along its tracks, across each, which is one of start, end and center, and of
-    /// the tracks.
+    /// The placings of its flow: of the items along a track, of the items across it, and of the tracks. The
+    /// second one is start, end or center.
     Places(Handle, Placing, Placing, Placing),
-    /// How much of the free space of its track an object takes, beside the others that take some.
+    /// The weight of an object in sharing the free space of its track.
     Grow(Handle, u8),
     /// Switches a state on or off.
     State(Handle, State, bool),
     /// The text of a label or a checkbox.
     Text(Handle, Text<'a>),
-    /// The value of a bar or a slider, from -10,000 to 10,000, which is brought into its range.
+    /// The value of a bar or a slider, from -10,000 to 10,000. It is brought into the range of that.
     Value(Handle, i32),
     /// The range of a bar or a slider, each end from -10,000 to 10,000, the first below the second. The value
     /// is brought into it.
@@ -78,12 +78,12 @@ pub enum Change<'a> {
     Local(Handle, Selector, Prop, i32),
     /// Removes such a property.
     Unlocal(Handle, Selector, Prop),
-    /// Begins a font with this number: how high its lines are, and how far a character without a glyph takes
-    /// the next one, in pixels.
+    /// Begins a font with this number. The height of its lines follows, and how far the next character stands
+    /// from one without a glyph, both in pixels.
     Font(u8, u8, u8),
     /// Gives a font the glyph of a character: its box, and its bits row by row, each row in whole bytes.
     Glyph(u8, char, GlyphBox, RowBytes<'a>),
-    /// Finishes a font, which takes no more glyphs then.
+    /// Finishes a font. It takes no more glyphs then.
     EndFont(u8),
     /// Begins an image with this number: its format, and its width and height in pixels.
     Image(u16, Format, u16, u16),
@@ -91,7 +91,7 @@ pub enum Change<'a> {
     ImageRow(u16, u16, RowBytes<'a>),
 }
 
-/// What objects of some kinds have and others have not: their kind's row says which.
+/// What objects of some kinds have and others have not. The kind's row says which.
 #[derive(Clone, Copy, Debug, PartialEq, Eq)]
 pub enum Feature {
     /// A text.
@@ -122,10 +122,10 @@ pub struct Row {
     pub flow: Flow,
     /// The placings of its flow: along its tracks, across each, and of the tracks.
     pub places: (Placing, Placing, Placing),
-    /// How much of the free space of its track it takes, beside the others that take some.
+    /// Its weight in sharing the free space of its track.
     pub grow: u8,
-    /// How far its children are to be scrolled where it is scrollable, to the left and upward, in pixels from 0
-    /// to 8191.
+    /// How far its children are to be scrolled if it is scrollable, to the left and upward, in pixels from 0 to
+    /// 8191.
     pub scroll_x: i32,
     pub scroll_y: i32,
     /// What a bar or a slider shows, from `min` to `max`.

@@ -44,8 +44,8 @@ impl<'a> RowBytes<'a> {
         }
     }
 
-    /// The bytes that hexadecimal digits of either case say, two for each. `None` where they are no such
-    /// digits, or more than a line can have.
+    /// The bytes that hexadecimal digits of either case say, two for each. `None` if they are no such digits,
+    /// or more than a line can have.
     #[tactic(auto, unfolding(crate::specs::RowBytes::bytes_in_hex))]
     pub fn hex(digits: &'a [u8]) -> Option<RowBytes<'a>>
         ensures { result ≡ bytes_in_hex digits.now }

@@ -51,9 +51,9 @@ impl<'a> Text<'a> {
         }
     }
 
-    /// The text that stands between quotes: a backslash before a quote or a backslash, or before an `n` for a
-    /// newline, stands for one. `None` where there is another backslash or quote, where it is not UTF-8, or
-    /// where it is longer than a line can be.
+    /// The text that stands between quotes. A backslash before a quote or a backslash stands for that sign, and
+    /// one before an `n` for a newline. `None` if there is another backslash or quote, if it is not UTF-8, or
+    /// if it is longer than a line can be.
     pub fn quoted(inside: &'a [u8]) -> Option<Text<'a>>
         ensures { result ≡ text_in_quotes inside.now }
     {
@@ -97,8 +97,8 @@ impl<'a> Text<'a> {
     }
 }
 
-/// Writes what stands between quotes into `room`, and answers what it wrote. `None` where nothing can stand
-/// so, or where there is too little room.
+/// Writes what stands between quotes into `room`, and answers what it wrote. `None` if nothing can stand so, or
+/// if there is too little room.
 fn unescape<'r>(inside: &[u8], room: &'r mut [u8]) -> Option<&'r [u8]>
     ensures { option_map (λ text. text.now) result
         ≡ that_fits (length room.old) (unescaped false inside.now) }
@@ -117,7 +117,7 @@ fn unescape<'r>(inside: &[u8], room: &'r mut [u8]) -> Option<&'r [u8]>
     Some(&room[..len])
 }
 
-/// The byte that these bytes between quotes begin with, and those after it. `None` where they begin with
+/// The first byte that these bytes between quotes say, and the bytes after it. `None` if they begin with
 /// another backslash or with a quote.
 fn first_byte(bytes: &[u8]) -> Option<(u8, &[u8])>
     requires { 0 < length bytes.now }

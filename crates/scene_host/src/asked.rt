@@ -13,9 +13,9 @@ use scene_run::{Status, run_made};
 use scene_script::limits_of;
 use std::alloc::Global;
 
-/// Runs a scene as `run_scene` does with these words, and answers the questions of its script: comments that begin
-/// with `#?`. Each is answered by the machine after the lines before it. It tells how the run ended, and whether each
-/// answer was written: the run goes on where that fails, and nothing more is answered.
+/// Runs a scene as `run_scene` does with these words, and answers the questions of its script: comments that
+/// begin with `#?`. Each is answered by the machine after the lines before it. It tells how the run ended, and
+/// whether each answer was written: the run goes on if that fails, and nothing more is answered.
 pub fn run_asked<S: Source, L: Sink, A: Sink, P: Panel>(
     alloc: Global,
     words: &[&str],
@@ -36,7 +36,7 @@ pub fn run_asked<S: Source, L: Sink, A: Sink, P: Panel>(
         (outside (S.state source.new) (L.state log.new) (P.state panel.new))
         (A.state answers.old) (A.state answers.new) result.1 result.0 }
 
-    // Where no byte is read, what was handed in stays as it is, and not only what is told of it.
+    // If no byte is read, what was handed in stays as it is, and not only what is told of it.
     ensures unread { IfUnstarted result.0 (source.new ≡ source.old) }
     ensures unwritten { IfUnstarted result.0 (log.new ≡ log.old) }
     ensures unanswered { IfUnstarted result.0 (answers.new ≡ answers.old) }

@@ -39,7 +39,7 @@ impl Asker {
         self.answered
     }
 
-    /// Hears a byte of the script before the machine takes it. Where it ends a line that asks something, that is
+    /// Hears a byte of the script before the machine takes it. If it ends a line that asks something, that is
     /// answered, by the number of the line.
     #[tactic(auto, using(crate::proofs::Adding::adds_none, crate::proofs::Adding::adds_still, crate::proofs::Adding::adds_whole, crate::proofs::Adding::adds_part, crate::proofs::Adding::not_last))]
     pub(crate) fn hear<A: Sink>(&mut self, byte: u8, gui: &Gui, number: u32, answers: &mut A)

@@ -54,7 +54,7 @@ pub(crate) fn read_asked<S: Source, L: Sink, A: Sink, P: Panel>(
     (status, host.asker.has_answered())
 }
 
-/// The same with a run that has read nothing yet.
+/// Reads the host's lines to their end, piece by piece. The run has read nothing before.
 fn read_pieces<S: Source, L: Sink, A: Sink, P: Panel>(
     host: &mut Host,
     source: &mut S,

@@ -26,10 +26,10 @@ pub struct HostEnd<T> {
     pub out: T,
 }
 
-/// Runs a scene, as `run_scene` does with these words, on a panel that writes each area that changes and a mark at each
-/// frame to a stream, and hands the stream back. Where the stream tells what it holds, these are whole records. The
-/// questions of the script are answered besides: comments that begin with `#?`, each by the machine after the lines
-/// before it.
+/// Runs a scene, as `run_scene` does with these words, on a panel that writes each area that changes and a mark
+/// at each frame to a stream, and hands the stream back. If the stream tells what it holds, these are whole
+/// records. The questions of the script are answered besides: comments that begin with `#?`, each by the
+/// machine after the lines before it.
 ///
 /// Each promise of `run_scene` holds of that panel: what it shows is what a viewer has who replays the stream's bytes,
 /// and its frames are the pictures that the viewer has at the marks.
@@ -46,7 +46,7 @@ pub fn run_host<S: Source, L: Sink, A: Sink, T: Steady>(
         (S.state source.old) (L.state log.old) (A.state answers.old) out
         (S.state source.new) (L.state log.new) (A.state answers.new) result }
 
-    // Where no byte is read, what was handed in stays as it is, and not only what is told of it.
+    // If no byte is read, what was handed in stays as it is, and not only what is told of it.
     ensures unread { IfUnstarted result.status (source.new ≡ source.old) }
     ensures unwritten { IfUnstarted result.status (log.new ≡ log.old) }
     ensures unanswered { IfUnstarted result.status (answers.new ≡ answers.old) }
@@ -55,7 +55,7 @@ pub fn run_host<S: Source, L: Sink, A: Sink, T: Steady>(
     run_counted::<S, L, A, T, Brand>(alloc, words, source, log, answers, out, Blank::new(1))
 }
 
-/// The same with an empty count of the panel's faults.
+/// Runs a host with a blank ledger, in which the panel counts its faults.
 fn run_counted<S: Source, L: Sink, A: Sink, T: Steady, B: Ledger>(
     alloc: Global,
     words: &[&str],

@@ -92,7 +92,7 @@ pub(crate) fn two(value: &Value) -> Option<(&Value, &Value)>
     two_of(value.as_array()?)
 }
 
-/// The two values, where there are two.
+/// The two values, if there are two.
 #[tactic(auto, using(crate::proofs::Lists::two_other))]
 fn two_of(values: &[Value]) -> Option<(&Value, &Value)>
     ensures { option_map (λ t. (view t.0.now, view t.1.now)) result ≡ two (Some (items_view values.now)) }

@@ -60,7 +60,7 @@ pub fn run_json<S: Source, O: Sink>(
         → Translates scene_text (streams (S.state source.old) (O.state out.old))
         (streams (S.state source.new) (O.state out.new)) (ending result) }
 
-    // Where there is a word nothing is touched.
+    // If there is a word, nothing is touched.
     ensures unread { result ≡ JsonStatus.Usage → source.new ≡ source.old }
     ensures unwritten { result ≡ JsonStatus.Usage → out.new ≡ out.old }
 {

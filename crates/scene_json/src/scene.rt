@@ -9,7 +9,7 @@ use gui_base::NoMemory;
 use serde_json::Value;
 use std::alloc::Global;
 
-/// The text of the scene that these bytes are, where they are one.
+/// The text of the scene that these bytes are, if they are one.
 #[tactic(auto, using(crate::proofs::Reading::reading))]
 pub(crate) fn scene_text(alloc: Global, bytes: &[u8]) -> Result<Option<Vec<u8>>, NoMemory>
     ensures { IfOk result (λ text. text_of text ≡ scene_text bytes.now) }
@@ -21,7 +21,7 @@ pub(crate) fn scene_text(alloc: Global, bytes: &[u8]) -> Result<Option<Vec<u8>>,
     }
 }
 
-/// The text of the scene that this value is, where it is one.
+/// The text of the scene that this value is, if it is one.
 #[tactic(auto, unfolding(crate::specs::Scenes::scene))]
 fn text_of(alloc: Global, value: &Value) -> Result<Option<Vec<u8>>, NoMemory>
     ensures { IfOk result (λ text. text_of text ≡ text_or (scene (view value.now))) }

@@ -43,7 +43,7 @@ fn are_states(names: &[u8]) -> bool
     true
 }
 
-/// What stands before the first such byte, and what stands behind it, where there is one.
+/// What stands before the first such byte, and what stands behind it, if there is one.
 #[tactic(auto, using(scene_script::proofs::WordLemmas::cuts))]
 fn cut(bytes: &[u8], at: u8) -> (&[u8], Option<&[u8]>)
     ensures before { result.0.now ≡ before_first (λ b. b == at) bytes.now }

@@ -1,5 +1,5 @@
-//! What is written of a scene, line by line. A method answers false where there is no scene; what the writer
-//! then holds is not looked at.
+//! What is written of a scene, line by line. A method answers false if there is no scene; what the writer then
+//! holds is not looked at.
 ghost use Rattle.scene_json.specs.Writing.{going, nothing_written, put, put_id};
 ghost use Rattle.std.specs.List.{list_any};
 ghost use Rattle.std.specs.Ordering.{int_eq};
@@ -46,7 +46,7 @@ impl Writer {
         self.text
     }
 
-    /// Adds a line, where it is one of the language.
+    /// Adds a line, if it is one of the language.
     #[tactic(auto, unfolding(crate::specs::Writing::put))]
     pub(crate) fn put(&mut self, line: &[u8]) -> Result<bool, NoMemory>
         ensures { IfOk result (λ goes. going goes self.new ≡ put line.now self.old) }
@@ -59,7 +59,7 @@ impl Writer {
         Ok(true)
     }
 
-    /// Notes an id, where no node before has it.
+    /// Notes an id, if no node before has it.
     pub(crate) fn put_id(&mut self, id: i64) -> Result<bool, NoMemory>
         ensures { IfOk result (λ goes. going goes self.new ≡ put_id id self.old) }
     {

@@ -61,7 +61,7 @@ impl Screen {
     }
 }
 
-/// Refuses a line of the script, which is noted. Where the log fails it holds a prefix of the reply.
+/// Refuses a line of the script, which is noted. If the log fails, it holds a prefix of the reply.
 fn refuse<L: Sink>(fault: LineFault, number: u32, log: &mut L) -> Result<bool, Failed>
     ensures noted { IfOk result (λ n. n ≡ true) }
     ensures ok { OnOk result (Appends (L.state log.old).held (L.state log.new).held

@@ -55,7 +55,7 @@ pub fn run_rfb<S: Source, O: Sink, L: Sink>(
         (outside (S.state source.old) (outs (O.state out.old) (L.state log.old)))
         (outside (S.state source.new) (outs (O.state out.new) (L.state log.new))) result }
 
-    // Where no byte is read, what was handed in stays as it is, and not only what is told of it.
+    // If no byte is read, what was handed in stays as it is, and not only what is told of it.
     ensures unread { IfUnstarted result (source.new ≡ source.old) }
     ensures unwritten { IfUnstarted result (out.new ≡ out.old) }
     ensures unlogged { IfUnstarted result (log.new ≡ log.old) }

@@ -28,6 +28,7 @@ pub record Output : Type 0 where
   pub log : SinkState
   pub panel : PanelState
 
+-- a log and a panel
 abbrev pub output : SinkState → PanelState → Output
 output log panel = record { log = log; panel = panel }
 

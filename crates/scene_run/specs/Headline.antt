@@ -21,10 +21,11 @@ pub record Outside : Type 0 where
   pub source : SourceState
   pub output : Output
 
+-- a source, a log and a panel
 abbrev pub outside : SourceState → SinkState → PanelState → Outside
 outside source log panel = record { source = source; output = output log panel }
 
--- The whole script was read and answered. `notes` tells whether a line was refused or a frame faulted.
+-- The whole script was read and answered. `notes` tells whether a line or an action was refused or a frame faulted.
 pub record AnswersScript (first : Machine) (old new : Outside) (taken : List ℕ) (notes : Bool) : Type 0 where
   pub end : IsAtEnd new.source.left
   pub small : length taken ≤ max_script

@@ -21,10 +21,12 @@ use Rattle.scene_run.specs.Effects.{Output, output, Answers, Halted}
 
 -- Refusals.
 
+-- whether a command was refused
 abbrev pub is_refusal : Reply → Bool
 is_refusal (Fine noted) = false
 is_refusal (Refused refusal) = true
 
+-- whether what is told is that a command was refused
 abbrev pub is_refused : Told → Bool
 is_refused (Replied number lines reply) = is_refusal reply
 is_refused (Framed number frame scene end) = false

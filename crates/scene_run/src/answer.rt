@@ -167,7 +167,7 @@ fn pump_counted<P: Panel, B: Ledger>(gui: &mut Gui, panel: &mut P, blank: Blank)
     gui.pump(panel, &mut steps)
 }
 
-/// Sends what is pending of the picture, and presents the frame where all of it arrived.
+/// Sends what is pending of the picture, and presents the frame if all of it arrived.
 fn show<P: Panel>(gui: &mut Gui, panel: &mut P) -> Result<FrameEnd, Failed>
     requires can { CanSend (stage_of gui.old (P.state panel.old)) (machine_of gui.old).scene }
     requires agrees { AgreesWith (stage_of gui.old (P.state panel.old)) (machine_of gui.old).scene }

@@ -1,8 +1,8 @@
 //! What follows from the clause of a run. The function does nothing: its contract is a law, which is proved.
 ghost use Rattle.scene_run.specs.Laws.{RunsAreComplete};
 
-/// Where the words have limits, the script is not too long and no count of faults rose, a run comes to the
-/// end of its script, but for want of memory: each frame is done, and the status is `Done` exactly where
+/// Suppose the words have limits, the script is not too long and no count of faults rose. Then a run comes to
+/// the end of its script, but for want of memory. Each frame is done, and the status is `Done` exactly if
 /// nothing was refused.
 pub fn runs_are_complete()
     ensures { RunsAreComplete }

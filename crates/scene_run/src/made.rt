@@ -49,7 +49,7 @@ fn push_count(text: &mut Summary, words: &[u8], number: u32)
     push_number(text, number);
 }
 
-/// How many frames were done, and how many faulted, by the outcome of one line.
+/// How many frames were done, and how many faulted, according to the outcome of one line.
 fn ends_of(outcome: Option<Outcome>) -> (u32, u32)
     ensures { result ≡ (done_in outcome, faults_in outcome) }
 {
@@ -157,7 +157,7 @@ impl Making {
         text
     }
 
-    /// How the run ended, if its lines were answered: by what was counted of them.
+    /// How the run ended, if its lines were answered: according to what was counted of them.
     fn status(&self) -> Status
         ensures { result ≡ (if nat_lt 0 self.now.refused || nat_lt 0 self.now.faults
             then Status.Noted else Status.Done) }

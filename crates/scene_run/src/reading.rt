@@ -45,7 +45,7 @@ pub fn read_script<S: Source, L: Sink, P: Panel>(
     read_pieces(&mut runner, source, log, panel)
 }
 
-/// The same with a runner that has read nothing yet.
+/// Reads the script to its end, piece by piece. The runner has read nothing before.
 fn read_pieces<S: Source, L: Sink, P: Panel>(
     runner: &mut Runner,
     source: &mut S,

@@ -14,7 +14,7 @@ use scene_script::limits_of;
 use std::alloc::Global;
 
 /// Reads the words, opens the machine and the panel, reads the script line by line, writes the replies to the
-/// log and presents each finished frame. Where the words ask for a made script nothing is read: its lines are
+/// log and presents each finished frame. If the words ask for a made script, nothing is read: its lines are
 /// answered in the same way, and the log gets one line that counts them.
 ///
 /// For every script and however the panel fails, each frame written is the picture that painting afresh, back
@@ -36,12 +36,12 @@ pub fn run_scene<S: Source, L: Sink, P: Panel>(
         (outside (S.state source.old) (L.state log.old) (P.state panel.old))
         (outside (S.state source.new) (L.state log.new) (P.state panel.new)) result }
 
-    // Where no byte is read, what was handed in stays as it is, and not only what is told of it.
+    // If no byte is read, what was handed in stays as it is, and not only what is told of it.
     ensures unread { IfUnstarted result (source.new ≡ source.old) }
     ensures unwritten { IfUnstarted result (log.new ≡ log.old) }
     ensures unopened { result ≡ Status.Usage → panel.new ≡ panel.old }
 
-    // Where a made script is asked for, the source stays as it is too, also where it tells nothing.
+    // If a made script is asked for, the source stays as it is too, also if it tells nothing.
     ensures made { AsksMade (limits_of (map (λ w. w.now) words.now)) → source.new ≡ source.old }
 {
     let limits = match limits_of(alloc, words) {

@@ -27,6 +27,7 @@ asked_in [] = None
 asked_in (a ∷ []) = None
 asked_in (a ∷ b ∷ words) = if a == 35 && b == 63 then Some words else None
 
+-- a part of an object, by its name
 abbrev pub part : Field Part
 part = name_in (table {A = Part} PARTS) Main
 
@@ -39,6 +40,7 @@ abbrev pub pools_said : Word → Reading (Option Pool)
 pools_said [] = Ok None
 pools_said (byte ∷ bytes) = or_syntax (option_map Some (pool_named (byte ∷ bytes)))
 
+-- the pool that is asked for, or none for all
 abbrev pub pools : Field (Option Pool)
 pools = record { says = pools_said; stand_in = None }
 
@@ -59,6 +61,7 @@ abbrev pub said_or_none : {A : Type 0} → Reading A → Option A
 said_or_none (Ok a) = Some a
 said_or_none (Err fault) = None
 
+-- the question of a name with these words after it, if they are its fields
 abbrev pub question_by : Option QuestionName → List Word → Option Question
 question_by None words = None
 question_by (Some name) words = said_or_none (ended (question_fields name (start words)))

@@ -57,8 +57,8 @@ impl Cutter {
         }
     }
 
-    /// Takes a byte of the script. A newline ends the line: `Line` where it has at most 4,096 bytes, else
-    /// `Long`. The byte after that begins the next line.
+    /// Takes a byte of the script. A newline ends the line: `Line` if it has at most 4,096 bytes, else `Long`.
+    /// The byte after that begins the next line.
     #[tactic(auto, using(crate::proofs::Cuts::pushed_takes))]
     pub fn push(&mut self, byte: u8) -> Cut
         ensures state { self.new ≡ pushed self.old byte }
@@ -83,8 +83,8 @@ impl Cutter {
         }
     }
 
-    /// Ends the line at the end of the script, as [`Cutter::push`] does at a newline, but answers `More`
-    /// where the line has no byte.
+    /// Ends the line at the end of the script, as [`Cutter::push`] does at a newline, but answers `More` if the
+    /// line has no byte.
     pub fn finish(&mut self) -> Cut
         ensures state { self.new ≡ finished self.old }
         ensures finishes { Finishes self.old self.new }
@@ -100,8 +100,8 @@ impl Cutter {
         self.answer
     }
 
-    /// The line, where the last answer was `Line`. One carriage return at its end is left out where a newline
-    /// ended the line.
+    /// The line, if the last answer was `Line`. One carriage return at its end is left out if a newline ended
+    /// the line.
     pub fn line(&self) -> &[u8]
         requires { self.now.answer ≡ Cut.Line }
         ensures { IsSomeAnd self.now.bytes (λ bytes. result.now ≡ line_of self.now.last bytes) }
@@ -113,7 +113,7 @@ impl Cutter {
         }
     }
 
-    /// Begins the next line where the last one is whole.
+    /// Begins the next line if the last one is whole.
     fn begin(&mut self)
         ensures { self.new ≡ record { bytes = begun self.old; answer = Cut.More; last = false } }
     {

@@ -312,7 +312,7 @@ impl<'a> Fields<'a> {
         self.name(&PROPS, Prop::BgColor)
     }
 
-    /// A pool, or where no word is left all of them.
+    /// A pool, or all of them if no word is left.
     #[tactic(auto, unfolding(run_defs::specs::Fields::value, run_defs::specs::Fields::past))]
     pub(crate) fn pools(&mut self) -> Option<Pool>
         ensures value { result ≡ value pools self.old }
@@ -367,7 +367,7 @@ impl<'a> Fields<'a> {
         self.name(&TEXT_ALIGNS, TextAlign::Left) as i32
     }
 
-    /// What the line says, where this was its last field.
+    /// What the line says, if this was its last field.
     pub(crate) fn end(&self, made: Line<'a>) -> Result<Line<'a>, LineFault>
         ensures { result ≡ ended (fields made.entry self.now) }
     {
@@ -380,7 +380,7 @@ impl<'a> Fields<'a> {
         }
     }
 
-    /// What a question asks, where this was its last field: None where it is at fault.
+    /// What a question asks, if this was its last field: None if it is at fault.
     pub(crate) fn whole<T: Copy>(&self, made: T) -> Option<T>
         ensures { result ≡ said_or_none (ended (fields made self.now)) }
     {
@@ -390,7 +390,7 @@ impl<'a> Fields<'a> {
         Some(made)
     }
 
-    /// The next word, or the empty one where there is none.
+    /// The next word, or the empty one if there is none.
     fn word(&mut self) -> &'a [u8]
         ensures word { result.now ≡ next_of self.old.rest }
         ensures state { self.new ≡ record { fault = self.old.fault; rest = after_next self.old.rest } }
@@ -404,7 +404,7 @@ impl<'a> Fields<'a> {
         }
     }
 
-    /// What a field says. Where it is at fault the fault is noted, and the stand-in is answered.
+    /// What a field says. If it is at fault, the fault is noted, and the stand-in is answered.
     fn note<T: Copy>(&mut self, said: Result<T, LineFault>, stand_in: T) -> T
         ensures value { result ≡ value_or stand_in said }
         ensures state { self.new ≡ record { fault = with_fault self.old.fault said; rest = self.old.rest } }

@@ -291,9 +291,9 @@ fn limits_found(matches: &ArgMatches) -> Option<Limits>
     )
 }
 
-/// The limits that the words of the command line ask for, if they have limits: the width, the height and
-/// the lines, and then what they set of the pools, which made script, and which blocks the panel takes. A word
-/// that begins with a dash has none.
+/// The limits that the words of the command line ask for, if they have limits. The words are the width, the
+/// height and the lines, and then what they set: the pools, a made script, and the blocks that the panel takes.
+/// A word that begins with a dash has none.
 #[tactic(auto, using(crate::proofs::LimitLemmas::dash_has_none, crate::proofs::LimitLemmas::few_have_none))]
 pub fn limits_of(alloc: Global, words: &[&str]) -> Result<Option<Limits>, NoMemory>
     ensures { IfOk result (λ limits. option_map bounds_of limits ≡ limits_of (map (λ w. w.now) words.now)) }

@@ -14,7 +14,7 @@ use scene_defs::RowBytes;
 /// Beyond the ends of every interval: a number that is farther from 0 is read as this one.
 const BEYOND: u64 = 4_294_967_296;
 
-/// A number from `low` to `high`: syntax where the word is no number, and range where it is outside.
+/// A number from `low` to `high`: syntax if the word is no number, and range if it is outside.
 pub(crate) fn number(word: &[u8], low: i32, high: i32) -> Result<i32, LineFault>
     ensures { result ≡ number low high word.now }
 {
@@ -30,8 +30,8 @@ pub(crate) fn number_above(word: &[u8], low: i32, high: i32) -> Result<i32, Line
     Ok(n as i32)
 }
 
-/// A number from `low` to `high`, which are not below 0: syntax where the word is no number, and range where
-/// it is outside.
+/// A number from `low` to `high`, which are not below 0: syntax if the word is no number, and range if it is
+/// outside.
 #[tactic(auto, unfolding(run_defs::specs::Numbers::natural, run_defs::specs::Numbers::number))]
 pub fn natural(word: &[u8], low: u32, high: u32) -> Result<u32, LineFault>
     ensures value { result ≡ natural low high word.now }
@@ -93,8 +93,8 @@ fn is_between(low: i64, n: i64, high: i64) -> bool
     low <= n && n <= high
 }
 
-/// The number of a word, brought to the nearer end of -2^32 to 2^32 where it is outside; None where the word
-/// is no number.
+/// The number of a word, brought to the nearer end of -2^32 to 2^32 if it is outside; None if the word is no
+/// number.
 fn capped_number(word: &[u8]) -> Option<i64>
     ensures { result ≡ option_map capped (number_of word.now) }
 {
@@ -105,7 +105,7 @@ fn capped_number(word: &[u8]) -> Option<i64>
     capped_natural(word)
 }
 
-/// What `0`, or digits that begin with 1 to 9, come to, or 2^32 where that is more; None where it is neither.
+/// What `0`, or digits that begin with 1 to 9, come to, or 2^32 if that is more; None if it is neither.
 fn capped_natural(word: &[u8]) -> Option<i64>
     ensures { result ≡ (if is_number word.now then Some (pos (min (value_of word.now) beyond)) else None) }
 {
@@ -116,7 +116,7 @@ fn capped_natural(word: &[u8]) -> Option<i64>
     }
 }
 
-/// What digits come to, or 2^32 where that is more; None where a byte is no digit.
+/// What digits come to, or 2^32 if that is more; None if a byte is no digit.
 fn capped_value(digits: &[u8]) -> Option<i64>
     ensures { result ≡ (if list_all is_digit digits.now
         then Some (pos (min (value_of digits.now) beyond)) else None) }

@@ -11,9 +11,9 @@ use run_defs::{Line, LineFault};
 /// The longest line in bytes.
 pub(crate) const MAX_LINE: usize = 4096;
 
-/// What a line of the script says, given without its newline and without the carriage return before that. Of
-/// the faults that apply the first is answered: a line of more than 4,096 bytes is long, also a comment; one
-/// without a form of the language is syntax; and one with a number outside its interval is range.
+/// What a line of the script says, given without its newline and without the carriage return before that. The
+/// first of the faults that apply is answered. A line of more than 4,096 bytes is long, also a comment. A line
+/// without a form of the language is syntax. A line with a number outside its interval is range.
 pub fn parse_line(line: &[u8]) -> Result<Line, LineFault>
     ensures { result ≡ parse line.now }
 {

@@ -5,7 +5,7 @@ ghost use Rattle.scene_script.specs.Questions.{pool_named, pools_said};
 use gui_base::{POOLS, Pool};
 use run_defs::LineFault;
 
-/// The pool of a name, or all of them where there is no word.
+/// The pool of a name, or all of them if there is no word.
 pub(crate) fn pools(word: &[u8]) -> Result<Option<Pool>, LineFault>
     ensures { result ≡ pools_said word.now }
 {

@@ -88,7 +88,7 @@ pub const QUESTIONS: [(&'static str, QuestionName); 16] = [
     ("pending", QuestionName::Pending),
 ];
 
-/// What a line asks, where it begins as a question does: the bytes behind `#?`. Such a line is a comment.
+/// What a line asks, if it begins as a question does: the bytes behind `#?`. Such a line is a comment.
 pub fn asked_in(line: &[u8]) -> Option<&[u8]>
     ensures { option_map (λ words. words.now) result ≡ asked_in line.now }
 {
@@ -98,7 +98,7 @@ pub fn asked_in(line: &[u8]) -> Option<&[u8]>
     }
 }
 
-/// The question that these words ask, or None where they are no question.
+/// The question that these words ask, or None if they are no question.
 #[tactic(auto, unfolding(crate::specs::Questions::question_said))]
 pub fn read_question(words: &[u8]) -> Option<Question>
     ensures { result ≡ question_said (words_of words.now) }

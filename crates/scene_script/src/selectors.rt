@@ -20,7 +20,7 @@ pub(crate) fn selector(word: &[u8]) -> Option<Selector>
     }
 }
 
-/// A part, and the states after its colon where it has one.
+/// A part, and the states after its colon if it has one.
 #[tactic(auto, unfolding(run_defs::specs::Selectors::selector_named))]
 fn part_and_states(word: &[u8]) -> Option<Selector>
     ensures { result ≡ selector_named word.now }

@@ -5,7 +5,7 @@ ghost use Rattle.run_defs.specs.Texts.{text_said};
 use run_defs::LineFault;
 use scene_defs::{MOST_TEXT, Text};
 
-/// A text between quotes: syntax where the word is none, and range where it is too long.
+/// A text between quotes: syntax if the word is none, and range if it is too long.
 #[tactic(auto, unfolding(run_defs::specs::Texts::text_said))]
 pub(crate) fn text(word: &[u8]) -> Result<Text, LineFault>
     ensures { result ≡ text_said word.now }

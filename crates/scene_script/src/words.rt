@@ -44,7 +44,7 @@ fn trimmed(bytes: &[u8]) -> &[u8]
     rest
 }
 
-/// What stands before the first such byte, and what stands behind it, where there is one.
+/// What stands before the first such byte, and what stands behind it, if there is one.
 #[tactic(auto, using(crate::proofs::WordLemmas::cuts))]
 pub(crate) fn cut(bytes: &[u8], at: u8) -> (&[u8], Option<&[u8]>)
     ensures before { result.0.now ≡ before_first (λ b. b == at) bytes.now }

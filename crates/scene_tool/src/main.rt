@@ -1,9 +1,9 @@
 //! Reads a script from standard input, and writes the frames to standard output and the log to standard error.
-//! Where the first word is `dcs` the panel is one behind a controller in memory, turned as the next word says. Where it
-//! is `bdf` it reads a font instead, and where it is `json` a tree of objects, and writes the lines of a script that
-//! make it. Where it is `host` standard output gets a stream of what changes in place of whole frames, and questions are
-//! answered among the lines of the log. Where it is `rfb` what follows the script is what a viewer sends, and standard
-//! output is what it gets.
+//! If the first word is `dcs`, the panel is one behind a controller in memory, turned as the next word says. If
+//! it is `bdf`, it reads a font instead, and if it is `json`, a tree of objects, and writes the lines of a
+//! script that make it. If it is `host`, standard output gets a stream of what changes in place of whole
+//! frames, and questions are answered among the lines of the log. If it is `rfb`, what follows the script is
+//! what a viewer sends, and standard output is what it gets.
 #![tactic(auto)]
 
 use bdf_font::run_bdf;
@@ -28,7 +28,7 @@ fn words(rt: &HostRuntime) -> io::Result<Vec<String>> {
     Ok(words)
 }
 
-/// The same words as texts.
+/// The words after the program's name, as texts.
 fn texts(alloc: Global, words: &[String]) -> Result<Vec<&str>, AllocError> {
     let mut texts = Vec::new(alloc);
     for word in words {

@@ -13,6 +13,7 @@ use Rattle.session_defs.specs.declared.Format.{Format}
 use Rattle.session_defs.specs.declared.RfbBad.{RfbBad}
 use Rattle.session_defs.specs.declared.RfbBad.TheVariants as bad
 
+-- what a viewer says with one message, by its meaning for the session
 pub data Message : Type 0 where
   -- from now on pixels are wanted in this format
   Wants : (format : Format) → Message
@@ -38,11 +39,13 @@ size_from kind bytes =
     else if kind == 6 then (if nat_lt (length bytes) 8 then 8 else 8 + thirty_two_at bytes 4)
     else 1
 
+-- how many bytes a message has that begins so, or how many tell that
 abbrev pub size_of_message : List ℕ → ℕ
 size_of_message bytes = size_from (at bytes 0) bytes
 
 -- Keys.
 
+-- the key of a symbol of the X window system, if the language has it: Return, Tab, Shift-Tab and the four arrows
 abbrev pub key_of : ℕ → Option Key
 key_of symbol =
     if symbol == 65293 then Some Enter
@@ -54,6 +57,7 @@ key_of symbol =
     else if symbol == 65364 then Some Down
     else None
 
+-- the command of a key that goes down or up, if it is known
 abbrev pub pressed : Option Key → Bool → Option Command
 pressed None down = None
 pressed (Some key) down = Some (Press key down)
@@ -70,10 +74,12 @@ pointed mask x y = if mask % 2 == 1 then Touch (pos (min x farthest)) (pos (min 
 
 -- Messages.
 
+-- a request for a format; one that may not be asked for is a fault
 abbrev pub wanted : Option Format → Message
 wanted None = Errs bad.Format
 wanted (Some format) = Wants format
 
+-- what the bytes of a message of this kind say
 abbrev pub said_by : ℕ → List ℕ → Message
 said_by kind bytes =
     if kind == 0 then wanted (format_at bytes 4)

@@ -11,12 +11,15 @@ use Rattle.session_defs.specs.Viewer.{viewed}
 -- The greeting: twelve bytes of version, two of securities, four that tell that one was chosen, and the screen,
 -- which has its columns and lines, sixteen bytes of a format, and a name after the name's length.
 
+-- how many columns the screen has
 abbrev pub columns_read : List ℕ → ℕ
 columns_read bytes = sixteen_at bytes 18
 
+-- how many lines the screen has
 abbrev pub lines_read : List ℕ → ℕ
 lines_read bytes = sixteen_at bytes 20
 
+-- how many bytes the greeting has
 abbrev pub greeting_size : List ℕ → ℕ
 greeting_size bytes = 42 + thirty_two_at bytes 38
 

@@ -35,6 +35,7 @@ set_by due bytes set = set
 abbrev pub is_answered : Session → Session → Bool
 is_answered old new = is_saying old.due && nat_lt (length (sent_by old)) (length (sent_by new))
 
+-- with a format more, where a message was answered
 abbrev pub with_format : Bool → Format → List Format → List Format
 with_format false format formats = formats
 with_format true format formats = format ∷ formats

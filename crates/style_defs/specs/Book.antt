@@ -11,6 +11,7 @@ use Rattle.style_defs.specs.Cascade.{Style, is_numbered, sets, settings_of, sele
 use Rattle.style_defs.specs.Firsts.{first_by, put_by, drop_by}
 use Rattle.gui_base.specs.Words.{same_prop, same_selector}
 
+-- all values that are set by styles or locally in a scene
 pub record Book : Type 0 where
   -- the shared styles, by their numbers from the least on
   pub styles : List Style
@@ -42,33 +43,42 @@ is_for selector prop entry = same_prop entry.prop prop && same_selector (selecto
 abbrev pub is_use : Use → Use → Bool
 is_use u v = (v.style == u.style) && same_selector v.selector u.selector
 
+-- the local entry of a value of a property, for a selector
 abbrev pub an_entry : Selector → Prop → ℤ → Entry
 an_entry selector prop value =
     record { part = selector.part; prop = prop; states = selector.states; value = value }
 
+-- the use of the style of a number, for a selector
 abbrev pub a_use : ℕ → Selector → Use
 a_use number selector = record { style = number; selector = selector }
 
+-- a property with the value that a style sets
 abbrev pub a_setting : Prop → ℤ → Setting
 a_setting prop value = record { prop = prop; value = value }
 
+-- whether an object sets a property locally for just this selector
 abbrev pub has_local : Book → ℕ → Selector → Prop → Bool
 has_local book h selector prop = is_some (first_by (is_for selector prop) (locals_of book h))
 
+-- whether an object uses a style for just this selector
 abbrev pub has_use : Book → ℕ → Use → Bool
 has_use book h u = is_some (first_by (is_use u) (uses_of book h))
 
+-- whether the style of a number sets a property
 abbrev pub has_setting : Book → ℕ → Prop → Bool
 has_setting book number prop = is_some (first_by (sets prop) (settings_of book.styles number))
 
 -- How many slots are in use.
 
+-- how many properties a style sets
 abbrev pub settings_count : Style → ℕ
 settings_count style = length style.settings
 
+-- how many values are set, by the shared styles and locally; each takes a slot
 abbrev pub entries_in : Book → ℕ
 entries_in book = sum_by settings_count book.styles + sum_by length book.locals
 
+-- how many uses of styles all objects have together
 abbrev pub uses_in : Book → ℕ
 uses_in book = sum_by length book.uses
 

@@ -17,6 +17,7 @@ pub record Style : Type 0 where
   pub number : ℕ
   pub settings : List Setting
 
+-- whether a style has this number
 abbrev pub is_numbered : ℕ → Style → Bool
 is_numbered number style = style.number == number
 
@@ -24,6 +25,7 @@ is_numbered number style = style.number == number
 abbrev pub has_style : List Style → ℕ → Bool
 has_style styles number = is_some (first_by (is_numbered number) styles)
 
+-- what a style sets; nothing where there is none
 abbrev pub settings_in : Option Style → List Setting
 settings_in None = []
 settings_in (Some style) = style.settings
@@ -32,6 +34,7 @@ settings_in (Some style) = style.settings
 abbrev pub settings_of : List Style → ℕ → List Setting
 settings_of styles number = settings_in (first_by (is_numbered number) styles)
 
+-- whether a setting is for this property
 abbrev pub sets : Prop → Setting → Bool
 sets prop setting = same_prop setting.prop prop
 
@@ -47,6 +50,7 @@ is_subset some all = bit_and some all == some
 abbrev pub applies : Part → ℕ → Selector → Bool
 applies part states selector = same_part selector.part part && is_subset selector.states states
 
+-- a value that is set for a selector, as it takes part in the cascade
 abbrev pub candidate : Selector → ℤ → Candidate
 candidate selector value = record { states = selector.states; value = value }
 

@@ -15,9 +15,11 @@ use Rattle.gui_base.specs.Props.{default_of}
 abbrev pub KindRow : Type 0
 KindRow = Part × ℕ × Prop × ℤ
 
+-- a row as an entry that is set locally
 abbrev pub entry_in : KindRow → Entry
 entry_in row = record { part = row.0; prop = row.2; states = row.1; value = row.3 }
 
+-- what each kind sets for its parts beside the bars
 abbrev pub kind_rows : Kind → List KindRow
 kind_rows kind.Screen = SCREEN
 kind_rows kind.Layer = []

@@ -1,4 +1,4 @@
-//! What each kind of object sets by itself: it holds where nothing else is set or inherited.
+//! What each kind of object sets by itself: it holds if nothing else is set or inherited.
 
 use gui_base::{Part, Prop};
 

@@ -4,7 +4,7 @@ ghost use Rattle.style_defs.specs.Laws.{SetWins, NothingAbove, FromAbove, Values
 ghost use Rattle.style_defs.specs.Examples.{CascadesAreWorked, ValuesAreWorked};
 
 /// What wins is the greatest of all that applies: by its states, then local over shared, then by its place.
-/// Nothing wins exactly where nothing applies.
+/// Nothing wins exactly if nothing applies.
 pub fn winner_is_greatest()
     ensures winner { WinnerIsGreatest }
     ensures none { NoneWinsOfNone }
@@ -17,7 +17,7 @@ pub fn nearest_value_holds()
     ensures inherited { FromAbove }
 {}
 
-/// Where each value that is set is one of its property's, the value of a property is.
+/// If each value that is set is one of its property's, the value of a property is.
 pub fn values_in_range()
     ensures { ValuesInRange }
 {}

@@ -10,8 +10,8 @@ ghost use Rattle.table_checks.specs.Properties.{PropertiesAreThese, StatesAreThe
 ghost use Rattle.table_checks.specs.Words.{WordsAreThese, CommandsAreThese, LinesAreThese};
 ghost use Rattle.table_checks.specs.Kinds.{NewRowsAreThese, KindsSetThese};
 
-/// The pools with their names, ranges and defaults, and what the words of the command line make of them: each
-/// pool may have as many slots as it may at most and at least, and one more has no limits.
+/// The pools with their names, ranges and defaults, and what the words of the command line make of them. Each
+/// pool takes the least and the greatest number of its range. For one more slot there are no limits.
 pub fn pools()
     ensures rows { PoolsAreThese }
     ensures defaults { DefaultsAreThese }

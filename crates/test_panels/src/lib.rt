@@ -18,7 +18,7 @@ pub struct ListingPanel<P: Panel> {
     pub starts: ArrayVec<[i32; 4], 16>,
     /// How many pixels were sent for each of the first frames, after the one before.
     pub counts: ArrayVec<u64, 8>,
-    /// The sizes in pixels: 0 where it is not opened.
+    /// The sizes in pixels: 0 if it is not opened.
     pub width: u16,
     pub height: u16,
     // What was sent since the last frame.

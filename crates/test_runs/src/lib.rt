@@ -99,7 +99,8 @@ impl Outside {
         Outside::with_moves(alloc, script, piece, faults, Vec::new(alloc))
     }
 
-    /// The same with a panel of which each poll moves so many pixels, as far as they are listed.
+    /// A script of which a read gives at most `piece` bytes, an empty log and a panel that is not opened. Each
+    /// poll moves as many pixels as are listed for it, and all pixels after the last listed number.
     pub fn with_moves(
         alloc: Global,
         script: Vec<u8>,

@@ -12,10 +12,11 @@ is_finished fonts name = unwrap_or (finished fonts name) false
 abbrev pub is_whole : Glyph → Bool
 is_whole g = length g.rows == glyph_bytes g.shape
 
--- The tests of an edit, in order: of a new font, of a glyph for a font, and of the end of a font.
+-- the tests of a new font
 abbrev pub begin_tests : List Font → ℕ → List Test
 begin_tests fonts name = (has_font fonts name, Taken) ∷ []
 
+-- the tests of a glyph for a font, in order
 abbrev pub glyph_tests : List Font → ℕ → Glyph → List Test
 glyph_tests fonts name g =
     (not (has_font fonts name), Unknown)
@@ -24,6 +25,7 @@ glyph_tests fonts name g =
     ∷ (not (is_whole g), Place)
     ∷ []
 
+-- the tests of the end of a font, in order
 abbrev pub finish_tests : List Font → ℕ → List Test
 finish_tests fonts name = (not (has_font fonts name), Unknown) ∷ (is_finished fonts name, Place) ∷ []
 
@@ -36,6 +38,7 @@ new_font name height advance =
 abbrev pub with_font : List Font → ℕ → ℕ → ℕ → List Font
 with_font fonts name height advance = fonts ++ new_font name height advance ∷ []
 
+-- a font, with a glyph more if it is the one of this number
 abbrev pub given : ℕ → Glyph → Font → Font
 given name g font = if name == font.name then record font { glyphs = font.glyphs ++ g ∷ [] } else font
 
@@ -43,6 +46,7 @@ given name g font = if name == font.name then record font { glyphs = font.glyphs
 abbrev pub with_glyph : List Font → ℕ → Glyph → List Font
 with_glyph fonts name g = map (given name g) fonts
 
+-- a font, finished if it is the one of this number
 abbrev pub done : ℕ → Font → Font
 done name font = if font.name == name then record font { finished = true } else font
 

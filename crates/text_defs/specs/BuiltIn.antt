@@ -14,10 +14,12 @@ has_built_in code = nat_le 32 code && nat_lt code 127
 unfoldable pub column_of : ℕ → ℕ → ℕ
 column_of code x = slice_index COLUMNS (5 * (code - 32) + x)
 
+-- whether a point of a cell is set, counted from its top left
 abbrev pub dot_in : ℕ → ℤ → ℤ → Bool
 dot_in code (pos x) (pos y) = has_built_in code && (nat_lt x 5 && nat_lt y 7) && bit (column_of code x) y
 dot_in code (negsuc x) y = false
 dot_in code (pos x) (negsuc y) = false
 
+-- the built-in font, as texts need it
 abbrev pub built_in : Face
 built_in = record { height = HEIGHT; cell = λ code. record { advance = ADVANCE; dot = dot_in code } }

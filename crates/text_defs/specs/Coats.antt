@@ -16,6 +16,7 @@ abbrev pub is_inked : Rect → Face → TextLook → List ℕ → ℤ → ℤ �
 is_inked area face look cs x y =
     inked face look.letter look.line look.align cs (width_of area) (x -ℤ area.x1) (y -ℤ area.y1)
 
+-- a text in an area: one colour with one opacity on each pixel that is inked
 abbrev pub ink_coat : Rect → Face → TextLook → List ℕ → Rgb565 → ℕ → Coat
 ink_coat area face look cs color opa = within area (only (is_inked area face look cs) (plain color opa))
 

@@ -7,6 +7,7 @@ pub record Cell : Type 0 where
   pub advance : ℕ
   pub dot : ℤ → ℤ → Bool
 
+-- the height of the lines in pixels, and the cell of the character of each code
 pub record Face : Type 0 where
   pub height : ℕ
   pub cell : ℕ → Cell

@@ -8,6 +8,7 @@ use Rattle.gui_base.specs.declared.words.Format.TheVariants as format
 use Rattle.gui_base.specs.Refusing.{Test, Unknown, Taken, Place}
 use Rattle.text_defs.specs.declared.Texel.{Texel}
 
+-- an image that a script builds: it takes its rows from the top until it is finished
 pub record Image : Type 0 where
   -- its number
   pub name : ℕ
@@ -23,10 +24,11 @@ texel_size format.Rgb565 = 2
 texel_size format.Rgb565Alpha = 3
 texel_size format.Alpha = 1
 
--- the bytes of a row, and of all rows
+-- the bytes of a row
 abbrev pub row_length : Image → ℕ
 row_length image = image.width * texel_size image.format
 
+-- the bytes of all rows of an image, whose sizes are in pixels
 abbrev pub image_bytes : Format → ℕ → ℕ → ℕ
 image_bytes format w h = h * (w * texel_size format)
 
@@ -46,10 +48,12 @@ unfoldable pub texel_at : Image → ℕ → ℕ → Texel
 texel_at image x y =
     texel_in image.format image.bytes (y * row_length image + x * texel_size image.format)
 
+-- the image of a number, if there is one
 abbrev pub image_of : List Image → ℕ → Option Image
 image_of [] name = None
 image_of (image ∷ images) name = if image.name == name then Some image else image_of images name
 
+-- whether there is an image of this number, finished or not
 abbrev pub has_image : List Image → ℕ → Bool
 has_image images name = is_some (image_of images name)
 
@@ -61,9 +65,11 @@ is_done image = length image.bytes == image_bytes image.format image.width image
 abbrev pub finished : List Image → ℕ → Option Bool
 finished images name = option_map is_done (image_of images name)
 
+-- the width and the height of an image that is finished, in pixels
 abbrev pub size_if_done : Image → Option (ℕ × ℕ)
 size_if_done image = if is_done image then Some (image.width, image.height) else None
 
+-- the same of an image, if there is one
 abbrev pub size_or : Option Image → Option (ℕ × ℕ)
 size_or None = None
 size_or (Some image) = size_if_done image
@@ -72,6 +78,7 @@ size_or (Some image) = size_if_done image
 abbrev pub size_in : List Image → ℕ → Option (ℕ × ℕ)
 size_in images name = size_or (image_of images name)
 
+-- the texel of a pixel of an image; where there is none, it covers nothing
 abbrev pub texel_or : Option Image → ℕ → ℕ → Texel
 texel_or None x y = record { color = None; alpha = 0 }
 texel_or (Some image) x y = texel_at image x y
@@ -85,14 +92,16 @@ abbrev pub takes_row : Image → ℕ → ℕ → Bool
 takes_row image y len =
     nat_lt y image.height && (y * row_length image == length image.bytes) && (len == row_length image)
 
+-- whether there is an image whose next row is row y, of this many bytes
 abbrev pub takes_if : Option Image → ℕ → ℕ → Bool
 takes_if None y len = false
 takes_if (Some image) y len = takes_row image y len
 
--- The tests of an edit, in order: of a new image, and of a row of an image.
+-- the tests of a new image
 abbrev pub begin_tests : List Image → ℕ → List Test
 begin_tests images name = (has_image images name, Taken) ∷ []
 
+-- the tests of a row of an image, in order
 abbrev pub row_tests : List Image → ℕ → ℕ → List ℕ → List Test
 row_tests images name y bytes =
     (not (has_image images name), Unknown)

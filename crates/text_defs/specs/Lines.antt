@@ -12,9 +12,11 @@ pub record LineSetting : Type 0 where
   pub letter : ℕ
   pub most : Option ℕ
 
+-- the code of the newline
 abbrev pub newline : ℕ
 newline = 10
 
+-- the code of the space
 abbrev pub space : ℕ
 space = 32
 
@@ -30,6 +32,7 @@ advances face cs = sum_by (λ c. (face.cell c).advance) cs
 unfoldable pub run_width : LineSetting → List ℕ → ℕ
 run_width s cs = advances s.face cs + s.letter * (length cs - 1)
 
+-- whether a width is at most as wide as a line may be; without a limit each is
 abbrev pub is_within : Option ℕ → ℕ → Bool
 is_within None width = true
 is_within (Some most) width = nat_le width most
@@ -59,6 +62,7 @@ ends_in_space cs n = slice_index cs (n - 1) == space
 abbrev pub after_space : List ℕ → ℕ → ℕ
 after_space cs n = greatest (ends_in_space cs) n
 
+-- a number, or another one where it is 0
 abbrev pub or_else : ℕ → ℕ → ℕ
 or_else zero n = n
 or_else (suc m) n = suc m

@@ -3,7 +3,7 @@
 /// How high its lines are, in pixels.
 pub const HEIGHT: u8 = 8;
 
-/// How far each of its characters takes the next one, in pixels.
+/// How far the next character stands from each of its characters, in pixels.
 pub const ADVANCE: u8 = 6;
 
 /// Its glyphs of 5 by 7 pixels: for each code in order five columns from the left, bit 0 the top row.

@@ -3,7 +3,7 @@ ghost use Rattle.text_defs.specs.Examples.{LinesAreWorked, InkIsWorked, ImagesAr
 ghost use Rattle.text_defs.specs.Laws.{LinesEndByRule, WideLinesEndAtNewlines};
 ghost use Rattle.text_defs.specs.Reference.{BuiltInLines, UnevenLines};
 
-/// A segment goes whole into one line where it fits; else its first line ends after the last space that fits,
+/// A segment goes whole into one line if it fits. Otherwise its first line ends after the last space that fits,
 /// or after as many characters as fit. In a width of at least the widest run, lines end at newlines alone.
 #[tactic(auto, using(crate::proofs::Ending::line_ends, crate::proofs::Ending::wide_lines_end_at_newlines))]
 pub fn lines_end_by_rule()

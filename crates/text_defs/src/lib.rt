@@ -29,7 +29,7 @@ pub struct Line {
     pub width: i32,
 }
 
-/// How far a glyph takes the next character, and the box of its bits. All numbers are pixels.
+/// How far the next character stands from a glyph, and the box of the glyph's bits. All numbers are pixels.
 #[derive(Clone, Copy, Debug, PartialEq, Eq)]
 pub struct GlyphBox {
     /// From 0 to 64.
@@ -47,8 +47,8 @@ pub struct GlyphBox {
 /// What a pixel of an image holds.
 #[derive(Clone, Copy, Debug, PartialEq, Eq)]
 pub struct Texel {
-    /// Its colour: `None` where the image holds opacities alone.
+    /// Its colour: `None` if the image holds opacities alone.
     pub color: Option<Rgb565>,
-    /// Its opacity: 255 where the image holds colours alone.
+    /// Its opacity: 255 if the image holds colours alone.
     pub alpha: u8,
 }

@@ -27,10 +27,12 @@ pub record Item : Type 0 where
 abbrev pub rgb_of : ℤ → Rgb565
 rgb_of value = let n = number_of value in color (n / 65536 / 8) (n / 256 % 256 / 4) (n % 256 / 8)
 
+-- the fill of an area in the background colour of a part
 abbrev pub fill_of : Rect → PartValues → Item
 fill_of area values =
     record { area = area; paint = Fill (rgb_of (values prop.BgColor)) (number_of (values prop.BgOpa)) }
 
+-- the ring of the border of a part, along the inside of an area
 abbrev pub ring_of : Rect → PartValues → Item
 ring_of area values =
     record {
@@ -72,19 +74,21 @@ abbrev pub share_area : Look → Rect → Rect
 share_area look content =
     area_at content.x1 content.y1 (share_of look (width_of content)) (height_of content)
 
--- the side of a knob, and the square where the value puts it
+-- the side of a knob: the lesser side of the content area
 abbrev pub knob_side : Rect → ℕ
 knob_side content = min (width_of content) (height_of content)
 
+-- the square of a knob, where the value puts it
 abbrev pub knob_area : Look → Rect → Rect
 knob_area look content =
     let side = knob_side content in
     area_at (content.x1 +ℤ pos (share_of look (width_of content - side))) content.y1 side side
 
--- the box of a checkbox, as high as a line, and its text, as large as it is by itself
+-- the box of a checkbox, a square as high as a line
 abbrev pub box_area : Look → Rect → Rect
 box_area look content = area_at content.x1 content.y1 look.face.height look.face.height
 
+-- the area of a checkbox's text, right of its box and as large as the text is by itself
 abbrev pub caption_area : Look → Rect → Rect
 caption_area look content =
     let size = text_size look None in
@@ -95,6 +99,7 @@ abbrev pub image_area : ImageLook → Rect → Rect
 image_area image content =
     area_at content.x1 content.y1 (min image.w (width_of content)) (min image.h (height_of content))
 
+-- an image in its area, if there is one
 abbrev pub picture_of : Option ImageLook → PartValues → Rect → List Item
 picture_of None values content = []
 picture_of (Some image) values content =
@@ -134,7 +139,7 @@ bar_length size inner reach = min size (max 8 (size * inner / (inner + reach)))
 abbrev pub bar_start : ℕ → ℕ → ℕ → ℕ → ℕ
 bar_start size length reach offset = (size - length) * offset / reach
 
--- the bar at the right of an object, and the one at its bottom, each four pixels wide and cut to the object
+-- the bar at the right of an object, four pixels wide and cut to the object
 abbrev pub right_bar : Look → Rect → Rect
 right_bar look area =
     let high = height_of area in
@@ -142,6 +147,7 @@ right_bar look area =
     let start = bar_start high length look.reach.1 look.offset.1 in
     common area (area_at (area.x2 -ℤ pos 3) (area.y1 +ℤ pos start) 4 length)
 
+-- the bar at the bottom of an object, four pixels high and cut to the object
 abbrev pub bottom_bar : Look → Rect → Rect
 bottom_bar look area =
     let wide = width_of area in

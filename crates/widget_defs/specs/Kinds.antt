@@ -10,6 +10,7 @@ use Rattle.widget_defs.specs.declared.kinds.Shown.TheVariants as shown
 use Rattle.widget_defs.specs.declared.kinds.TheConstants.{SCREEN, LAYER, OBJ, LABEL, BUTTON, IMAGE, BAR}
 use Rattle.widget_defs.specs.declared.kinds.TheConstants.{SLIDER, CHECKBOX, LIST}
 
+-- the row of each kind, as the table of the code has it
 abbrev pub facts : Kind → KindFacts
 facts kind.Screen = SCREEN
 facts kind.Layer = LAYER
@@ -26,13 +27,15 @@ facts kind.List = LIST
 abbrev pub first_flags : Kind → ℕ
 first_flags kind = (facts kind).flags
 
--- its wanted width and height; those of roots are not asked
+-- the wanted width of a new object; that of a root is not asked
 abbrev pub first_width : Kind → Length
 first_width kind = (facts kind).width
 
+-- the wanted height of a new object; that of a root is not asked
 abbrev pub first_height : Kind → Length
 first_height kind = (facts kind).height
 
+-- the flow of a new object
 abbrev pub first_flow : Kind → Flow
 first_flow kind = (facts kind).flow
 

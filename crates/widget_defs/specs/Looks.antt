@@ -48,6 +48,7 @@ PartValues = Prop → ℤ
 abbrev pub AreValues : PartValues → Type 0
 AreValues values = (prop : Prop) → is_value prop (values prop) ≡ true
 
+-- all of an object that its items go by, with its styles looked up
 pub record Look : Type 0 where
   pub kind : Kind
   pub main : PartValues

@@ -23,22 +23,25 @@ image_size (Some image) = (image.w, image.h)
 abbrev pub text_offset : Look → ℕ
 text_offset look = look.face.height + number_of (look.main prop.PadColumn)
 
--- the width of what is shown, and its height where the content area is so wide
+-- the width of what is shown, in pixels
 abbrev pub shown_width : Shown → Look → ℕ
 shown_width shown.Text look = (text_size look None).0
 shown_width shown.Picture look = (image_size look.image).0
 shown_width shown.BoxAndText look = text_offset look + (text_size look None).0
 shown_width what look = 0
 
+-- the height of what is shown, in pixels, where the content area is so wide
 abbrev pub shown_height : Shown → Look → ℕ → ℕ
 shown_height shown.Text look content = (text_size look (Some content)).1
 shown_height shown.Picture look content = (image_size look.image).1
 shown_height shown.BoxAndText look content = max look.face.height (text_size look None).1
 shown_height what look content = 0
 
+-- the width of what a kind shows by itself
 abbrev pub width_by : Kind → Look → ℕ
 width_by kind look = shown_width (shows kind) look
 
+-- the height of what a kind shows by itself, where the content area is so wide
 abbrev pub height_by : Kind → Look → ℕ → ℕ
 height_by kind look content = shown_height (shows kind) look content
 

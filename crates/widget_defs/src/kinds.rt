@@ -1,4 +1,4 @@
-//! What a kind of object is: one row for each, which definitions and code cite.
+//! What a kind of object is. Each kind has one row, and definitions and code cite it.
 
 use gui_base::{Flow, Kind, Length};
 
@@ -11,13 +11,14 @@ pub enum Shown {
     Picture,
     /// The indicator, over as much of the width as the value is of its range.
     Share,
-    /// The same, and the knob where the value puts it.
+    /// The indicator, over as much of the width as the value is of its range, and the knob where the value puts
+    /// it.
     ShareAndKnob,
     /// The indicator as a box, and the text beside it.
     BoxAndText,
 }
 
-/// What is so of all objects of a kind.
+/// What all objects of a kind have in common.
 #[derive(Clone, Copy, Debug, PartialEq, Eq)]
 pub struct KindFacts {
     /// The flags that are on at a new one, a bit for each, as [`gui_base::Flag::bit`] says.
@@ -35,7 +36,7 @@ pub struct KindFacts {
     pub value: bool,
     /// It may be given a picture.
     pub picture: bool,
-    /// Its value goes by where it is pressed, and by arrows.
+    /// Its value depends on where it is pressed, and on arrows.
     pub slides: bool,
 }
 
@@ -45,7 +46,7 @@ const CHECKABLE: u8 = 4;
 
 const SCROLLABLE: u8 = 16;
 
-/// What a kind is where its row says nothing else.
+/// What a kind is if its row says nothing else.
 const PLAIN: KindFacts = KindFacts {
     flags: CLICKABLE,
     width: Length::Pixels(100),

@@ -3,8 +3,8 @@ ghost use Rattle.widget_defs.specs.Laws.{SharesFollowValues, KnobsStayInside, Ch
 ghost use Rattle.widget_defs.specs.Reference.{ReferenceBars, ReferenceItems, ReferenceSizes};
 ghost use Rattle.widget_defs.specs.Examples.{ItemsAreWorked, BarsAreWorked, SizesAreWorked, KindsAreThese};
 
-/// The share of a bar that is filled is empty at the least value and whole at the greatest, and a greater
-/// value never fills less.
+/// The filled share of a bar is empty at the least value and whole at the greatest. A greater value never fills
+/// less.
 pub fn shares_follow_values()
     ensures { SharesFollowValues }
 {}
@@ -14,9 +14,9 @@ pub fn knobs_stay_inside()
     ensures { KnobsStayInside }
 {}
 
-/// The bars of a scrollable object lie in its place, along its right edge and its bottom. Each begins at the first line
-/// where the children are not moved, ends at the last one where they are moved as far as they reach, and never goes back
-/// where they are moved further.
+/// The bars of a scrollable object lie in its place, along its right edge and its bottom. Each begins at the
+/// first line if the children are not moved, ends at the last one if they are moved as far as they reach, and
+/// never goes back if they are moved further.
 pub fn bars_follow_offsets()
     ensures { BarsFollowOffsets }
 {}

@@ -1,5 +1,5 @@
-//! The definitions of widgets: what a kind of object is, what an object of each kind paints, and how large
-//! what it shows is by itself.
+//! The definitions of widgets: what a kind of object is, what an object of each kind paints, and the own size
+//! of what it shows.
 #![tactic(auto)]
 
 pub mod kinds;

@@ -61,7 +61,7 @@ fn last_in(kind: Kind, fonts: &Fonts, width: u32, height: u32) -> Last
     last_of(items(&look(kind, fonts), place).as_slice())
 }
 
-/// The same by what is kept of it.
+/// How many items a kind paints, and the last area, according to the record that is kept of what it paints.
 fn last_kept(kind: Kind, fonts: &Fonts, width: u32, height: u32) -> Last
     requires wide { width ≤ 3000 }
     requires high { height ≤ 3000 }
@@ -70,7 +70,7 @@ fn last_kept(kind: Kind, fonts: &Fonts, width: u32, height: u32) -> Last
     last_of(paints(&look(kind, fonts), place).items().as_slice())
 }
 
-/// The same of each kind.
+/// How many items each kind paints, and the last area of each.
 fn lasts_in(fonts: &Fonts, width: u32, height: u32) -> [Last; 8]
     requires wide { width ≤ 3000 }
     requires high { height ≤ 3000 }

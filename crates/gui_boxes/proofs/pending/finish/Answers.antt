@@ -12,7 +12,7 @@ done : (c : After-replace) → Finishes c.args.pending.now c.replace.new.self c.
 done c =
     let t = c.args.pending.now in
     let h = c.args.h.0 in
-    subst (λ (u : Table Mark). Finishes t u h) (sym c.replace.ensures.replaces) (finishes t h (pending-some (value_at t h) (sym c.is_pending.ensures ∙ c.if-is_pending.true)))
+    subst (λ (u : Table Mark). Finishes t u h) (sym c.replace.ensures.replaces) (finishes t h c.settled-mark.result (sym c.is_pending.ensures ∙ c.if-is_pending.true) c.settled-mark.ensures.done (c.settled-mark.ensures.first ∙ c.is_first.ensures))
 
 pub returns-then-is_pending-clause-own : goal.returns-then-is_pending-clause-own
 returns-then-is_pending-clause-own c = (done (goal.at.returns-then-is_pending-clause-own c).After-replace).own
@@ -22,3 +22,6 @@ returns-then-is_pending-clause-rest c = (done (goal.at.returns-then-is_pending-c
 
 pub returns-then-is_pending-clause-listed : goal.returns-then-is_pending-clause-listed
 returns-then-is_pending-clause-listed c = (done (goal.at.returns-then-is_pending-clause-listed c).After-replace).listed
+
+pub returns-then-is_pending-clause-first : goal.returns-then-is_pending-clause-first
+returns-then-is_pending-clause-first c = (done (goal.at.returns-then-is_pending-clause-first c).After-replace).first

@@ -42,7 +42,7 @@ returns-clause-rest c =
 pub returns-then-is_same-clause-slots : goal.returns-then-is_same-clause-slots
 returns-then-is_same-clause-slots c =
     let l = told c.args.entries.now in
-    sym (set-get_or l.slots c.args.h.0 nowhere) ∙ ap (set l.slots c.args.h.0) (sym c.entry_of.ensures.told.slot ∙ c.is_same.ensures c.if-is_same.true)
+    sym (set-get_or l.slots c.args.h.0 nowhere) ∙ ap (set l.slots c.args.h.0) (sym c.entry_of.ensures.told.slot ∙ c.is_same.ensures.same c.if-is_same.true)
 
 pub returns-then-is_same-clause-touches : goal.returns-then-is_same-clause-touches
 returns-then-is_same-clause-touches c = touches_same nowhere (is_touched (told c.args.entries.now)) (told c.args.entries.now).slots (leaf c.args.h.0)

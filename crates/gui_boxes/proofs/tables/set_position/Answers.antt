@@ -17,4 +17,4 @@ returns-clause-listed c = ap listing_of c.replace.ensures.replaces ∙ listed_re
 pub returns-then-is_same-clause-set : goal.returns-then-is_same-clause-set
 returns-then-is_same-clause-set c =
     let l = told c.args.entries.now in
-    ap (λ xs. record l { slots = xs }) (sym (set-get_or l.slots c.args.h.0 nowhere) ∙ ap (set l.slots c.args.h.0) (sym c.entry_of-known.ensures.told.slot ∙ c.is_same.ensures c.if-is_same.true))
+    ap (λ xs. record l { slots = xs }) (sym (set-get_or l.slots c.args.h.0 nowhere) ∙ ap (set l.slots c.args.h.0) (sym c.entry_of-known.ensures.told.slot ∙ c.is_same.ensures.same c.if-is_same.true))

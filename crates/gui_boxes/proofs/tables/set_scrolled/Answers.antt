@@ -17,4 +17,4 @@ returns-clause-listed c = ap listing_of c.replace.ensures.replaces ∙ listed_re
 pub returns-then-is_same_scrolled-clause-set : goal.returns-then-is_same_scrolled-clause-set
 returns-then-is_same_scrolled-clause-set c =
     let l = told c.args.entries.now in
-    ap (λ xs. record l { scrolls = xs }) (sym (set-get_or l.scrolls c.args.h.0 not_scrolled) ∙ ap (set l.scrolls c.args.h.0) (sym c.entry_of-known.ensures.told.scrolled ∙ c.is_same_scrolled.ensures c.if-is_same_scrolled.true))
+    ap (λ xs. record l { scrolls = xs }) (sym (set-get_or l.scrolls c.args.h.0 not_scrolled) ∙ ap (set l.scrolls c.args.h.0) (sym c.entry_of-known.ensures.told.scrolled ∙ c.is_same_scrolled.ensures.same c.if-is_same_scrolled.true))

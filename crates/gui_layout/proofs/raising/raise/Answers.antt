@@ -38,3 +38,6 @@ returns-clause-any c = (done (goal.at.returns-clause-any c).After-replace).any
 
 pub returns-clause-listed : goal.returns-clause-listed
 returns-clause-listed c = (done (goal.at.returns-clause-listed c).After-replace).listed
+
+pub returns-clause-first : goal.returns-clause-first
+returns-clause-first c = (done (goal.at.returns-clause-first c).After-replace).first

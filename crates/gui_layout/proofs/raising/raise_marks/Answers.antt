@@ -15,6 +15,7 @@ loop-h-init c = record {
   more = λ k is. is;
   still = λ k part off. part;
   any = λ k. refl;
+  first = λ k. refl;
   listed = refl;
 }
 
@@ -39,6 +40,7 @@ loop-h-preserved c =
       more = λ k is. done.more k (inv.more k is);
       still = λ k part off. done.still k (inv.still k part (was_off k off)) off;
       any = λ k. done.any k ∙ inv.any k;
+      first = λ k. done.first k ∙ inv.first k;
       listed = done.listed ∙ inv.listed;
     }
 

@@ -1,11 +1,14 @@
-use Rattle.std.proofs.Common.{◌≡◌, ◌∙◌, ◌<◌, refl, sym, ap, subst, false, false, eqb, length, set, get_or, inl, inr, arith}
-use Rattle.std.proofs.lemmas.Bool.{cases_Bool, eqb-true}
+use Rattle.std.proofs.Common.{◌≡◌, ◌∙◌, refl, sym, ap, subst, false, eqb, eq-eqb, get_or, inl, inr, arith}
+use Rattle.std.proofs.lemmas.Bool.{both_ways, cases_Bool, eqb-true}
+use Rattle.std.proofs.lemmas.List.{get_or-set_other, get_or-set_same}
+use Rattle.gui_boxes.specs.Layouts.{ButTold}
 use Rattle.gui_boxes.specs.Settled.{Layout}
-use Rattle.gui_boxes.specs.Tables.{IsListed, Listing, listing_of, told, touched_or}
-use Rattle.gui_boxes.specs.Touched.{is_touched}
+use Rattle.gui_boxes.specs.Standing.{not_standing, reported_at}
+use Rattle.gui_boxes.specs.Tables.{IsListed, Listing, listing_of, reported_or, told, touched_or}
+use Rattle.gui_boxes.specs.Touched.{IsAtRest, is_touched, standing_at}
 use Rattle.gui_boxes.proofs.Entered.{nothing, first-times, next-times, none-left}
 use Rattle.gui_boxes.proofs.Listed.{told_short}
-use Rattle.gui_layout.proofs.ClosedUp.{rested_calm, rested_own}
+use Rattle.gui_boxes.proofs.Reports.{rests-apart}
 use Rattle.gui_layout.proofs.touching.rest_all.Goals as goal
 
 pub loop-h-init : goal.loop-h-init
@@ -24,17 +27,27 @@ loop-h-preserved c =
     let i = c.loop-h.h-index in
     let h = get_or hs i nothing in
     let inv = c.loop-h.invariant in
-    let was = told c.loop-h.entries in
+    let t = c.loop-h.entries in
+    let was = told t in
     let now = told c.let_rest.new.entries in
-    let listed : IsListed (listing_of c.loop-h.entries) h.0 = subst (λ (ks : Listing). IsListed ks h.0) (sym inv.listed) (c.requires h.0 (first-times hs i c.loop-h-test.true)) in
-    let short : h.0 < length was.touched = told_short touched_or c.loop-h.entries h.0 listed in
-    let is : now.touched ≡ set was.touched h.0 false = ap (λ (l : Layout). l.touched) c.let_rest.ensures.set in
+    let at : IsListed (listing_of t) h.0 = subst (λ (ks : Listing). IsListed ks h.0) (sym inv.listed) (c.requires h.0 (first-times hs i c.loop-h-test.true)) in
+    let done = c.let_rest.ensures.set in
+    let own : IsAtRest now h.0 = record {
+      untouched = ap (λ (l : Layout). is_touched l h.0) done ∙ get_or-set_same was.touched h.0 false false (told_short touched_or t h.0 at);
+      told = ap (λ (l : Layout). reported_at l.reported h.0) done ∙ (get_or-set_same was.reported h.0 (standing_at was h.0) not_standing (told_short reported_or t h.0 at) ∙ sym (ap (λ (l : Layout). standing_at l h.0) done));
+    } in
+    let but : ButTold was now =
+    done ∙ (λ j. record was { touched = sym (ap (λ (l : Layout). l.touched) done) j; reported = sym (ap (λ (l : Layout). l.reported) done) j }) in
     record {
       own = λ k some left. elim (cases_Bool (eqb h.0 k)) [
-        | inl same ↦ subst (λ j. is_touched now j ≡ false) (eqb-true h.0 k same) (ap (λ us. get_or us h.0 false) is ∙ rested_own was.touched h.0 short)
-        | inr other ↦ ap (λ us. get_or us k false) is ∙ rested_calm was.touched h.0 short k (inv.own k some (next-times hs i k c.loop-h-test.true other ∙ left))
+        | inl same ↦ subst (λ j. IsAtRest now j) (eqb-true h.0 k same) own
+        | inr other ↦
+            let apart : k ≡ h.0 → ⊥ = λ e. both_ways (eqb h.0 k) other (eq-eqb h.0 k (sym e)) in
+            rests-apart was now k but (ap (λ (l : Layout). is_touched l k) done ∙ get_or-set_other was.touched h.0 k false false apart)
+            (ap (λ (l : Layout). reported_at l.reported k) done ∙ get_or-set_other was.reported h.0 k (standing_at was h.0) not_standing apart)
+            (inv.own k some (next-times hs i k c.loop-h-test.true other ∙ left))
       ];
-      rest = subst (λ us. now ≡ record (told c.args.entries.now) { touched = us }) (sym is) (c.let_rest.ensures.set ∙ ap (λ (l : Layout). record l { touched = set was.touched h.0 false }) inv.rest);
+      rest = but ∙ ap (λ (l : Layout). record l { touched = now.touched; reported = now.reported }) inv.rest;
       listed = c.let_rest.ensures.listed ∙ inv.listed;
     }
 

@@ -278,6 +278,7 @@ module _ (c : After-find_places) where
     closed = c.find_places.ensures.closed;
     known = same-known box start l t u v tree keeps;
     scrolls = calm_scrolls;
+    reported = refl;
   }
 
   scrolled : HoldsScrolls box l.widths l.natural_heights l.slots l.scrolls tree

@@ -16,7 +16,7 @@ invariant_of-self c =
     let some = sym c.has_mark.ensures ∙ c.if-has_mark.true in
     record {
       marks = subst (λ (t : Table Mark). AreMarks self.objects t self.listed.items) (sym c.replace.ensures.replaces)
-          (replaced-marks self.objects self.pending self.listed.items h All self.marks refl (within_of self.pending h.0 some) some);
+          (replaced-marks self.objects self.pending self.listed.items h All self.marks refl refl (within_of self.pending h.0 some) some);
       room = self.room;
       solved_room = self.solved_room;
     }
@@ -33,7 +33,7 @@ invariant_of-self-2 c =
     let room = self.room in
     record {
       marks = subst (λ (hs : List Handle). AreMarks self.objects c.put.new.table hs) (sym c.push_reserved.ensures.items)
-          (subst (λ (t : Table Mark). AreMarks self.objects t (self.listed.items ++ h ∷ [])) (sym c.put.ensures) (joined-marks self.objects self.pending self.listed.items h All self.marks refl within off few));
+          (subst (λ (t : Table Mark). AreMarks self.objects t (self.listed.items ++ h ∷ [])) (sym c.put.ensures) (joined-marks self.objects self.pending self.listed.items h All self.marks refl refl within off few));
       room = rw c.push_reserved.ensures.capacity room;
       solved_room = self.solved_room;
     }

@@ -20,7 +20,7 @@ invariant_of-self c =
     let room = self.room in
     record {
       marks = subst (λ (hs : List Handle). AreMarks self.objects c.put.new.table hs) (sym c.push_reserved.ensures.items)
-          (subst (λ (t : Table Mark). AreMarks self.objects t (self.listed.items ++ h ∷ [])) (sym c.put.ensures) (joined-marks self.objects self.pending self.listed.items h Children self.marks refl within off few));
+          (subst (λ (t : Table Mark). AreMarks self.objects t (self.listed.items ++ h ∷ [])) (sym c.put.ensures) (joined-marks self.objects self.pending self.listed.items h Children self.marks refl refl within off few));
       room = rw c.push_reserved.ensures.capacity room;
       solved_room = self.solved_room;
     }

@@ -5,7 +5,7 @@ use Rattle.gui_base.specs.declared.Handle.{Handle}
 use Rattle.gui_pool.specs.Table.{value_at}
 use Rattle.gui_store.specs.Views.{scene_of}
 use Rattle.gui_boxes.specs.declared.mark.Mark.{Mark}
-use Rattle.gui_boxes.specs.declared.mark.Mark.TheVariants.{All, Children, Settled}
+use Rattle.gui_boxes.specs.declared.mark.Mark.TheVariants.{All, Children, Raised, Settled}
 use Rattle.gui_boxes.specs.declared.marks.Marks.{Marks}
 use Rattle.gui_boxes.specs.Listing.{times}
 use Rattle.gui_boxes.specs.Marks.{is_changed, is_marked, is_parent}
@@ -20,6 +20,7 @@ all-part : (o : Option Mark) → is_all o ≡ true → is_part o ≡ false
 all-part None is = absurd (false≢true is)
 all-part (Some All) is = refl
 all-part (Some Children) is = absurd (false≢true is)
+all-part (Some Raised) is = refl
 all-part (Some Settled) is = refl
 
 module _ (marks : Marks) (h : Handle) (only : marks.listed.items ≡ h ∷ []) where

@@ -88,3 +88,24 @@ returns-clause-stays c = c.settle_marks.ensures.moves.stays
 
 pub returns-clause-scrolls_stay : goal.returns-clause-scrolls_stay
 returns-clause-scrolls_stay c = c.settle_marks.ensures.scrolls
+
+pub returns-clause-moved_once : goal.returns-clause-moved_once
+returns-clause-moved_once c = c.settle_marks.ensures.lists.once
+
+pub returns-clause-moved_there : goal.returns-clause-moved_there
+returns-clause-moved_there c = c.settle_marks.ensures.lists.there
+
+pub returns-clause-moved_whole : goal.returns-clause-moved_whole
+returns-clause-moved_whole c = c.settle_marks.ensures.lists.whole
+
+pub returns-clause-moved_stays : goal.returns-clause-moved_stays
+returns-clause-moved_stays c = c.settle_marks.ensures.lists.stays
+
+pub returns-clause-moved_reaches : goal.returns-clause-moved_reaches
+returns-clause-moved_reaches c = c.settle_marks.ensures.lists.reaches
+
+pub returns-clause-moved_offsets : goal.returns-clause-moved_offsets
+returns-clause-moved_offsets c = c.settle_marks.ensures.lists.offsets
+
+pub returns-clause-moved_only : goal.returns-clause-moved_only
+returns-clause-moved_only c = c.settle_marks.ensures.lists.only

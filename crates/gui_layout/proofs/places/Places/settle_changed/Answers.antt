@@ -34,7 +34,11 @@ use Rattle.gui_layout.proofs.Marking.{all-alike, marked-has}
 use Rattle.gui_layout.proofs.Renewals.{some-kept}
 use Rattle.gui_layout.specs.SettledBut.{in_marked}
 use Rattle.gui_boxes.specs.Scrolls.{scrolled_at}
-use Rattle.gui_layout.proofs.Staying.{box-alike, known-alike, scrolled-alike}
+use Rattle.gui_boxes.specs.Standing.{reported_at}
+use Rattle.gui_tree.proofs.Below.{own_tree}
+use Rattle.gui_layout.proofs.Readying.{marked-up}
+use Rattle.gui_layout.proofs.Spreading.{standing-same}
+use Rattle.gui_layout.proofs.Staying.{box-alike, known-alike, reported-alike, scrolled-alike}
 use Rattle.gui_layout.proofs.Stepping.{mark-own}
 use Rattle.gui_layout.proofs.places.Places.settle_changed.Goals as goal
 use Rattle.gui_layout.proofs.places.Places.settle_changed.Goals.{After-enter_marked, After-renew_marked, After-settle_marked}
@@ -110,11 +114,6 @@ settle_marked-requires-clause-boxes c k is =
       | inr un ↦ boxed d k there un (c.requires.but.boxes k there is un)
     ]
 
-pub settle_marked-requires-clause-above : goal.settle_marked-requires-clause-above
-settle_marked-requires-clause-above c h k some is encloses there =
-    let d = (goal.at.settle_marked-requires-clause-above c).After-enter_marked in
-    some_listed c.renew_marked.new.self.entries k (some-kept c.enter_marked.new.self.entries c.renew_marked.new.self.entries k c.renew_marked.ensures.listed ∙ above d h k some is encloses there)
-
 -- all is ready: what is not touched is not listed, and none of its children is pending
 module _ (c : After-renew_marked) where
   abbrev d : After-enter_marked
@@ -176,16 +175,6 @@ module _ (c : After-renew_marked) where
 pub settle_marked-requires-clause-ready : goal.settle_marked-requires-clause-ready
 settle_marked-requires-clause-ready c = ready (goal.at.settle_marked-requires-clause-ready c).After-renew_marked
 
--- what was not touched is not, though it was for a while
-pub returns-clause-calm : goal.returns-clause-calm
-returns-clause-calm c k there was =
-    let e = (goal.at.returns-clause-calm c).After-enter_marked in
-    let first = untouched e k there was in
-    elim (cases_Bool (is_touched (layout_of c.renew_marked.new.self) k)) [
-      | inl on ↦ c.settle_marked.ensures.rests k (c.renew_marked.ensures.over k first on)
-      | inr off ↦ c.settle_marked.ensures.calm k off
-    ]
-
 -- an object has a place where it has a box
 placed : (c : After-settle_marked) (k : ℕ) → is_some (value_at c.settle_marked.new.self.entries k) ≡ is_some (value_at c.enter_marked.new.self.entries k)
 placed c k =
@@ -236,6 +225,45 @@ returns-clause-scrolls c =
       known = λ k there out. scrolls.known k there out ∙ alike e k there (off k there out);
       steady = scrolls.steady;
       marked = scrolls.marked;
+    }
+
+-- and so it is with what is touched
+pub returns-clause-spreads : goal.returns-clause-spreads
+returns-clause-spreads c =
+    let e = (goal.at.returns-clause-spreads c).After-renew_marked in
+    let g = (goal.at.returns-clause-spreads c).After-enter_marked in
+    let scene = scene_of c.args.store.now in
+    let f = handles_of scene.trees in
+    let m = is_pending c.args.pending.now in
+    let s = in_marked m scene in
+    let box = scene_box scene in
+    let old = c.args.self.now in
+    let entered = c.enter_marked.new.self in
+    let mid = c.renew_marked.new.self in
+    let new = c.settle_marked.new.self in
+    let moves = c.settle_marked.ensures.moves in
+    let before : (k : ℕ) → is_touched (layout_of new) k ≡ false → is_touched (layout_of mid) k ≡ false = λ k none. false_from_ne_true (is_touched (layout_of mid) k) (λ is. false≢true (sym none ∙ moves.more k is)) in
+    let up : IsClosedUp f s (is_touched (layout_of new)) = moves.closed s (closed e) in
+    let first : (k : ℕ) → has f k ≡ true → SameValue k old.entries c.leave_gone.new.self.entries = λ k there. c.leave_gone.ensures.kept k (subst (λ (t : Forest ℕ). has t k ≡ true) (sym c.tree-tree.ensures.forest) there) in
+    let told : (k : ℕ) → SameValue k old.entries entered.entries → reported_at (layout_of new).reported k ≡ reported_at (layout_of old).reported k =
+    λ k same. ap (λ ss. reported_at ss k) moves.reported ∙ (ap (λ (l : Layout). reported_at l.reported k) c.renew_marked.ensures.rest ∙ reported-alike k old.entries entered.entries same) in
+    record {
+      over = λ k there off on. elim (cases_Bool (is_touched (layout_of mid) k)) [
+        | inl is ↦ inl (c.renew_marked.ensures.over k (untouched g k there off) is)
+        | inr none ↦ inr (moves.inside k none on)
+      ];
+      still = λ k there none.
+          let off : m k ≡ false = false_from_ne_true (m k) (λ on. false≢true (sym (before k none) ∙ touched e k there on)) in
+          standing-same box (layout_of mid) (layout_of new) k (moves.known k none) (moves.scrolls k none)
+          ∙ standing-same box (layout_of old) (layout_of mid) k (alike e k there off) (ap (λ (l : Layout). scrolled_at l.scrolls k) c.renew_marked.ensures.rest ∙ scrolled-alike k old.entries entered.entries (same g k there off));
+      reported = λ k there had. told k (c.enter_marked.ensures.kept k there (ap is_some (first k there) ∙ had) ∙ first k there);
+      unlisted = λ k there off. told k (c.enter_marked.ensures.others k there off ∙ first k there);
+      closed = record { looked = s; inside = moves.looked; higher = λ k p there looked parent. marked-up m k p f (distinct_once f (once e)) there looked parent; closed = up };
+      listed = λ k some there. moves.more k (c.renew_marked.ensures.touched k some there);
+      above = λ u q some parent.
+          let there = c.settle_marked.ensures.solves.tops u some in
+          up u q there (moves.looked u u some (own_tree f u there)) (moves.tops u some) parent;
+      inside = moves.looked;
     }
 
 pub returns-clause-settles : goal.returns-clause-settles

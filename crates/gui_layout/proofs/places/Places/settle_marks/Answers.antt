@@ -2,7 +2,7 @@ use Rattle.std.proofs.Common.{◌≡◌, ◌<◌, sym, ap, subst, List, [], ◌�
 use Rattle.std.specs.Prelude.{IfSome}
 use Rattle.gui_base.specs.declared.Handle.{Handle}
 use Rattle.gui_boxes.specs.Listing.{times}
-use Rattle.gui_boxes.proofs.Pendings.{marked-times, pending-none, times-marked}
+use Rattle.gui_boxes.proofs.Pendings.{marked-times, own-all, pending-none, times-marked}
 use Rattle.gui_boxes.proofs.These.{length_kept, these_kept}
 use Rattle.gui_layout.proofs.places.Places.settle_marks.Goals as goal
 
@@ -53,3 +53,12 @@ returns-clause-moves c = c.settle_listed.ensures.moves
 
 pub returns-clause-scrolls : goal.returns-clause-scrolls
 returns-clause-scrolls c = c.settle_listed.ensures.scrolls
+
+-- no mark is settled or raised before
+pub settle_listed-requires-clause-first : goal.settle_listed-requires-clause-first
+settle_listed-requires-clause-first c k =
+    let marks = c.args.marks.now in
+    own-all marks.objects marks.pending marks.listed.items k marks.marks
+
+pub returns-clause-lists : goal.returns-clause-lists
+returns-clause-lists c = c.settle_listed.ensures.lists

@@ -101,7 +101,7 @@ module _ (c : After-rest_all) where
   abbrev last : Layout
   last = told c.rest_all.new.entries
 
-  back : record (told c.solve_trees.new.entries) { touched = last.touched } ≡ last
+  back : record (told c.solve_trees.new.entries) { touched = last.touched; reported = last.reported } ≡ last
   back = sym c.rest_all.ensures.rest
 
   settled : IsSettled scene.limits.width scene.limits.height (known (scene_box scene) last f)

@@ -5,7 +5,7 @@ use Rattle.std.proofs.lemmas.List.{append-nil, take_more, take_all}
 use Rattle.gui_base.specs.Area.{Rect}
 use Rattle.gui_damage.specs.Adding.{AddsAll}
 use Rattle.gui_damage.specs.Pending.{IsPending}
-use Rattle.run_laws.specs.Owing.{owed_along}
+use Rattle.run_defs.specs.Owing.{owed_along}
 use Rattle.run_laws.proofs.Commands.{owed-append}
 use Rattle.run_defs.specs.Machine.{Machine}
 use Rattle.run_defs.specs.Play.{Play, Rule, only, both, ◌⊳◌, ◌▷◌, each, after_changes}

@@ -26,7 +26,8 @@ use Rattle.scene_defs.specs.Scene.{Scene}
 use Rattle.scene_defs.specs.Place.{panel_of}
 use Rattle.scene_defs.specs.Picture.{paint, picture}
 use Rattle.scene_defs.proofs.Pictures.{picture_from_pixels}
-use Rattle.gui_board.specs.Panels.{ShowsScene, CanSend, SendsScene, Refreshes, Leaves, Pumps, DrawsPart, DrawsScene}
+use Rattle.run_defs.specs.Run.{ShowsScene}
+use Rattle.gui_board.specs.Panels.{CanSend, SendsScene, Refreshes, Leaves, Pumps, DrawsPart, DrawsScene}
 
 pub panel_is : (scene : Scene) (p : PanelState) → HasSizes p scene.limits → area_of p ≡ panel_of scene
 panel_is scene p sizes = rw (sizes.width_is, sizes.height_is) refl
@@ -71,7 +72,7 @@ whole scene colors len each = picture_from_pixels scene colors len (λ x y a b.
     let inside : has (panel_of scene) (pos x) (pos y) ≡ true = grind (arith, ints) in
     rw (at_place scene x y) at (each (pos x) (pos y) inside))
 
-shows_scene : (scene : Scene) (p : PanelState) → HasSizes p scene.limits → TellsEach p → ShowsPicture (paint scene) p → ShowsScene p scene
+shows_scene : (scene : Scene) (p : PanelState) → HasSizes p scene.limits → TellsEach p → ShowsPicture (paint scene) p → ShowsScene p.shows scene
 shows_scene scene p sizes tells shows =
     go p.shows (rw (← sizes.width_is, ← sizes.height_is) tells)
     (subst (λ (a : Rect). IfSome p.shows (λ colors. (x y : ℤ) → has a x y ≡ true → color_at a colors x y ≡ paint scene x y)) (panel_is scene p sizes) shows) where
@@ -111,7 +112,7 @@ module _ (scene : Scene) (old new : Stage) (has : HasSizes old.panel scene.limit
         counts = rw (ap (λ (s : Sizes). s.limit) same, sizes.width_is, sizes.height_is) at counts;
       }
 
-  shows_now : (failed : ℕ) → Keeps (paint scene) old new failed → TellsEach new.panel → ShowsPicture (paint scene) new.panel → ShowsScene new.panel scene
+  shows_now : (failed : ℕ) → Keeps (paint scene) old new failed → TellsEach new.panel → ShowsPicture (paint scene) new.panel → ShowsScene new.panel.shows scene
   shows_now failed k tells shows = shows_scene scene new.panel (has_sizes scene old.panel new has k.can (k.sizes ∙ same)) tells shows
 
   flies_of : (moves waits : ℕ) → Counts old new moves waits → Flies (flight_of old) (flight_of new) moves waits

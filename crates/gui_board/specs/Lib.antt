@@ -6,6 +6,5 @@ pub mod Inputs
 pub mod Laws
 pub mod Panels
 pub mod Sizes
-pub mod Slots
 pub mod Stages
 pub mod Writing

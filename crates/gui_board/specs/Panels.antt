@@ -1,8 +1,8 @@
 -- What a panel shows of a scene, and what refreshes and pumps do to it.
-use Rattle.std.specs.Prelude.{◌≡◌, ◌<◌, ℕ, true, is_some, IfSome}
+use Rattle.std.specs.Prelude.{◌≡◌, ◌<◌, ℕ, true, is_some}
 use Rattle.std.specs.Option.{ForSome}
 use Rattle.scene_defs.specs.Scene.{Scene}
-use Rattle.scene_defs.specs.Picture.{paint, picture}
+use Rattle.scene_defs.specs.Picture.{paint}
 use Rattle.gui_edge.specs.Panel.{PanelState, HasSizes}
 use Rattle.gui_damage.specs.Pending.{Pending}
 use Rattle.gui_refresh.specs.Owing.{standing_of, flight_of}
@@ -21,11 +21,8 @@ use Rattle.owed_defs.specs.Pumping.{moves_in, waits_in}
 use Rattle.owed_defs.specs.Standings.{Refreshes as SendsPending}
 use Rattle.owed_defs.specs.declared.Pumped.{Pumped}
 use Rattle.owed_defs.specs.declared.Pumped.TheVariants.{Idle, Moved, Waiting, Fault as Failed}
-use Rattle.run_laws.specs.Owing.{panel_size, slice_limit}
-
--- the panel shows the picture of this scene, where it tells
-abbrev pub ShowsScene : PanelState → Scene → Type 0
-ShowsScene panel scene = IfSome panel.shows (λ colors. colors ≡ picture scene)
+use Rattle.run_defs.specs.Owing.{panel_size, slice_limit}
+use Rattle.run_defs.specs.Run.{ShowsScene}
 
 -- each pixel is pending, or its newest copy has the scene's colour, where the panel tells
 abbrev pub AgreesWith : Stage → Scene → Type 0
@@ -67,7 +64,7 @@ pub record Refreshes (old new : Stage) (scene : Scene) (answer : Refreshed) : Ty
   -- Done: nothing failed, nothing is pending, drawn or in flight, and the panel shows the picture
   pub flawless : answer ≡ Done → new.panel.flush_faults ≡ old.panel.flush_faults
   pub clear : answer ≡ Done → IsAtRest new
-  pub done : answer ≡ Done → AgreesWith old scene → ShowsScene new.panel scene
+  pub done : answer ≡ Done → AgreesWith old scene → ShowsScene new.panel.shows scene
   -- Fault: a start or a transfer failed, after which nothing was asked for, and its slice is pending again
   pub fault : answer ≡ Fault → old.panel.flush_faults < new.panel.flush_faults
   pub stops : answer ≡ Fault → StopsAtFault old new
@@ -76,7 +73,7 @@ pub record Refreshes (old new : Stage) (scene : Scene) (answer : Refreshed) : Ty
 -- By the answer: a step leaves less work, and in an idle one nothing was left to do; where a start or a
 -- transfer failed its slice is pending again, and a buffer is free.
 abbrev pub Leaves : Stage → Stage → Scene → Pumped → Type 0
-Leaves old new scene Idle = AgreesWith old scene → ShowsScene new.panel scene
+Leaves old new scene Idle = AgreesWith old scene → ShowsScene new.panel.shows scene
 Leaves old new scene Moved =
     (work new < work old) × (new.panel.flush_faults ≡ old.panel.flush_faults)
 Leaves old new scene Waiting =

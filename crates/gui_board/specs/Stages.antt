@@ -3,7 +3,7 @@ use Rattle.std.specs.Prelude.{◌≡◌, Bool, ◌||◌}
 use Rattle.gui_damage.specs.Adding.{AddsAll}
 use Rattle.gui_damage.specs.Pending.{Pending, IsPending}
 use Rattle.gui_edge.specs.Sink.{SinkState}
-use Rattle.run_laws.specs.Owing.{owed_along}
+use Rattle.run_defs.specs.Owing.{owed_along}
 use Rattle.run_defs.specs.Machine.{Machine}
 use Rattle.run_defs.specs.Play.{Play, after_changes}
 use Rattle.gui_board.specs.Writing.{WritesBy}

@@ -14,7 +14,7 @@ ghost use Rattle.gui_layout.specs.Solved.{AreReached, AreSolved};
 ghost use Rattle.gui_refresh.specs.Stages.{sizes_of, stage as sending};
 ghost use Rattle.gui_store.specs.Removed.{removed_by};
 ghost use Rattle.gui_store.specs.Views.{scene_of};
-ghost use Rattle.run_defs.specs.Machine.{first_machine};
+ghost use Rattle.run_defs.specs.Machine.{first_machine, used_in};
 ghost use Rattle.run_defs.specs.Making.{is_in_state, make};
 ghost use Rattle.scene_defs.specs.Change.{answer_of};
 ghost use Rattle.scene_defs.specs.Place.{panel_of};
@@ -22,7 +22,6 @@ ghost use Rattle.scene_defs.specs.Scene.{is_there};
 ghost use Rattle.scene_defs.specs.Valid.{IsChange, IsValid};
 ghost use Rattle.gui_board.specs.Panels.{CanSend, DrawsPart, DrawsScene, Pumps, Refreshes};
 ghost use Rattle.gui_board.specs.Sizes.{AreSized};
-ghost use Rattle.gui_board.specs.Slots.{used_in};
 
 use crate::inputs::Inputs;
 use crate::scribe::Scribe;

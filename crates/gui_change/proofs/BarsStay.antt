@@ -24,7 +24,7 @@ use Rattle.gui_layout.specs.declared.places.Places.{Places}
 use Rattle.gui_layout.proofs.Bars.{no_row, not_scrollable}
 use Rattle.gui_layout.proofs.Overs.{over-is}
 use Rattle.gui_layout.proofs.SceneBoxes.{named, row_found, row_gone}
-use Rattle.gui_change.specs.Marking.{ScrollsSame}
+use Rattle.gui_change.specs.Marking.{MovesSame, ScrollsSame}
 use Rattle.gui_change.specs.Settled.{LooksSame}
 
 -- bars by what they are made of
@@ -65,11 +65,12 @@ no-bars scene h off there = by (row_at scene h) refl where
 
 -- So it is for what was settled before and after, where it scrolls as before.
 module _ (before after : Scene) (old new : Places) (was : AreReached old before) (is : AreReached new after) where
+  pub bars-still : (k : ℕ) → LooksSame before after k → place after k ≡ place before k → MovesSame old new k → bars after k ≡ bars before k
+  bars-still k same stands moves = moved-alike before after k same stands (sym (is.reaches k) ∙ (moves.reach ∙ was.reaches k)) (sym (is.offsets k) ∙ (moves.offset ∙ was.offsets k))
+
   pub bars-alike : (k : ℕ) → LooksSame before after k → place after k ≡ place before k → is_there after k ≡ true → is_there before k ≡ true → scene_box after k ≡ scene_box before k → ScrollsSame old new after k → bars after k ≡ bars before k
   bars-alike k same stands there there_before box scrolls = elim (cases_Bool (scene_box after k).scrollable) [
-    | inl on ↦
-        let moves = scrolls on in
-        moved-alike before after k same stands (sym (is.reaches k) ∙ (moves.reach ∙ was.reaches k)) (sym (is.offsets k) ∙ (moves.offset ∙ was.offsets k))
+    | inl on ↦ bars-still k same stands (scrolls on)
     | inr off ↦ no-bars after k off there ∙ sym (no-bars before k (ap (λ (b : Box). b.scrollable) (sym box) ∙ off) there_before)
   ]
 

@@ -127,9 +127,9 @@ module _ (places : Places) (after : Scene) (made : Change) (concerned : Concerne
       (λ k un none up. both_ways (is_parent marks k) none (other-kids marks k (above (as_handle k) (gone.above ∙ ap (option_map as_handle) up)) un))
 
 -- The tree at h went below another parent by this change, and its parent, if it had one, was this.
-record Reparents (made : Change) (before : Scene) (h : Handle) (old : Option Handle) (new : Handle) : Type 0 where
-  is : made ≡ change.Parent h new
-  above : old ≡ option_map as_handle (parent_of (handles_of before.trees) h.0)
+pub record Reparents (made : Change) (before : Scene) (h : Handle) (old : Option Handle) (new : Handle) : Type 0 where
+  pub is : made ≡ change.Parent h new
+  pub above : old ≡ option_map as_handle (parent_of (handles_of before.trees) h.0)
 
 -- a tree that goes elsewhere among its siblings keeps its parent
 none-reparented : {h new : Handle} {old : Option Handle} (above : Option Handle) → Reparented h old new ≡ beside above → ⊥
@@ -149,7 +149,7 @@ parent-in f h k once above = elim (cases_Bool (has f k)) [
 ]
 
 module _ (places : Places) (after : Scene) (made : Change) (concerned : Concerned) (removed : List ℕ) (h : Handle) (old : Option Handle) (new : Handle) (was : WasEdited places after (Reparented h old new) made concerned removed) where
-  reparents : Reparents made was.was.before h old new
+  pub reparents : Reparents made was.was.before h old new
   reparents = by made refl was.does where
     by : (c : Change) → made ≡ c → Reparented h old new ≡ edit_of was.was.before c → Reparents made was.was.before h old new
     by (change.Parent g p) same is =
@@ -181,7 +181,7 @@ module _ (places : Places) (after : Scene) (made : Change) (concerned : Concerne
       stay new.0 (not-false (is_there was.was.before new.0) t.1.0)
 
   -- what is not in the tree at h was not in it
-  was-off : (k : ℕ) → has (tree_at (handles_of after.trees) h.0) k ≡ false → lies_in was.was.before h.0 k ≡ false
+  pub was-off : (k : ℕ) → has (tree_at (handles_of after.trees) h.0) k ≡ false → lies_in was.was.before h.0 k ≡ false
   was-off k off = false_from_ne_true (lies_in was.was.before h.0 k) (λ lies.
       let before = was.was.before in
       let f = before.trees in

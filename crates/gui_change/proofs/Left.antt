@@ -1,6 +1,5 @@
--- A change by which a tree went: what did not go is shown as it was, and all but its parent is seen as it was, where
--- its tree was not solved.
-use Rattle.std.proofs.Common.{◌≡◌, ◌∙◌, sym, ap, subst, ℕ, ◌≤◌, true, false, not, ◌&&◌, eqb, List, [], Option, Some, option_map, is_some, inl, inr, refl, arith}
+-- A change by which a tree went: what did not go is shown as it was, and stands and paints as before where it did not move.
+use Rattle.std.proofs.Common.{◌≡◌, ◌∙◌, sym, ap, subst, ℕ, ◌≤◌, true, false, not, ◌&&◌, eqb, List, [], Option, option_map, is_some, inl, inr, refl, arith}
 use Rattle.std.proofs.lemmas.Bool.{both_ways, cases_Bool, false_from_ne_true}
 use Rattle.gui_base.specs.Forest.{Forest, has, preorder, tree_at}
 use Rattle.gui_base.specs.declared.Handle.{Handle}
@@ -14,6 +13,7 @@ use Rattle.scene_defs.specs.declared.Change.{Change}
 use Rattle.scene_defs.specs.declared.Change.TheVariants as change
 use Rattle.scene_defs.specs.Change.{scene_after}
 use Rattle.scene_defs.specs.Edits.{tree_below}
+use Rattle.scene_defs.specs.Place.{place}
 use Rattle.scene_defs.specs.Scene.{Object, Scene, handle_of, handles_of, is_there, object_at, path_at, row_of}
 use Rattle.scene_defs.specs.Shown.{entries}
 use Rattle.scene_defs.specs.Valid.{IsValid}
@@ -29,37 +29,32 @@ use Rattle.debt_defs.proofs.SameRows.{same-object}
 use Rattle.debt_defs.proofs.SameTrees.{deleted-path, deleted-value}
 use Rattle.gui_boxes.specs.Listing.{times}
 use Rattle.gui_boxes.proofs.These.{has_value, times_is}
-use Rattle.gui_layout.specs.Scenes.{scene_box}
 use Rattle.gui_layout.specs.Solved.{AreSettled, place_at}
-use Rattle.gui_layout.specs.Tops.{in_trees_at}
 use Rattle.gui_layout.specs.declared.places.Places.{Places}
-use Rattle.gui_layout.proofs.Climbing.{is_above}
-use Rattle.gui_debts.specs.Seen.{IsSeen}
 use Rattle.gui_debts.specs.Sights.{KeepOthers}
 use Rattle.gui_concerns.specs.declared.concerned.Concerned.{Concerned}
 use Rattle.gui_concerns.specs.declared.concerned.Concerned.TheVariants.{Nobody}
 use Rattle.gui_concerns.specs.declared.edit.Edit.TheVariants.{Gone}
-use Rattle.gui_debts.specs.declared.seen.Seen.{Seen}
 use Rattle.gui_concerns.proofs.Changes.{after_is}
 use Rattle.gui_debts.proofs.Sparing.{keeps, painted, painted-is}
 use Rattle.gui_change.specs.Edits.{WasEdited, WasSeenEdited}
-use Rattle.gui_change.specs.Entries.{all_entries}
+use Rattle.gui_change.specs.Entries.{all_entries, owners}
 use Rattle.gui_change.specs.Goes.{Goes}
 use Rattle.gui_change.specs.Gone.{is_shown}
-use Rattle.gui_change.specs.Marking.{ScrollsSame}
+use Rattle.gui_change.specs.Marking.{MovesSame}
 use Rattle.gui_change.specs.Settled.{LooksSame}
 use Rattle.gui_change.specs.declared.scene_look.SceneLook.{SceneLook}
 use Rattle.gui_change.proofs.Arrived.{shown-is}
-use Rattle.gui_change.proofs.BarsStay.{bars-alike}
+use Rattle.gui_change.specs.Shifted.{WasShifted}
+use Rattle.gui_change.proofs.BarsStay.{bars-still}
 use Rattle.gui_change.proofs.Comings.{Deleted, made-gone}
 use Rattle.gui_change.proofs.Leaving.{cut-apart, entries-left, trees-cut}
 use Rattle.gui_change.proofs.Lessened.{and-false, and-true}
 use Rattle.gui_change.proofs.Orders.{shown_there}
 use Rattle.gui_change.proofs.Rooted.{ends_shown, shown-by}
 use Rattle.gui_change.proofs.ShownTrees.{count-tree}
-use Rattle.gui_change.proofs.Still.{above-out}
-use Rattle.gui_change.proofs.Unchanged.{DifferBut, box-alike, boxes-hidden, still-seen}
-use Rattle.gui_change.proofs.Unmoved.{limits-stay, parent-by-path, there-by-path, valid-after}
+use Rattle.gui_change.proofs.Unchanged.{looks-hidden, panel-by}
+use Rattle.gui_change.proofs.Unmoved.{limits-stay, parent-by-path, valid-after}
 
 module _ (old : Places) (after : Scene) (made : Change) (concerned : Concerned) (removed : List ℕ) (parent : Option Handle) (edited : WasEdited old after (Gone parent) made concerned removed) where
   abbrev before : Scene
@@ -144,12 +139,9 @@ module _ (old : Places) (look : SceneLook) (after : Scene) (made : Change) (conc
   abbrev earlier : Scene
   earlier = was.edited.was.before
 
-  was-there : (k : ℕ) → has (handles_of (shown_trees earlier)) k ≡ true → is_there earlier k ≡ true
-  was-there k shown = shown_there earlier was.edited.was.valid k shown
-
   -- something is known of what was shown
   known : (k : ℕ) → is_some (value_at look.seen k) ≡ has (handles_of (shown_trees earlier)) k
-  known k = has_value look.order.items (handles_of (shown_trees earlier)) was.shows.order after.limits.objects look.seen was.shows.table k
+  known k = has_value (owners look.entries.items) (handles_of (shown_trees earlier)) was.shows.order after.limits.objects look.seen was.shows.table k
 
   -- what is shown was shown and did not go
   pub left-shown : (k : ℕ) → is_shown after k ≡ (is_some (value_at look.seen k) && not (is_among removed k))
@@ -177,39 +169,28 @@ module _ (old : Places) (look : SceneLook) (after : Scene) (made : Change) (conc
       keeps earlier after k s (was.shows.seen k s found) (λ at.
       painted-is after (object_at after k) at ∙ (ap (λ (l : Option Look). painted l at) same.look ∙ sym (painted-is earlier (object_at earlier k) at)))
 
-  module _ (tops : List Handle) (new : Places) (settled : AreSettled new after)
-      (stays : (k : ℕ) → is_there after k ≡ true → in_trees_at (handles_of after.trees) tops k ≡ false → place_at new k ≡ place_at old k)
-      (scrolls : (k : ℕ) → is_there after k ≡ true → ((p : Handle) → parent ≡ Some p → eqb k p.0 ≡ false) → in_trees_at (handles_of after.trees) tops k ≡ false → ScrollsSame old new after k) where
-    abbrev Out : ℕ → Type 0
-    Out k = (is_there after k ≡ true) × (in_trees_at (handles_of after.trees) tops k ≡ false)
+  module _ (new : Places) (moved : List Handle) (settled : AreSettled new after) (stays : (k : ℕ) → is_there after k ≡ true → times moved k ≡ 0 → place_at new k ≡ place_at old k)
+      (scrolls : (k : ℕ) → is_there after k ≡ true → times moved k ≡ 0 → MovesSame old new k) where
+    same-looks : (k : ℕ) → is_there after k ≡ true → LooksSame earlier after k
+    same-looks k there = looks old after made concerned removed parent was.edited k (stayed old after made concerned removed parent was.edited k there)
 
-    off-out : (k : ℕ) → is_there after k ≡ true → is_among removed k ≡ false
-    off-out k there = stayed old after made concerned removed parent was.edited k there
+    stands : (k : ℕ) → is_there after k ≡ true → times moved k ≡ 0 → place after k ≡ place earlier k
+    stands k there off = sym (settled.solved k) ∙ (stays k there off ∙ was.edited.was.settled.solved k)
 
-    there-same : (k : ℕ) → is_among removed k ≡ false → is_there after k ≡ is_there earlier k
-    there-same k off = there-by-path earlier after k (path old after made concerned removed parent was.edited k off)
-
-    box-same : (k : ℕ) → is_among removed k ≡ false → scene_box after k ≡ scene_box earlier k
-    box-same k off = box-alike earlier after k (looks old after made concerned removed parent was.edited k off)
-
-    now-valid : IsValid after
-    now-valid = valid old after made concerned removed parent was.edited
-
-    differs : DifferBut earlier after Out
-    differs = record {
-      parents = λ k out. parent-by-path earlier after k (path old after made concerned removed parent was.edited k (off-out k out.0));
-      limits = limits-stay old after made concerned was.edited.was;
-      active = active old after made concerned removed parent was.edited;
-      hides = λ k out. boxes-hidden earlier after k (there-same k (off-out k out.0)) (box-same k (off-out k out.0));
-      stands = λ k out. sym (settled.solved k) ∙ (stays k out.0 out.1 ∙ was.edited.was.settled.solved k);
-      above = λ k q there up out.
-          ((is_above (handles_of after.trees) k q now-valid.trees.once there up).there, above-out (handles_of after.trees) tops k q now-valid.trees.once there up out.1);
+    -- so all that is left stands and paints as before, but for what moved
+    pub was-shifted : (named : Option ℕ) → WasShifted look.seen after named Nobody moved
+    was-shifted named = record {
+      before = earlier;
+      valid = was.edited.was.valid;
+      seen = was.shows.seen;
+      stands = λ k some there off other. record {
+        parents = parent-by-path earlier after k (path old after made concerned removed parent was.edited k (stayed old after made concerned removed parent was.edited k there));
+        hides = looks-hidden earlier after k (same-looks k there);
+        stands = stands k there off;
+        panel = panel-by earlier after (active old after made concerned removed parent was.edited) (limits-stay old after made concerned was.edited.was) k;
+      };
+      paints = λ k some there off other apart. record {
+        looks = same-looks k there;
+        shows = bars-still earlier after old new was.edited.was.settled.reached settled.reached k (same-looks k there) (stands k there off) (scrolls k there off);
+      };
     }
-
-    pub others-seen : (k : ℕ) (s : Seen) → value_at look.seen k ≡ Some s → is_among removed k ≡ false → in_trees_at (handles_of after.trees) tops k ≡ false → ((p : Handle) → parent ≡ Some p → eqb k p.0 ≡ false) → IsSeen after k s
-    others-seen k s found off out above =
-        let there_before : is_there earlier k ≡ true = was-there k (sym (known k) ∙ ap is_some found) in
-        let there : is_there after k ≡ true = there-same k off ∙ there_before in
-        let same = looks old after made concerned removed parent was.edited k off in
-        let shows = bars-alike earlier after old new was.edited.was.settled.reached settled.reached k same (differs.stands k (there, out)) there there_before (box-same k off) (scrolls k there above out) in
-        still-seen earlier after Out was.edited.was.valid now-valid differs k s (there, out) same shows (was.shows.seen k s found)

@@ -22,7 +22,7 @@ use Rattle.gui_change.proofs.Alike.{alike-each, among-times, these_alike, times-
 use Rattle.gui_change.proofs.Missing.{both-times, gone-times, shown-times}
 use Rattle.gui_change.proofs.Orderless.{all-first}
 
-numbers-times : (hs : List Handle) (k : ℕ) → times_of (numbers hs) k ≡ times hs k
+pub numbers-times : (hs : List Handle) (k : ℕ) → times_of (numbers hs) k ≡ times hs k
 numbers-times [] k = refl
 numbers-times (h ∷ hs) k = ap (λ (n : ℕ). cond (eqb h.0 k) 1 0 + n) (numbers-times hs k)
 

@@ -1,5 +1,4 @@
 pub mod Alike
-pub mod Alone
 pub mod BarsStay
 pub mod Kids
 pub mod Lending
@@ -43,3 +42,8 @@ pub mod Taken
 pub mod Forgetting
 pub mod Lessened
 pub mod Left
+pub mod Downward
+pub mod Shifting
+pub mod Joining
+pub mod Transplanting
+pub mod Joined

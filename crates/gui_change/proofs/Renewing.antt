@@ -21,6 +21,7 @@ use Rattle.gui_debts.specs.Seen.{KeepsItems, items_known, place_in}
 use Rattle.gui_debts.specs.Sights.{AreSeen, KeepOthers}
 use Rattle.gui_concerns.specs.declared.concerned.Concerned.{Concerned}
 use Rattle.gui_debts.specs.declared.seen.Seen.{Seen}
+use Rattle.gui_debts.proofs.Sparing.{none-keep}
 use Rattle.gui_change.proofs.Staying.{some-each}
 
 pub times-append : (xs ys : List Handle) (n : ℕ) → times (xs ++ ys) n ≡ times xs n + times ys n
@@ -41,21 +42,13 @@ module _ (t u : Table Seen) (h : ℕ) (v : Seen) (within : h < length t.values) 
     | inr other ↦ ap sight_of (placed k ∙ rw other refl)
   ]
 
-  no-items : (scene : Scene) (o : Option Object) → items_at scene o None ≡ []
-  no-items scene None = refl
-  no-items scene (Some object) = refl
-
-  keeps-nothing : (scene : Scene) (k : ℕ) → items_known v.paints ≡ [] → KeepsItems scene k v
-  keeps-nothing scene k empty =
-      empty ∙ sym (ap (λ (l : List Item). items_at scene (object_at scene k) (place_in l)) empty ∙ no-items scene (object_at scene k))
-
   pub put-keeps : items_known v.paints ≡ [] → (concerned : Concerned) (scene : Scene) → KeepOthers t concerned scene → KeepOthers u concerned scene
   put-keeps empty concerned scene known k s there off found = elim (cases_Bool (eqb h k)) [
     | inl here ↦
         let at : value_at u k ≡ Some v = placed k ∙ rw here refl in
         let both : Some v ≡ Some s = sym at ∙ found in
         let e : v ≡ s = cc in
-        subst (KeepsItems scene k) e (keeps-nothing scene k empty)
+        subst (KeepsItems scene k) e (none-keep scene k v.paints empty)
     | inr other ↦ known k s there off (sym (placed k ∙ rw other refl) ∙ found)
   ]
 

@@ -33,8 +33,7 @@ use Rattle.gui_concerns.specs.declared.concerned.Concerned.{Concerned}
 use Rattle.gui_debts.specs.declared.seen.Seen.{Seen}
 use Rattle.gui_change.proofs.Orders.{shown_once}
 use Rattle.gui_change.proofs.Orderless.{all-first, same-off, same-order}
-use Rattle.gui_debts.proofs.Sparing.{seen-keeps}
-use Rattle.gui_change.proofs.Staying.{nothing-owed, sight-is}
+use Rattle.gui_change.proofs.Staying.{seen-owed}
 
 -- something is known of the same objects still
 pub known-still : (old new : Table Seen) → listing_of new ≡ listing_of old → (h : ℕ) → is_some (value_at new h) ≡ is_some (value_at old h)
@@ -73,7 +72,7 @@ then-again named scene a b c p q r first next = record {
 -- where it is seen, nothing is owed
 pub seen-owes : (scene : Scene) (t : Table Seen) (h : ℕ) (s : Seen) → value_at t h ≡ Some s → IsSeen scene h s → owed_again None t scene h ≡ []
 seen-owes scene t h s found seen =
-    ap (λ x. owed false x (sight_in scene h)) (ap sight_of found ∙ sight-is scene h s seen) ∙ nothing-owed (sight_in scene h)
+    ap (λ (o : Option Seen). owed false (sight_of o) (sight_in scene h)) found ∙ seen-owed scene h s seen
 
 some-seen : (scene : Scene) (t : Table Seen) (h : ℕ) → is_some (value_at t h) ≡ true → IsSeenIn t scene h → owed_again None t scene h ≡ []
 some-seen scene t h some seen = by (value_at t h) refl where
@@ -109,7 +108,7 @@ module _ (scene : Scene) (valid : IsValid scene) (named : Option ℕ) (old new :
 
   listed-keeps : (concerned : Concerned) → KeepOthers old concerned scene → KeepOthers new concerned scene
   listed-keeps concerned known k s there off found = elim (cases_Bool (nat_lt 0 (times hs k))) [
-    | inl more ↦ seen-keeps scene k s (seen k s (grind (arith, nat_tests, more)) found)
+    | inl more ↦ (seen k s (grind (arith, nat_tests, more)) found).keeps
     | inr none ↦ let zero : times hs k ≡ 0 = grind (arith, nat_tests, none) in known k s there off (sym (rest k zero) ∙ found)
   ]
 

@@ -25,17 +25,14 @@ use Rattle.debt_defs.specs.Concerns.{lies_in}
 use Rattle.debt_defs.proofs.Inside.{among-handles}
 use Rattle.debt_defs.proofs.Moved.{lies-in-tree}
 use Rattle.gui_change.specs.Again.{owed_again}
-use Rattle.gui_concerns.specs.Concerned.{is_below, is_below_user, may_be}
+use Rattle.gui_concerns.specs.Concerned.{is_below, is_below_user}
 use Rattle.gui_change.specs.Dues.{OwesAll}
 use Rattle.gui_change.specs.Sees.{IsSeenIn, KnowsShown, SeesAgain, is_below_one, is_below_other, owing}
-use Rattle.gui_debts.specs.Sights.{AreSeen, KeepOthers}
-use Rattle.gui_concerns.specs.declared.concerned.Concerned.{Concerned}
-use Rattle.gui_concerns.specs.declared.concerned.Concerned.TheVariants.{Nobody}
+use Rattle.gui_debts.specs.Sights.{AreSeen}
 use Rattle.gui_debts.specs.declared.seen.Seen.{Seen}
 use Rattle.gui_concerns.proofs.Below.{below_met, climbs, meets_from, steps_from, user_met}
 use Rattle.gui_change.proofs.Orders.{shown_there}
 use Rattle.gui_change.proofs.SeenAgain.{all-owed, nothing-known, shown-has, shown-still}
-use Rattle.gui_debts.proofs.Sparing.{seen-keeps}
 
 module _ (scene : Scene) (valid : IsValid scene) (h : ℕ) where
   lies-tree : (k : ℕ) → lies_in scene h k ≡ true → has (tree_at (handles_of scene.trees) h) k ≡ true
@@ -101,13 +98,6 @@ module _ (scene : Scene) (number : ℕ) (once : StandsOnce (handles_of scene.tre
 
   pub user-below : {P : Type 0} (k : ℕ) → ((u : ℕ) → uses_style scene.book u number ≡ true → is_below_other scene number u ≡ false → is_below scene u k ≡ true → P) → is_below_user scene number k ≡ true → P
   user-below k tops below = top-from (steps_from trees (Some (as_handle k))) (as_handle k) (omega arith) tops (user_met scene number k once ∙ below)
-
--- where those are seen that a change may concern, all may keep their items
-pub all-kept : (scene : Scene) (t : Table Seen) (concerned : Concerned) → KeepOthers t concerned scene → ((k : ℕ) → may_be scene concerned k ≡ true → IsSeenIn t scene k) → KeepOthers t Nobody scene
-all-kept scene t concerned known seen k s there off found = elim (cases_Bool (may_be scene concerned k)) [
-  | inl may ↦ seen-keeps scene k s (seen k may s found)
-  | inr isnt ↦ known k s there isnt found
-]
 
 -- something is known of what is listed, which is shown
 pub knows-shown : (objects : ℕ) (t : Table Seen) (hs : List Handle) (scene : Scene) → numbers hs ≡ order scene → HasThese objects t hs → KnowsShown t scene

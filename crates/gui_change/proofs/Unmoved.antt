@@ -121,7 +121,7 @@ there-with p k t (Tree object cs rest) i = elim (cases_Bool (is_at p object)) [
 ]
 
 -- what does not lie in it keeps its path, the new parent too
-moved-path : (before : Scene) (h p k : ℕ) → IsValid before → is_there before h ≡ true → lies_in before h k ≡ false → path_by (is_at k) [] (moved_last before.trees h p) ≡ path_at before k
+pub moved-path : (before : Scene) (h p k : ℕ) → IsValid before → is_there before h ≡ true → lies_in before h k ≡ false → path_by (is_at k) [] (moved_last before.trees h p) ≡ path_at before k
 moved-path before h p k valid top up =
     let f = before.trees in
     let tree = tree_by (is_at h) f in

@@ -2,6 +2,7 @@
 use Rattle.std.specs.Prelude.{◌≡◌, ◌≤◌, ◌*◌, ℕ, if◌then◌else◌, List, [], ◌∷◌, map, vec_len, vec_capacity}
 use Rattle.std.specs.List.{flat_map}
 use Rattle.std.specs.Global.{Vec}
+use Rattle.gui_base.specs.declared.Handle.{Handle}
 use Rattle.scene_defs.specs.Shown.{Entry as Painted}
 use Rattle.gui_change.specs.declared.entries.Entry.{Entry}
 
@@ -17,6 +18,13 @@ own_of e = if e.is_bars then [] else e.handle ∷ []
 
 abbrev pub own_handles : List Painted → List ℕ
 own_handles es = flat_map own_of es
+
+-- the same objects, as the code has them
+abbrev pub owner_of : Entry → List Handle
+owner_of e = if e.is_bars then [] else e.h ∷ []
+
+abbrev pub owners : List Entry → List Handle
+owners es = flat_map owner_of es
 
 -- a list is empty, and has room for two entries of each of so many objects
 pub record IsEntryRoom (objects : ℕ) (listed : Vec Entry) : Type 0 where

@@ -2,6 +2,7 @@ pub mod After
 pub mod Again
 pub mod Canvas
 pub mod Comes
+pub mod Down
 pub mod Dues
 pub mod Edits
 pub mod Entries
@@ -13,4 +14,5 @@ pub mod Marking
 pub mod Reordered
 pub mod Sees
 pub mod Settled
+pub mod Shifted
 pub mod SettledProps

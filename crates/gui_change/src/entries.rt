@@ -3,10 +3,9 @@ ghost use Rattle.std.specs.Prelude.{◌≡◌, ◌≤◌, ◌<◌, ◌+◌, ◌*
 ghost use Rattle.std.specs.Prelude.{drop, length, position, take, vec_len, vec_capacity};
 ghost use Rattle.gui_base.specs.Forest.{has, size, tree_at};
 ghost use Rattle.gui_store.specs.Views.{scene_of};
-ghost use Rattle.gui_tree.specs.Handles.{numbers};
 ghost use Rattle.scene_defs.specs.Shown.{Entry as Painted, bars_over, entries, entries_in, own};
 ghost use Rattle.gui_change.specs.Comes.{Comes};
-ghost use Rattle.gui_change.specs.Entries.{IsEntryRoom, all_entries, own_handles};
+ghost use Rattle.gui_change.specs.Entries.{IsEntryRoom, all_entries, owners};
 ghost use Rattle.gui_change.specs.Fronts.{Fronts, is_of, names};
 ghost use Rattle.gui_change.specs.Goes.{Goes};
 
@@ -62,11 +61,12 @@ fn list_tree(tree: &Tree, listed: &mut Vec<Entry>, h: Handle)
     listed.push_reserved(Entry { h, is_bars: true });
 }
 
-/// Lists the objects of these entries after what is listed, each where it is painted by itself.
-pub(crate) fn list_own(painted: &[Entry], listed: &mut Vec<Handle>)
-    requires room { vec_len listed.old + length (own_handles (all_entries painted.now)) ≤ vec_capacity listed.old }
-    ensures listed { numbers listed.new.items
-        ≡ numbers listed.old.items ++ own_handles (all_entries painted.now) }
+/// Lists the objects of these entries, each where it is painted by itself. The list is empty before.
+pub(crate) fn list_owners(painted: &[Entry], listed: &mut Vec<Handle>)
+    requires empty { listed.old.items ≡ [] }
+    requires len { vec_len listed.old ≡ 0 }
+    requires room { length (owners painted.now) ≤ vec_capacity listed.old }
+    ensures listed { listed.new.items ≡ owners painted.now }
     ensures capacity { vec_capacity listed.new ≡ vec_capacity listed.old }
 {
     for entry in painted {

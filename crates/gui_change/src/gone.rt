@@ -44,7 +44,7 @@ fn is_shown_root(root: Handle, active: Handle) -> bool
 }
 
 /// Whether an object is shown, by the trees: it stands below the active screen or in a layer.
-fn is_shown(store: &Store, h: Handle) -> bool
+pub(crate) fn is_shown(store: &Store, h: Handle) -> bool
     ensures { result ≡ is_shown (scene_of store.now) h.0 }
 {
     let _tree = store.tree();

@@ -20,6 +20,7 @@
 mod after;
 mod again;
 mod canvas;
+mod down;
 mod edits;
 mod entries;
 mod gone;
@@ -28,8 +29,10 @@ mod more;
 mod moved;
 mod renew;
 mod reorder;
+mod replanted;
 mod scene_look;
 mod seeing;
+mod shifted;
 mod shown;
 
 pub use canvas::Canvas;

@@ -3,8 +3,11 @@ ghost use Rattle.std.specs.Prelude.{◌≡◌, List, ℕ, true, false};
 ghost use Rattle.gui_boxes.specs.Marks.{is_changed, is_marked, most_marks};
 ghost use Rattle.gui_store.specs.Views.{scene_of};
 ghost use Rattle.gui_change.specs.Marking.{BoxesStay, MarksTell};
+ghost use Rattle.gui_concerns.specs.Concerned.{may_be};
 ghost use Rattle.gui_concerns.specs.Edits.{is_gone};
 ghost use Rattle.gui_concerns.specs.Marking.{AreUnmarked};
+ghost use Rattle.gui_concerns.specs.Moving.{moves_nobody};
+ghost use Rattle.scene_defs.specs.Scene.{is_there};
 ghost use Rattle.gui_concerns.specs.declared.edit.Edit.{Edit};
 
 use gui_boxes::marks::Marks;
@@ -21,6 +24,8 @@ pub(crate) fn mark_moved(marks: &mut Marks, store: &Store, change: &Change, conc
     ensures boxes { (edit : Edit) (removed : List ℕ) → is_gone edit ≡ false →
         BoxesStay marks.new (scene_of store.now) edit change.now concerned removed }
     ensures whole { (k : ℕ) → is_marked marks.new k ≡ true → is_changed marks.new k ≡ true }
+    ensures all { moves_nobody change.now ≡ false → (k : ℕ) → is_there (scene_of store.now) k ≡ true →
+        may_be (scene_of store.now) concerned k ≡ true → is_changed marks.new k ≡ true }
     ensures most { most_marks marks.new ≡ most_marks marks.old }
 {
     if moves_nobody(change) {

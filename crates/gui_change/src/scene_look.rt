@@ -1,8 +1,7 @@
 //! What is seen of a scene.
-ghost use Rattle.std.specs.Prelude.{◌≡◌, ◌≤◌, [], IfOk, length, get_or, vec_capacity};
+ghost use Rattle.std.specs.Prelude.{◌≡◌, ◌≤◌, [], IfOk, length, get_or};
 ghost use Rattle.scene_defs.specs.Scene.{Scene};
 ghost use Rattle.scene_defs.specs.Valid.{IsValid};
-ghost use Rattle.gui_change.specs.Entries.{all_entries};
 ghost use Rattle.gui_change.specs.Sees.{IsRoom};
 ghost use Rattle.gui_debts.specs.Sights.{AreSeen};
 ghost use Rattle.gui_tree.specs.Handles.{numbers};
@@ -11,8 +10,7 @@ ghost use Rattle.gui_boxes.specs.Listing.{HasThese};
 ghost use Rattle.gui_layout.specs.Solved.{AreReached, AreSolved};
 ghost use Rattle.gui_store.specs.Views.{scene_of};
 
-use crate::entries::{Entry, list_entries, list_own, open_entries};
-use crate::shown::list_shown;
+use crate::entries::{Entry, list_entries, list_owners, open_entries};
 use gui_base::intervals::HANDLE;
 use gui_base::{Handle, NoMemory};
 use gui_boxes::listing::put;
@@ -28,9 +26,8 @@ const HANDLES: u32 = HANDLE.high as u32 + 1;
 /// What is seen of the objects of the trees that are shown.
 #[derive(Drop)]
 pub(crate) struct SceneLook {
-    // Each before those below it.
-    pub(crate) order: Vec<Handle>,
-    // What is painted of these objects, the lowest first: of each what it shows by itself, and its bars.
+    // What is painted of these objects, the lowest first: of each what it shows by itself, and its bars. An object
+    // comes before those below it.
     pub(crate) entries: Vec<Entry>,
     // Of these objects alone.
     pub(crate) seen: Table<Seen>,
@@ -55,20 +52,6 @@ fn see_all(table: &mut Table<Seen>, listed: &[Handle], store: &Store, places: &P
     }
 }
 
-/// Lists what is shown, by what is listed as painted.
-pub(crate) fn list_order(look: &mut SceneLook, store: &Store)
-    requires entries { all_entries look.old.entries.items ≡ entries (scene_of store.now) }
-    requires order_room { (scene_of store.now).limits.objects ≤ vec_capacity look.old.order }
-    ensures order { numbers look.new.order.items ≡ order (scene_of store.now) }
-    ensures order_room { vec_capacity look.new.order ≡ vec_capacity look.old.order }
-    ensures entries { look.new.entries ≡ look.old.entries }
-    ensures seen { look.new.seen ≡ look.old.seen }
-{
-    let _tree = store.tree();
-    look.order.clear();
-    list_own(look.entries.as_slice(), &mut look.order);
-}
-
 /// An empty list with room for so many objects, or NoMemory where there is too little.
 pub(crate) fn open_list(alloc: Global, objects: u32) -> Result<Vec<Handle>, NoMemory>
     ensures { IfOk result (λ listed. IsRoom objects listed) }
@@ -85,32 +68,31 @@ impl SceneLook {
     ghost use Rattle.gui_debts.specs.Seen.{IsShownAt};
 
     /// What is seen of a store. It takes all the memory that seeing so many objects will need, or answers
-    /// NoMemory where there is too little.
+    /// NoMemory where there is too little. `listed` is empty, and is so afterwards.
     pub(crate) fn open(
         alloc: Global,
         objects: u32,
         store: &Store,
         places: &Places,
+        listed: &mut Vec<Handle>,
     ) -> Result<SceneLook, NoMemory>
         requires solved { AreSolved places.now (scene_of store.now) }
         requires reached { AreReached places.now (scene_of store.now) }
         requires objects { objects ≡ (scene_of store.now).limits.objects }
-        ensures { IfOk result (λ look. Shows (scene_of store.now).limits.objects look (scene_of store.now)) }
+        requires room { IsRoom objects listed.old }
+        ensures shows { IfOk result (λ look. Shows (scene_of store.now).limits.objects look (scene_of store.now)) }
+        ensures room { IfOk result (λ look. IsRoom objects listed.new) }
     {
-        let mut order = open_list(alloc, objects)?;
         let mut entries = open_entries(alloc, objects)?;
         let Ok(mut seen) = Table::open(alloc, HANDLES, objects) else {
             return Err(NoMemory);
         };
         let _tree = store.tree();
-        list_shown(store, &mut order);
         list_entries(store, &mut entries);
-        see_all(&mut seen, order.as_slice(), store, places);
-        Ok(SceneLook {
-            order,
-            entries,
-            seen,
-        })
+        list_owners(entries.as_slice(), listed);
+        see_all(&mut seen, listed.as_slice(), store, places);
+        listed.clear();
+        Ok(SceneLook { entries, seen })
     }
 
     /// Whether the nth of the entries that are painted is that of an object's bars.

@@ -10,7 +10,7 @@ use Rattle.gui_refresh.proofs.Agreement.{whole_agrees, change_agrees, not_when}
 use Rattle.run_defs.specs.declared.Command.{Command}
 use Rattle.run_defs.specs.Machine.{Machine}
 use Rattle.run_defs.specs.Step.{step, IsCommand}
-use Rattle.run_laws.specs.Owing.{command_owes}
+use Rattle.run_defs.specs.Owing.{command_owes}
 use Rattle.run_laws.proofs.Commands.{owed_holds_all}
 use Rattle.scene_defs.specs.Picture.{paint}
 use Rattle.scene_defs.specs.Place.{panel_of}

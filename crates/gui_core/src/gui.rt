@@ -3,7 +3,6 @@ ghost use Rattle.std.specs.Prelude.{◌≡◌, ◌↔◌, ◌<◌, ◌≤◌, �
 ghost use Rattle.gui_base.specs.declared.refusal.Refusal.{Refusal};
 ghost use Rattle.gui_edge.specs.Panel.{PanelState, HasSizes};
 ghost use Rattle.gui_base.specs.Area.{size_of};
-ghost use Rattle.gui_board.specs.Slots.{used_in};
 ghost use Rattle.gui_damage.specs.Pending.{most_areas, total};
 ghost use Rattle.gui_store.specs.Views.{scene_of};
 ghost use Rattle.gui_layout.specs.Naturals.{AreNatural};
@@ -57,10 +56,10 @@ impl Drop for Gui {
 
 impl Gui {
     ghost use Rattle.gui_base.specs.Bounded.{bounds_of};
-    ghost use Rattle.run_defs.specs.Machine.{first_machine};
+    ghost use Rattle.run_defs.specs.Machine.{first_machine, used_in};
     ghost use Rattle.run_defs.specs.Pointing.{hit};
     ghost use Rattle.run_defs.specs.Step.{step, IsCommand};
-    ghost use Rattle.run_laws.specs.Owing.{command_owes};
+    ghost use Rattle.run_defs.specs.Owing.{command_owes};
     ghost use Rattle.std.specs.Io.KnownBytes.{Appends};
     ghost use Rattle.gui_damage.specs.Adding.{AddsAll};
     ghost use Rattle.gui_edge.specs.Causes.{HasCause};

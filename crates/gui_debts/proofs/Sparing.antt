@@ -1,6 +1,7 @@
 -- What is known of an object is what it paints where it stood, where a change does not concern what it paints by.
-use Rattle.std.proofs.Common.{◌≡◌, ◌∙◌, sym, ap, refl, ℕ, List, [], Option, Some, None, option_map}
+use Rattle.std.proofs.Common.{◌≡◌, ◌∙◌, sym, ap, refl, ℕ, false, List, [], Option, Some, None, is_some, option_map}
 use Rattle.gui_base.specs.Area.{Rect}
+use Rattle.gui_base.specs.declared.area.Area.{Area}
 use Rattle.gui_base.specs.Corners.{rect_of}
 use Rattle.gui_pack.specs.Records.{paints_in}
 use Rattle.gui_pack.specs.declared.record.Paints.{Paints}
@@ -16,7 +17,7 @@ use Rattle.scene_defs.specs.Looks.{look_of}
 use Rattle.scene_defs.specs.Place.{place}
 use Rattle.scene_defs.specs.Scene.{Object, Scene, object_at}
 use Rattle.scene_defs.specs.Valid.{IsValid, IsChange}
-use Rattle.debt_defs.specs.Concerns.{IsSame, look_at}
+use Rattle.debt_defs.specs.Concerns.{look_at}
 use Rattle.debt_defs.proofs.Concerned.{others_are_same, look-same}
 use Rattle.gui_concerns.specs.Concerned.{Covers}
 use Rattle.gui_concerns.specs.declared.concerned.Concerned.{Concerned}
@@ -47,12 +48,25 @@ stands scene None at = refl
 stands scene (Some object) None = refl
 stands scene (Some object) (Some area) = refl
 
--- so what is seen is what is painted there
-pub seen-keeps : (scene : Scene) (h : ℕ) (s : Seen) → IsSeen scene h s → KeepsItems scene h s
-seen-keeps scene h s is =
-    is.items
+-- so what it paints is what is painted there
+pub items-keep : (scene : Scene) (h : ℕ) (paints : Option Paints) → items_known paints ≡ items scene h → items_known paints ≡ items_in scene (object_at scene h) (place_in (items_known paints))
+items-keep scene h paints is =
+    is
     ∙ (sym (stands scene (object_at scene h) (place scene h))
-    ∙ ap (λ (l : List Item). items_in scene (object_at scene h) (place_in l)) (sym is.items))
+    ∙ ap (λ (l : List Item). items_in scene (object_at scene h) (place_in l)) (sym is))
+
+-- an object that is seen nowhere has no area there
+pub no-area : (at : Option Area) → is_some at ≡ false → None ≡ option_map rect_of at
+no-area None none = refl
+no-area (Some area) none = cc
+
+-- and so are no items
+pub none-keep : (scene : Scene) (h : ℕ) (paints : Option Paints) → items_known paints ≡ [] → items_known paints ≡ items_in scene (object_at scene h) (place_in (items_known paints))
+none-keep scene h paints empty =
+    empty ∙ sym (ap (λ (l : List Item). items_in scene (object_at scene h) (place_in l)) empty ∙ nowhere (object_at scene h)) where
+      nowhere : (object : Option Object) → items_in scene object None ≡ []
+      nowhere None = refl
+      nowhere (Some object) = refl
 
 -- what is painted there is what is seen where the object stands there still
 pub kept-items : (scene : Scene) (h : ℕ) (s : Seen) → KeepsItems scene h s → place_in (items_known s.paints) ≡ place scene h → items_known s.paints ≡ items scene h
@@ -71,16 +85,16 @@ moved-known scene h known moved at moves keeps = by (object_at scene h) keeps wh
 abbrev pub PaintsSame : Scene → Scene → ℕ → Type 0
 PaintsSame before after h = (at : Option Rect) → items_in after (object_at after h) at ≡ items_in before (object_at before h) at
 
-same-paints : (before after : Scene) (h : ℕ) → IsSame before after h → PaintsSame before after h
-same-paints before after h same at =
+pub look-paints : (before after : Scene) (h : ℕ) → look_at after h ≡ look_at before h → PaintsSame before after h
+look-paints before after h same at =
     painted-is after (object_at after h) at
-    ∙ (ap (λ (l : Option Widget). painted l at) (look-same before after h same) ∙ sym (painted-is before (object_at before h) at))
+    ∙ (ap (λ (l : Option Widget). painted l at) same ∙ sym (painted-is before (object_at before h) at))
 
 pub keeps : (before after : Scene) (h : ℕ) (s : Seen) → IsSeen before h s → PaintsSame before after h → KeepsItems after h s
-keeps before after h s is same = seen-keeps before h s is ∙ sym (same (place_in (items_known s.paints)))
+keeps before after h s is same = is.keeps ∙ sym (same (place_in (items_known s.paints)))
 
 -- what was seen before a change that is done keeps for others after it
 pub others_keep : (scene : Scene) (change : Change) (concerned : Concerned) (table : Table Seen) → IsValid scene → IsChange change → answer_of scene change ≡ None →
     Covers concerned scene change → AreSeen table scene → KeepOthers table concerned (changed scene change)
 others_keep scene change concerned table valid plain done covers seen h s there off found =
-    keeps scene (changed scene change) h s (seen h s found) (same-paints scene (changed scene change) h (others_are_same scene change h valid plain (covers done h there off)))
+    keeps scene (changed scene change) h s (seen h s found) (look-paints scene (changed scene change) h (look-same scene (changed scene change) h (others_are_same scene change h valid plain (covers done h there off))))

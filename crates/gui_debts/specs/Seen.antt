@@ -1,5 +1,5 @@
 -- What the code knows of an object that is seen.
-use Rattle.std.specs.Prelude.{◌≡◌, ◌<◌, ℕ, Bool, true, false, Some, None, List, [], ◌∷◌, length, get_or, option_map}
+use Rattle.std.specs.Prelude.{◌≡◌, ◌<◌, ℕ, Bool, true, false, Some, None, IsSome, List, [], ◌∷◌, length, get_or, option_map}
 use Rattle.std.specs.declared.option.Option.{Option}
 use Rattle.gui_base.specs.Area.{Rect}
 use Rattle.gui_base.specs.Corners.{rect_of}
@@ -35,16 +35,22 @@ place_in (item ∷ items) = Some item.area
 abbrev pub bars_seen : Seen → List Item
 bars_seen s = bar_items (wide (packed_in s.bars) (place_in (items_known s.paints)))
 
--- what is known of h is what is seen of it: where, what it paints by itself, and its bars
-pub record IsSeen (scene : Scene) (h : ℕ) (s : Seen) : Type 0 where
-  pub visible : option_map rect_of s.visible ≡ visible scene h
-  pub items : items_known s.paints ≡ items scene h
-  pub bars : bars_seen s ≡ bars scene h
-
 -- it would paint what is known where it stood by that, wherever it stands now
 abbrev pub KeepsItems : Scene → ℕ → Seen → Type 0
 KeepsItems scene h s =
     items_known s.paints ≡ items_of scene (object_at scene h) (place_in (items_known s.paints))
+
+-- something is seen of h
+abbrev pub IsVisible : Scene → ℕ → Type 0
+IsVisible scene h = IsSome (visible scene h)
+
+-- What is known of h is what is seen of it: where, and if it is seen somewhere, what it paints by itself, and its
+-- bars. What it paints by itself may be known of a place where it stood when it was seen.
+pub record IsSeen (scene : Scene) (h : ℕ) (s : Seen) : Type 0 where
+  pub visible : option_map rect_of s.visible ≡ visible scene h
+  pub items : IsVisible scene h → items_known s.paints ≡ items scene h
+  pub bars : IsVisible scene h → bars_seen s ≡ bars scene h
+  pub keeps : KeepsItems scene h s
 
 -- what is lent of an entry: where its object is seen, what that paints by itself, and its bars
 abbrev pub visible_of : ShownEntry → Option Rect
@@ -56,12 +62,12 @@ items_by e = items_known e.seen.now.paints
 abbrev pub bars_by : ShownEntry → List Item
 bars_by e = bars_seen e.seen.now
 
--- and that is so in a scene
+-- and that is so in a scene: what it paints and its bars are told where it is seen somewhere
 pub record IsKnown (scene : Scene) (e : ShownEntry) : Type 0 where
   pub there : is_there scene e.h.0 ≡ true
   pub visible : visible_of e ≡ visible scene e.h.0
-  pub items : items_by e ≡ items scene e.h.0
-  pub bars : bars_by e ≡ bars scene e.h.0
+  pub items : IsVisible scene e.h.0 → items_by e ≡ items scene e.h.0
+  pub bars : IsVisible scene e.h.0 → bars_by e ≡ bars scene e.h.0
 
 -- which entry it is
 abbrev pub entry_of : ShownEntry → Entry

@@ -1,5 +1,5 @@
 -- What the code knows of where objects are seen.
-use Rattle.std.specs.Prelude.{◌≡◌, ℕ, option_map}
+use Rattle.std.specs.Prelude.{◌≡◌, ℕ, None, option_map}
 use Rattle.gui_base.specs.Corners.{rect_of}
 use Rattle.scene_defs.specs.Items.{bars}
 use Rattle.scene_defs.specs.Place.{place}
@@ -18,6 +18,11 @@ pub record IsSighted (scene : Scene) (s : Sighting) : Type 0 where
 pub record AreSighted (scene : Scene) (nearby : Nearby) : Type 0 where
   pub last : IsSighted scene nearby.last
   pub above : IsSighted scene nearby.above
+
+-- what is known of an object was seen nowhere, and it is seen nowhere
+pub record IsUnseen (sighting : Sighting) (s : Seen) : Type 0 where
+  pub was : option_map rect_of s.visible ≡ None
+  pub is : option_map rect_of sighting.visible ≡ None
 
 -- what is known of an object was seen in the same place, and it is seen where it was seen
 pub record IsThere (sighting : Sighting) (s : Seen) : Type 0 where

@@ -31,9 +31,10 @@ use gui_widgets::Item;
 pub struct Seen {
     /// Where it is seen, if something is seen of it.
     pub visible: Option<Area>,
-    /// All that it paints by itself, if it stands somewhere.
+    /// All that it paints by itself, in the place where it was seen last. Of an object that is seen nowhere it
+    /// may be unknown.
     pub paints: Option<Paints>,
-    /// The bars that it shows over its children, as they are kept beside its place.
+    /// The bars that it shows over its children, as they are kept beside its place, if it is seen somewhere.
     pub bars: KeptBars,
 }
 
@@ -110,7 +111,7 @@ impl ShownEntry<'_> {
         self.seen.visible
     }
 
-    /// All that it paints by itself, from back to front.
+    /// All that it paints by itself, from back to front. If it is seen nowhere, this need not be so.
     pub fn items(&self) -> ArrayVec<Item, 6>
         ensures { items_shown result.items ≡ items_by self.now }
     {
@@ -135,7 +136,7 @@ impl ShownEntry<'_> {
         self.is_bars && matches!(self.seen.bars.shown, ShownBars::Nothing)
     }
 
-    /// The bars that it shows over its children, from back to front.
+    /// The bars that it shows over its children, from back to front. If it is seen nowhere, this need not be so.
     pub fn bars(&self) -> Bars
         ensures { bars_in result ≡ bars_by self.now }
     {
@@ -201,8 +202,19 @@ fn paints_again(
     }
 }
 
+/// What an object would paint that is seen nowhere, as far as what is known of it tells.
+fn paints_kept(known: Option<&Seen>) -> Option<Paints>
+    ensures { (scene : Scene) (h : ℕ) → IfSome known.entry (λ s. KeepsItems scene h s.now) →
+        items_known result ≡ items_of scene (object_at scene h) (place_in (items_known result)) }
+{
+    match known {
+        Some(known) => known.paints,
+        None => None,
+    }
+}
+
 /// What is seen of an object that is there. If what is known may be kept and it shows no bars, no value of it
-/// is looked up, which no clause says.
+/// is looked up, which no clause says. Nor is any of an object that is seen nowhere.
 pub fn see(store: &Store, places: &Places, sighting: &Sighting, known: Option<&Seen>) -> Seen
     requires solved { AreSolved places.now (scene_of store.now) }
     requires reached { AreReached places.now (scene_of store.now) }
@@ -211,6 +223,13 @@ pub fn see(store: &Store, places: &Places, sighting: &Sighting, known: Option<&S
     requires known { IfSome known (λ s. KeepsItems (scene_of store.now) sighting.now.h.0 s.now) }
     ensures { IsSeen (scene_of store.now) sighting.now.h.0 result }
 {
+    if sighting.visible.is_none() {
+        return Seen {
+            visible: None,
+            paints: paints_kept(known),
+            bars: keep(Bars::none()),
+        };
+    }
     Seen {
         visible: sighting.visible,
         paints: paints_again(store, places, sighting, known),

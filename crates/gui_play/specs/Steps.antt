@@ -8,7 +8,7 @@ use Rattle.gui_damage.specs.Pending.{Pending, IsPending}
 use Rattle.gui_edge.specs.Causes.{HasCause}
 use Rattle.gui_edge.specs.Sink.{SinkState, AppendsPrefix}
 use Rattle.gui_edge.specs.declared.Failed.{Failed}
-use Rattle.run_laws.specs.Owing.{owed_along}
+use Rattle.run_defs.specs.Owing.{owed_along}
 use Rattle.run_defs.specs.Step.{Step}
 use Rattle.run_defs.specs.declared.Reply.{Reply}
 use Rattle.run_defs.specs.declared.Reply.TheVariants.{Refused}

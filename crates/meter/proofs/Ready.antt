@@ -8,7 +8,7 @@ use Rattle.gui_core.specs.Machines.{machine_of, pending_in, refresher_in, stage_
 use Rattle.gui_core.specs.declared.gui.Gui.{Gui}
 use Rattle.gui_play.specs.Panels.{AgreesWith, GoesOnAgreeing}
 use Rattle.gui_refresh.specs.Stages.{Refreshing, stage}
-use Rattle.run_laws.specs.Owing.{slice_limit}
+use Rattle.run_defs.specs.Owing.{slice_limit}
 use Rattle.run_defs.specs.Machine.{Machine}
 use Rattle.run_defs.specs.Step.{step}
 use Rattle.run_defs.specs.declared.Command.{Command}

@@ -7,7 +7,7 @@ ghost use Rattle.gui_base.specs.declared.refusal.Refusal.{Refusal};
 ghost use Rattle.gui_base.specs.Limits.{with_sizes};
 ghost use Rattle.gui_core.specs.Machines.{machine_of};
 ghost use Rattle.gui_edge.specs.Panel.{HasSizes};
-ghost use Rattle.gui_play.specs.Panels.{ShowsScene};
+ghost use Rattle.run_defs.specs.Run.{ShowsScene};
 ghost use Rattle.meter.specs.Commands.{after_all, refusal_of_all};
 ghost use Rattle.meter.specs.declared.fault.Fault.TheVariants as fault;
 ghost use Rattle.meter.specs.Lines.{IsNumberOf, SaysNumber, number_in};
@@ -58,7 +58,7 @@ fn show_line<P: Panel>(text: &str, gui: &mut Gui, panel: &mut P) -> Result<(), F
     ensures machine { SaysNumber text.now →
         machine_of gui.new ≡ after_all (machine_of gui.old) (number_commands (number_in text.now)) }
     ensures shows { SaysNumber text.now →
-        OnOk result (ShowsScene (P.state panel.new) (machine_of gui.new).scene) }
+        OnOk result (ShowsScene (P.state panel.new).shows (machine_of gui.new).scene) }
     ensures writes { SaysNumber text.now →
         OnOk result (WritesPicture (P.state panel.old) (P.state panel.new) (machine_of gui.new).scene) }
     ensures refused { (refusal : Refusal) → SaysNumber text.now →

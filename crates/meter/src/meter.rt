@@ -2,13 +2,14 @@
 ghost use Rattle.std.specs.Prelude.{◌≡◌, ◌<◌, All, Err, IfErr, None, OnOk, Some};
 ghost use Rattle.gui_base.specs.Refusing.{result_of};
 ghost use Rattle.gui_core.specs.Machines.{machine_of, stage_of};
-ghost use Rattle.gui_play.specs.Panels.{CanSend, Refreshes, ShowsScene};
+ghost use Rattle.gui_play.specs.Panels.{CanSend, Refreshes};
 ghost use Rattle.gui_base.specs.declared.refusal.Refusal.{Refusal};
 ghost use Rattle.meter.specs.declared.fault.Fault.TheVariants as fault;
 ghost use Rattle.meter.specs.Commands.{after, after_all, refusal_of, refusal_of_all};
 ghost use Rattle.meter.specs.Numbers.{alarms, number_commands, screen_commands};
 ghost use Rattle.meter.specs.Ready.{IsReady, StaysReady};
 ghost use Rattle.meter.specs.Shown.{Hinders, WritesPicture};
+ghost use Rattle.run_defs.specs.Run.{ShowsScene};
 ghost use Rattle.run_defs.specs.Step.{IsCommand};
 
 use crate::fault::Fault;
@@ -141,7 +142,7 @@ fn show<P: Panel>(gui: &mut Gui, panel: &mut P) -> Result<(), Fault>
     requires { IsReady gui.old (P.state panel.old) }
     ensures machine { machine_of gui.new ≡ machine_of gui.old }
     ensures ready { OnOk result (IsReady gui.new (P.state panel.new)) }
-    ensures shows { OnOk result (ShowsScene (P.state panel.new) (machine_of gui.old).scene) }
+    ensures shows { OnOk result (ShowsScene (P.state panel.new).shows (machine_of gui.old).scene) }
     ensures writes { OnOk result (WritesPicture (P.state panel.old) (P.state panel.new) (machine_of gui.old).scene) }
     ensures hinders { IfErr result (λ fault. Hinders fault (P.state panel.old) (P.state panel.new)) }
 {
@@ -156,7 +157,7 @@ pub fn show_number<P: Panel>(gui: &mut Gui, panel: &mut P, number: i32) -> Resul
     requires { IsReady gui.old (P.state panel.old) }
     ensures machine { machine_of gui.new ≡ after_all (machine_of gui.old) (number_commands number) }
     ensures ready { OnOk result (IsReady gui.new (P.state panel.new)) }
-    ensures shows { OnOk result (ShowsScene (P.state panel.new) (machine_of gui.new).scene) }
+    ensures shows { OnOk result (ShowsScene (P.state panel.new).shows (machine_of gui.new).scene) }
     ensures writes { OnOk result (WritesPicture (P.state panel.old) (P.state panel.new) (machine_of gui.new).scene) }
     ensures refused { (refusal : Refusal) → refusal_of_all (machine_of gui.old) (number_commands number) ≡ Some refusal →
         result ≡ Err (fault.Refused refusal) }

@@ -27,10 +27,14 @@ after (window ∷ ended) (Pumps answer) = window ∷ ended
 abbrev pub windows : ℕ → List Happening → List Window
 windows panel happenings = fold after (record { size = panel; count = 1 } ∷ []) happenings
 
--- How often a list of 32 areas can have overflowed where so many areas were added: the first time takes 33,
--- and each further one 32 more.
+-- how many areas are listed as pending at most
+abbrev pub most_areas : ℕ
+most_areas = 32
+
+-- How often the list can have overflowed where so many areas were added: the first time takes 33, and each
+-- further one 32 more.
 abbrev pub overflows : ℕ → ℕ
-overflows count = (count - 1) / 32
+overflows count = (count - 1) / most_areas
 
 -- what may be sent for a window: what is owed in it, and the whole panel for each overflow
 abbrev pub allowed : ℕ → Window → ℕ

@@ -20,7 +20,7 @@ use Rattle.debt_defs.specs.Frame.{covered}
 use Rattle.debt_defs.specs.Scenes.{debt_of}
 use Rattle.debt_defs.proofs.Scenes.{debt_within_panel, frame_of_scenes}
 use Rattle.run_laws.specs.Debts.{CommandWithinPanel, RefusedOwesNothing, OwedHoldsAllThatChanges}
-use Rattle.run_laws.specs.Owing.{owed_along}
+use Rattle.run_defs.specs.Owing.{owed_along}
 
 -- changes owe in order
 pub owed-append : (scene : Scene) (cs ds : List Change) → owed_along scene (cs ++ ds) ≡ owed_along scene cs ++ owed_along (after_changes scene cs) ds

@@ -14,7 +14,7 @@ use Rattle.owed_defs.specs.Flights.{Flight, IsFlown, PumpsWithin}
 use Rattle.owed_defs.specs.Happenings.{Happening, Debt, Owes, debt_of as sizes_of}
 use Rattle.owed_defs.specs.Pumping.{PumpState, Fresh, Obeys, pump_after, moves_in, waits_in}
 use Rattle.owed_defs.proofs.Flights.{flights_go_on, flights_claim_on}
-use Rattle.run_laws.specs.Owing.{happens, happenings, command_owes}
+use Rattle.run_defs.specs.Owing.{happens, happenings, command_owes}
 use Rattle.run_laws.specs.Pumping.{LineFlies, LineKeepsFlight, FlightsBound}
 use Rattle.run_laws.proofs.Runs.{happenings-append, happenings-split, only_debts, debts}
 

@@ -18,7 +18,7 @@ use Rattle.owed_defs.specs.Windows.{Window, windows, allowance}
 use Rattle.owed_defs.specs.Windows.{after as window_after}
 use Rattle.owed_defs.proofs.Owing.{accounted_opening, accounted_change, accounted_done, accounted_fault, accounted_pump, sends_as_owed, later_debts_raise}
 use Rattle.run_laws.specs.Accounts.{LineCounts, RunOpens, LineKeepsAccount, AccountBounds}
-use Rattle.run_laws.specs.Owing.{happens, happenings, command_owes, panel_size, slice_limit, may_send}
+use Rattle.run_defs.specs.Owing.{happens, happenings, command_owes, panel_size, slice_limit, may_send}
 
 -- what happens at more lines, where each frame of the lines before them has its outcome
 pub happenings-append : (now : Moment) (xs ys : List Said) (o x : List Outcome) → length o ≡ outcome_count (entries now xs) → happenings now (xs ++ ys) (o ++ x) ≡ happenings now xs o ++ happenings (after_all now xs) ys x

@@ -11,7 +11,7 @@ use Rattle.run_defs.specs.Script.{Said}
 use Rattle.owed_defs.specs.Accounts.{IsAccounted}
 use Rattle.owed_defs.specs.Happenings.{debt_of as sizes_of}
 use Rattle.owed_defs.specs.Standings.{Standing, IsOpening, Changes, Refreshes, IsClear}
-use Rattle.run_laws.specs.Owing.{command_owes, panel_size, slice_limit, run_windows, may_send}
+use Rattle.run_defs.specs.Owing.{command_owes, panel_size, slice_limit, run_windows, may_send}
 
 -- how things stand after these lines of a run is accounted for by what they owe
 abbrev pub IsRunAccounted : Machine → List Said → List Outcome → Standing → Standing → Type 0

@@ -11,7 +11,7 @@ use Rattle.run_defs.specs.declared.Reply.TheVariants.{Refused}
 use Rattle.run_defs.specs.Machine.{Machine}
 use Rattle.run_defs.specs.Step.{step, IsCommand}
 use Rattle.debt_defs.specs.Frame.{covered}
-use Rattle.run_laws.specs.Owing.{command_owes}
+use Rattle.run_defs.specs.Owing.{command_owes}
 
 -- where the panel consists of whole blocks, each area that a command owes has a pixel, and lies in the panel
 abbrev pub CommandWithinPanel : Type 0

@@ -21,7 +21,7 @@ use Rattle.owed_defs.specs.declared.Pumped.TheVariants.{Moved, Waiting}
 use Rattle.scene_defs.specs.Picture.{picture}
 use Rattle.run_defs.specs.Machine.{Machine, first_machine}
 use Rattle.run_defs.specs.Script.{Said}
-use Rattle.run_laws.specs.Owing.{run_windows, happenings}
+use Rattle.run_defs.specs.Owing.{run_windows, happenings}
 
 abbrev handle : ℕ → Handle
 handle h = record { 0 = h }

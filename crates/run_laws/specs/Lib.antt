@@ -5,7 +5,6 @@ pub mod Examples
 pub mod Held
 pub mod Keeping
 pub mod Members
-pub mod Owing
 pub mod Pools
 pub mod Pumping
 pub mod Telling

@@ -1,6 +1,6 @@
 -- How the pumps of a run answer.
 use Rattle.std.specs.Prelude.{◌≡◌, ℕ, ◌≤◌, true, Ok, Err, List, [], ◌∷◌, ◌++◌, length}
-use Rattle.owed_defs.specs.Flights.{Flight, Flies, IsFlown, PumpsWithin, grown}
+use Rattle.owed_defs.specs.Flights.{Flight, Flies, IsFlown, grown}
 use Rattle.owed_defs.specs.Happenings.{Pumps, debt_of as sizes_of}
 use Rattle.owed_defs.specs.Progress.{Pumping, Changing, at_rest}
 use Rattle.owed_defs.specs.Pumping.{moves_in, waits_in}
@@ -11,16 +11,11 @@ use Rattle.run_defs.specs.declared.Outcome.TheVariants.{Frame as OfFrame, Pump a
 use Rattle.run_defs.specs.Machine.{Machine}
 use Rattle.run_defs.specs.Run.{first_moment, after_all, entries, outcome_count}
 use Rattle.run_defs.specs.Script.{Said}
-use Rattle.run_laws.specs.Owing.{command_owes, happenings}
+use Rattle.run_defs.specs.Owing.{PumpsAsOwed, command_owes, happenings}
 
 -- the pumps of a run answer as they may, and how all stands goes with the pump state
 abbrev pub IsRunFlown : Machine → List Said → List Outcome → Flight → Flight → Type 0
 IsRunFlown first lines outcomes start now = IsFlown (happenings (first_moment first) lines outcomes) start now
-
--- the same as a claim on what was sent and on the polls
-abbrev pub PumpsAsOwed : Machine → List Said → List Outcome → ℕ → ℕ → ℕ → ℕ → Type 0
-PumpsAsOwed first lines outcomes sent waits new_sent new_waits =
-    PumpsWithin (happenings (first_moment first) lines outcomes) sent waits new_sent new_waits
 
 -- what a line that has its outcome does to how all stands
 abbrev pub LineFlies : Machine → Said → List Outcome → Flight → Flight → Type 0

@@ -9,15 +9,14 @@ use Rattle.gui_base.specs.Pools.{pool_name}
 use Rattle.gui_base.specs.declared.Handle.{Handle}
 use Rattle.gui_base.specs.declared.limits.Pool.{Pool}
 use Rattle.gui_base.specs.declared.pools.TheConstants.{POOLS}
-use Rattle.gui_damage.specs.Pending.{most_areas}
-use Rattle.gui_board.specs.Slots.{used_in}
 use Rattle.line_texts.specs.Quoting.{quoted}
+use Rattle.owed_defs.specs.Windows.{most_areas}
 use Rattle.play_defs.specs.Focus.{focused_in, group_at}
 use Rattle.scene_defs.specs.Edits.{text_at}
 use Rattle.scene_defs.specs.Place.{panel_of, place, offset, reach}
 use Rattle.scene_defs.specs.Scene.{Scene, handles_of, row_at, is_there, value}
 use Rattle.scene_defs.specs.Visible.{visible}
-use Rattle.run_defs.specs.Machine.{Machine}
+use Rattle.run_defs.specs.Machine.{Machine, used_in}
 use Rattle.run_defs.specs.Pointing.{hit}
 use Rattle.scene_script.specs.declared.questions.Fact.{Fact}
 use Rattle.scene_script.specs.declared.questions.Fact.TheVariants as fact

@@ -6,13 +6,14 @@ use Rattle.gui_color.specs.Buffer.{Buffer}
 use Rattle.gui_core.specs.Machines.{machine_of, pending_in, refresher_in, stage_of}
 use Rattle.gui_core.specs.declared.gui.Gui.{Gui}
 use Rattle.gui_edge.specs.Panel.{PanelState, HasSizes}
-use Rattle.gui_play.specs.Panels.{AgreesWith, CanSend, GoesOnAgreeing, Refreshes, ShowsScene}
+use Rattle.gui_play.specs.Panels.{AgreesWith, CanSend, GoesOnAgreeing, Refreshes}
 use Rattle.gui_refresh.specs.Stages.{Refreshing, stage}
 use Rattle.gui_refresh.specs.declared.Refreshed.{Refreshed}
 use Rattle.gui_refresh.specs.declared.Refreshed.TheVariants.{Done, Fault}
 use Rattle.rfb_view.specs.ViewPanel.{ViewState, view_state}
-use Rattle.run_laws.specs.Owing.{slice_limit}
+use Rattle.run_defs.specs.Owing.{slice_limit}
 use Rattle.run_defs.specs.Machine.{Machine}
+use Rattle.run_defs.specs.Run.{ShowsScene}
 use Rattle.run_defs.specs.Step.{step}
 use Rattle.run_defs.specs.declared.Command.{Command}
 use Rattle.run_defs.proofs.Steps.{step-limits}
@@ -59,6 +60,6 @@ shown_refresh old new before after answer same r h = record {
 }
 
 -- a panel that never fails shows the picture then
-pub shows_picture : (answer : Refreshed) (old new : Gui) (before after : ViewState) → Refreshes (stage_of old (view_state before)) (stage_of new (view_state after)) (machine_of old).scene answer → IsShown old before → ShowsScene (view_state after) (machine_of old).scene
+pub shows_picture : (answer : Refreshed) (old new : Gui) (before after : ViewState) → Refreshes (stage_of old (view_state before)) (stage_of new (view_state after)) (machine_of old).scene answer → IsShown old before → ShowsScene (view_state after).shows (machine_of old).scene
 shows_picture Done old new before after r h = r.done refl h.agrees
 shows_picture Fault old new before after r h = absurd (let f = r.fault refl in omega (arith, f))

@@ -10,13 +10,12 @@ use Rattle.scene_defs.specs.Scene.{Scene}
 use Rattle.run_defs.specs.declared.Line.TheVariants.{Blank, Frame, Pump, Make}
 use Rattle.run_defs.specs.declared.Outcome.{Outcome}
 use Rattle.run_defs.specs.declared.Reply.{Reply}
-use Rattle.run_defs.specs.Run.{Moment, Entry, Silent, Replies, Frames, Pumps, entry, Told, Replied, log_lines, done_scene, done_scenes, frame_file, last_done}
+use Rattle.run_defs.specs.Run.{Moment, Entry, Silent, Replies, Frames, Pumps, entry, Told, Replied, log_lines, done_scene, done_scenes, frame_file, last_done, ShowsScene}
 use Rattle.run_defs.specs.Script.{Said}
 use Rattle.run_defs.proofs.Runs.{fault_count-append}
 use Rattle.gui_edge.specs.Causes.{Rose}
 use Rattle.gui_edge.specs.Panel.{PanelState}
 use Rattle.gui_edge.specs.Sink.{SinkState, AppendsPrefix}
-use Rattle.gui_play.specs.Panels.{ShowsScene}
 use Rattle.scene_run.specs.Effects.{Output, output, PanelKeeps, Effects, Breaks, BreakCause, WriteFailed}
 use Rattle.scene_run.specs.Making.{panel_alone}
 
@@ -45,7 +44,7 @@ Effects-more a b c seen ts us h k = record {
 }
 
 -- a line that says nothing does nothing
-pub no_effects : (now : Output) (seen : Option Scene) → IfSome seen (ShowsScene now.panel) → Effects now now seen []
+pub no_effects : (now : Output) (seen : Option Scene) → IfSome seen (ShowsScene now.panel.shows) → Effects now now seen []
 no_effects now seen shown = record {
   panel = record {
     frames = λ t. Appends-nil now.panel.frames;

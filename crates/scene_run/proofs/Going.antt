@@ -12,15 +12,15 @@ use Rattle.run_defs.specs.declared.Outcome.{Outcome}
 use Rattle.run_defs.specs.declared.Outcome.TheVariants.{Frame as OfFrame, Pump as OfPump}
 use Rattle.run_defs.specs.Machine.{Machine}
 use Rattle.run_defs.specs.Script.{Said}
-use Rattle.run_defs.specs.Run.{Moment, moment, first_moment, Entry, entry, entries, after, after_all, outcome_count, Fits, Told, told, notes, noted, frames_asked, machine_after}
+use Rattle.run_defs.specs.Run.{Moment, moment, first_moment, Entry, entry, entries, after, after_all, outcome_count, Fits, ShowsScene, Told, told, notes, noted, frames_asked, machine_after}
 use Rattle.run_defs.proofs.Runs.{entries-append, after_all-append, after-limits, after_all-limits, after_all-frame, outcome_count_more, told_more, fits-length, fits-append}
 use Rattle.gui_edge.specs.Panel.{HasSizes}
 use Rattle.gui_damage.specs.Pending.{Pending}
 use Rattle.gui_refresh.specs.Owing.{standing_of, flight_of}
 use Rattle.gui_refresh.specs.Stages.{Refreshing, Stage, stage}
-use Rattle.gui_play.specs.Panels.{ShowsScene, AgreesWith, CanSend}
+use Rattle.gui_play.specs.Panels.{AgreesWith, CanSend}
 use Rattle.run_laws.specs.Accounts.{LineCounts}
-use Rattle.run_laws.specs.Owing.{slice_limit}
+use Rattle.run_defs.specs.Owing.{slice_limit}
 use Rattle.run_laws.specs.Pumping.{LineFlies}
 use Rattle.scene_run.specs.Counting.{frames_in}
 use Rattle.scene_run.specs.Effects.{Output, Effects, LineBreaks, WriteFailed, Halted, PumpsAsAllowed, GrewBy}
@@ -75,7 +75,7 @@ noted_more (Some m) new n ts us all more one is h =
     rw is (ap (λ (k : Bool). k || n) h ∙ (ap (λ (k : Bool). noted ts || k) one ∙ (sym (list_any-append notes ts us) ∙ ap noted (sym more))))
 
 unfoldable pub goes_on_one : (old new : Running) (said : Said) (outcome : Option Outcome) (n : Bool) →
-    ((seen : Option Scene) → IfSome seen (ShowsScene old.output.panel) → Effects old.output new.output seen (told (entry old.moment said ∷ []) (option_to_list outcome))) →
+    ((seen : Option Scene) → IfSome seen (ShowsScene old.output.panel.shows) → Effects old.output new.output seen (told (entry old.moment said ∷ []) (option_to_list outcome))) →
     Fits (entry old.moment said ∷ []) (option_to_list outcome) → n ≡ noted (told (entry old.moment said ∷ []) (option_to_list outcome)) → new.moment.machine ≡ machine_after old.moment.machine said →
     new.moment.number ≡ old.moment.number + 1 → new.moment.frame ≡ old.moment.frame + frames_in outcome → new.noted ≡ option_map (λ m. m || n) old.noted → CanSend (stage_at new) old.moment.machine.scene →
     AgreesWith (stage_at new) new.moment.machine.scene →

@@ -19,7 +19,7 @@ use Rattle.owed_defs.specs.Flights.{Flight, opening_flight}
 use Rattle.owed_defs.specs.Standings.{Standing}
 use Rattle.owed_defs.proofs.Flights.{flights_go_on}
 use Rattle.run_laws.specs.Accounts.{IsRunAccounted, LineCounts}
-use Rattle.run_laws.specs.Owing.{panel_size}
+use Rattle.run_defs.specs.Owing.{panel_size}
 use Rattle.run_laws.specs.Pumping.{IsRunFlown, LineFlies}
 use Rattle.run_laws.proofs.Flying.{line_keeps_flight, flights_bound}
 use Rattle.run_laws.proofs.Runs.{run_opens, line_keeps_account, account_bounds}

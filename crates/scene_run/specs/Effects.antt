@@ -11,17 +11,16 @@ use Rattle.run_defs.specs.Script.{Said}
 use Rattle.run_defs.specs.Machine.{Machine}
 use Rattle.run_defs.specs.Run.{Entry, Silent, Replies, Frames, Pumps, Told, Fits, moment, first_moment}
 use Rattle.run_defs.specs.Run.{entry, after_all, entries, told}
-use Rattle.run_defs.specs.Run.{log_text, frame_file, frame_files, file_asked, last_done, fault_count}
+use Rattle.run_defs.specs.Run.{log_text, frame_file, frame_files, file_asked, last_done, fault_count, ShowsScene}
 use Rattle.gui_edge.specs.Causes.{Rose}
 use Rattle.gui_edge.specs.Sink.{SinkState, AppendsPrefix}
 use Rattle.gui_edge.specs.Panel.{PanelState, HasSizes}
 use Rattle.gui_refresh.specs.Owing.{standing_of, flight_of}
 use Rattle.gui_refresh.specs.Stages.{Stage}
-use Rattle.gui_play.specs.Panels.{ShowsScene}
 use Rattle.owed_defs.specs.Flights.{Flight, grown}
 use Rattle.run_laws.specs.Accounts.{LineCounts}
-use Rattle.run_laws.specs.Owing.{may_send}
-use Rattle.run_laws.specs.Pumping.{LineFlies, PumpsAsOwed}
+use Rattle.run_defs.specs.Owing.{may_send, PumpsAsOwed}
+use Rattle.run_laws.specs.Pumping.{LineFlies}
 
 -- what a run writes to
 pub record Output : Type 0 where
@@ -44,7 +43,7 @@ pub record PanelEffects (old new : PanelState) (seen : Option Scene) (ts : List 
   -- the frames grew by the pictures of the scenes at the done frame lines, in order
   pub frames : IsSome old.shows → Appends old.frames new.frames (frame_files ts)
   -- where the last reply is that of a done frame, the panel shows its picture
-  pub shown : IfSome (last_done seen ts) (ShowsScene new)
+  pub shown : IfSome (last_done seen ts) (ShowsScene new.shows)
   -- there are no more fault lines, of frames and of pumps, than failed starts and transfers
   pub faults : old.flush_faults + fault_count ts ≤ new.flush_faults
   pub keeps : PanelKeeps old new
@@ -95,7 +94,7 @@ pub record Breaks (old new : Output) (e : Entry) : Type 0 where
   -- the frames grew by its picture, which is whole where its frame was done
   pub frames : IsSome old.panel.shows → FrameWritten old.panel.frames new.panel.frames e last
   -- where its frame was done, the panel shows the picture
-  pub shown : IfSome (last_done None (told (e ∷ []) last)) (ShowsScene new.panel)
+  pub shown : IfSome (last_done None (told (e ∷ []) last)) (ShowsScene new.panel.shows)
   -- it faulted only where a start or a transfer failed
   pub faults : old.panel.flush_faults + fault_count (told (e ∷ []) last) ≤ new.panel.flush_faults
   -- the panel stays turned as it was

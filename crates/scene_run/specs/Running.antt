@@ -17,7 +17,7 @@ use Rattle.gui_play.specs.Panels.{AgreesWith, CanSend}
 use Rattle.owed_defs.specs.Flights.{opening_flight}
 use Rattle.owed_defs.specs.Standings.{Standing}
 use Rattle.run_laws.specs.Accounts.{IsRunAccounted}
-use Rattle.run_laws.specs.Owing.{panel_size}
+use Rattle.run_defs.specs.Owing.{panel_size}
 use Rattle.run_laws.specs.Pumping.{IsRunFlown}
 use Rattle.scene_script.specs.Cutting.{Cutting, HasTaken}
 use Rattle.scene_run.specs.Effects.{Output, output, Answers, Halted}

@@ -8,7 +8,7 @@ ghost use Rattle.scene_defs.specs.Scene.{Scene};
 ghost use Rattle.run_defs.specs.Laws.{IsInRange};
 ghost use Rattle.run_defs.specs.Step.{step, is_noted, IsCommand};
 ghost use Rattle.run_defs.specs.Run.{moment, entry, told, machine_after, Fits, noted};
-ghost use Rattle.run_defs.specs.Run.{Replied, Framed, reply_line, frame_line, pump_line, log_lines};
+ghost use Rattle.run_defs.specs.Run.{Replied, Framed, ShowsScene, reply_line, frame_line, pump_line, log_lines};
 ghost use Rattle.run_defs.specs.declared.Outcome.TheVariants.{Frame as OfFrame};
 ghost use Rattle.gui_edge.specs.Causes.{HasCause};
 ghost use Rattle.gui_edge.specs.Panel.{PanelState};
@@ -17,11 +17,11 @@ ghost use Rattle.gui_damage.specs.Adding.{AddsAll};
 ghost use Rattle.gui_refresh.specs.Owing.{standing_of, flight_of};
 ghost use Rattle.gui_refresh.specs.Stages.{progress_of};
 ghost use Rattle.gui_core.specs.Machines.{machine_of, pending_in, refresher_in, stage_of};
-ghost use Rattle.gui_play.specs.Panels.{ShowsScene, AgreesWith, CanSend, GoesOnAgreeing, Pumps, Refreshes};
+ghost use Rattle.gui_play.specs.Panels.{AgreesWith, CanSend, GoesOnAgreeing, Pumps, Refreshes};
 ghost use Rattle.owed_defs.specs.Happenings.{debt_of};
 ghost use Rattle.owed_defs.specs.Progress.{Changing};
 ghost use Rattle.run_laws.specs.Accounts.{FrameCounts, LineCounts};
-ghost use Rattle.run_laws.specs.Owing.{command_owes};
+ghost use Rattle.run_defs.specs.Owing.{command_owes};
 ghost use Rattle.run_laws.specs.Pumping.{LineFlies};
 ghost use Rattle.scene_run.specs.Counting.{is_no_pump};
 ghost use Rattle.scene_run.specs.Effects.{output, PanelEffects, Effects, FrameFlies};
@@ -223,7 +223,7 @@ pub fn answer<L: Sink, P: Panel>(
     requires in_range { IsInRange said.now }
     ensures machine { machine_of gui.new ≡ machine_after (machine_of gui.old) said.now }
     ensures can { CanSend (stage_of gui.new (P.state panel.new)) (machine_of gui.old).scene }
-    ensures ok { IfOk result (λ end. (seen : Option Scene) → IfSome seen (ShowsScene (P.state panel.old)) →
+    ensures ok { IfOk result (λ end. (seen : Option Scene) → IfSome seen (ShowsScene (P.state panel.old).shows) →
         Effects (output (L.state log.old) (P.state panel.old)) (output (L.state log.new) (P.state panel.new))
         seen (told (entry (moment (machine_of gui.old) number frame) said.now ∷ [])
         (option_to_list end.outcome))) }

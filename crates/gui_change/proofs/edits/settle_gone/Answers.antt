@@ -1,11 +1,9 @@
 use Rattle.std.proofs.Common.{◌∙◌, refl}
 use Rattle.gui_store.specs.Views.{removed_of, scene_of}
-use Rattle.gui_boxes.specs.Marks.{is_changed, is_marked, is_parent, solved_in}
+use Rattle.gui_boxes.specs.Marks.{is_changed, is_marked, is_parent}
 use Rattle.gui_layout.specs.SettledBut.{AreSettledButMarks, anyone, in_marked}
 use Rattle.gui_layout.proofs.Before.{right_fewer}
-use Rattle.gui_change.proofs.BarsStay.{scrolls-same}
 use Rattle.gui_change.proofs.Edited.{gone-right, removed-few}
-use Rattle.gui_change.proofs.Left.{stayed}
 use Rattle.gui_change.proofs.edits.settle_gone.Goals as goal
 use Rattle.gui_change.proofs.edits.settle_gone.Goals.{After-mark_gone}
 
@@ -26,16 +24,9 @@ pub returns-clause-settles : goal.returns-clause-settles
 returns-clause-settles c = record {
   settled = c.settle.ensures.settled (right (goal.at.returns-clause-settles c).After-mark_gone);
   limits = c.settle.ensures.limits;
-  there = c.settle.ensures.tops;
-  stays = c.settle.ensures.stays;
+  stays = c.settle.ensures.moved_stays;
+  scrolls = λ k there off. record { reach = c.settle.ensures.moved_reaches k there off; offset = c.settle.ensures.moved_offsets k there off };
 }
-
-pub returns-clause-scrolls : goal.returns-clause-scrolls
-returns-clause-scrolls c k there above out =
-    let scene = scene_of c.args.store.now in
-    let marks = c.mark_gone.new.marks in
-    let off = stayed c.args.places.now scene c.requires.was.made c.requires.was.concerned (removed_of c.args.store.now) c.args.parent c.requires.was.edited k there in
-    scrolls-same c.args.places.now c.settle.new.self scene (is_marked marks) (solved_in c.settle.new.marks) k c.settle.ensures.scrolls_stay there out (c.mark_gone.ensures.others k off above)
 
 pub returns-clause-none : goal.returns-clause-none
 returns-clause-none c = record { none = c.settle.ensures.empty; most = c.settle.ensures.most ∙ (c.mark_gone.ensures.most ∙ c.requires.none.most) }

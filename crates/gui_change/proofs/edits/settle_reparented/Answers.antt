@@ -26,8 +26,16 @@ settle-requires-clause-but c =
     let marks = c.mark_reparented.new.marks in
     right_fewer c.args.places.now scene anyone (in_marked (is_marked marks) scene) (is_changed marks) (is_parent marks) (λ k looked. refl) (right (goal.at.settle-requires-clause-but c).After-mark_reparented).right
 
-pub returns-clause-settled : goal.returns-clause-settled
-returns-clause-settled c = c.settle.ensures.settled (right (goal.at.returns-clause-settled c).After-mark_reparented)
+pub returns-clause-settles : goal.returns-clause-settles
+returns-clause-settles c = record {
+  settled = c.settle.ensures.settled (right (goal.at.returns-clause-settles c).After-mark_reparented);
+  limits = c.settle.ensures.limits;
+  stays = c.settle.ensures.moved_stays;
+  scrolls = λ k there off. record { reach = c.settle.ensures.moved_reaches k there off; offset = c.settle.ensures.moved_offsets k there off };
+}
+
+pub returns-clause-below : goal.returns-clause-below
+returns-clause-below c k there inside = c.settle.ensures.moved_whole k there (c.mark_reparented.ensures.below k ∙ inside)
 
 pub returns-clause-none : goal.returns-clause-none
 returns-clause-none c = record { none = c.settle.ensures.empty; most = c.settle.ensures.most ∙ (c.mark_reparented.ensures.most ∙ c.requires.none.most) }

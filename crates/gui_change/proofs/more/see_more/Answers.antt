@@ -1,86 +1,115 @@
-use Rattle.std.proofs.Common.{◌≡◌, ◌∙◌, refl, sym, ap, subst, ℕ, ◌<◌, cond, true, List, Option, Some, None, is_some, arith}
+use Rattle.std.proofs.Common.{◌≡◌, ◌∙◌, sym, ap, subst, ℕ, ◌<◌, ◌≤◌, cond, true, length, List, is_some, inl, inr, arith}
 use Rattle.std.specs.Prelude.{option_map}
-use Rattle.std.proofs.lemmas.Bool.{both_ways}
-use Rattle.gui_base.specs.declared.Handle.{Handle}
-use Rattle.gui_boxes.specs.Listing.{HasThese, times, value_count}
+use Rattle.std.proofs.lemmas.Bool.{cases_Bool}
+use Rattle.gui_boxes.specs.Listing.{AreProper, HasThese, times, value_count}
+use Rattle.gui_boxes.proofs.These.{MayPut}
 use Rattle.gui_pool.specs.Table.{Table, value_at}
 use Rattle.gui_store.specs.Views.{scene_of}
 use Rattle.gui_tree.specs.Handles.{numbers}
-use Rattle.scene_defs.specs.Shown.{order}
+use Rattle.scene_defs.specs.Shown.{entries, order}
 use Rattle.debt_defs.specs.SceneLook.{is_among}
 use Rattle.gui_concerns.specs.Handles.{number_of}
 use Rattle.gui_debts.specs.Owed.{sight_of}
-use Rattle.gui_debts.specs.Seen.{IsSeen}
 use Rattle.gui_debts.specs.Sights.{KeepOthers}
-use Rattle.gui_concerns.specs.declared.concerned.Concerned.{Concerned}
 use Rattle.gui_debts.specs.declared.seen.Seen.{Seen}
 use Rattle.gui_change.specs.Dues.{OwesAll}
+use Rattle.gui_change.specs.Entries.{all_entries, owners}
 use Rattle.gui_change.specs.Gone.{is_shown}
 use Rattle.gui_change.proofs.Alike.{among-times, times-among}
+use Rattle.gui_change.proofs.Joined.{may-put, these-joined}
+use Rattle.gui_change.proofs.Joining.{joined}
+use Rattle.gui_change.proofs.Listed.{owners-order}
+use Rattle.gui_change.proofs.Orders.{few_shown, shown_proper}
 use Rattle.gui_change.proofs.Owing.{again_alike, again_is_debt}
-use Rattle.gui_change.proofs.Sighted.{seen-by-sight}
+use Rattle.gui_change.proofs.Renewing.{put-keeps, put-sights}
 use Rattle.gui_change.proofs.more.see_more.Goals as goal
-use Rattle.gui_change.proofs.more.see_more.Goals.{After-put_missing}
+use Rattle.gui_change.proofs.more.see_more.Goals.{After-add_last, After-put_new}
 
-pub put_missing-requires-clause-some : goal.put_missing-requires-clause-some
-put_missing-requires-clause-some c =
-    let scene = scene_of c.args.after.now.store.now in
-    let look = c.args.look.now in
-    let listed : numbers c.as_slice.result.now ≡ order scene = ap numbers c.as_slice.ensures.value ∙ c.list_new.ensures.order in
-    record {
-      known = look.order.items;
-      these = subst (λ (t : Table Seen). HasThese scene.limits.objects t look.order.items) (sym c.list_new.ensures.seen) c.requires.table;
-      within = λ k some. among-times c.as_slice.result.now k (subst (λ (ks : List ℕ). is_among ks k ≡ true) (sym listed) (c.requires.still k some));
-    }
+module _ (c : After-add_last) where
+  -- what is painted then
+  painted : all_entries c.add_last.new.listed.items ≡ entries (scene_of c.args.after.now.store.now)
+  painted = c.add_last.ensures.listed (entries (scene_of c.args.after.now.store.now)) c.requires.comes
 
--- what is known of those that are concerned is known still
-kept : (c : After-put_missing) (some : Concerned) → KeepOthers c.args.look.now.seen some (scene_of c.args.after.now.store.now) → KeepOthers c.put_missing.new.table some (scene_of c.args.after.now.store.now)
-kept c some known =
-    let scene = scene_of c.args.after.now.store.now in
-    c.put_missing.ensures.known some scene (subst (λ (t : Table Seen). KeepOthers t some scene) (sym c.list_new.ensures.seen) known)
+  listed : numbers (owners c.add_last.new.listed.items) ≡ order (scene_of c.args.after.now.store.now)
+  listed = owners-order (scene_of c.args.after.now.store.now) c.add_last.new.listed.items painted
 
-pub see_changed-requires-clause-known : goal.see_changed-requires-clause-known
-see_changed-requires-clause-known c = kept (goal.at.see_changed-requires-clause-known c).After-put_missing c.args.after.now.concerned c.requires.known
+  proper : AreProper (owners c.add_last.new.listed.items)
+  proper = shown_proper (scene_of c.args.after.now.store.now) c.tree-tree.ensures.valid (owners c.add_last.new.listed.items) listed
 
-pub see_changed-requires-clause-painted : goal.see_changed-requires-clause-painted
-see_changed-requires-clause-painted c = kept (goal.at.see_changed-requires-clause-painted c).After-put_missing c.args.after.now.painted c.requires.painted
+  few : length (owners c.add_last.new.listed.items) ≤ (scene_of c.args.after.now.store.now).limits.objects
+  few = few_shown (scene_of c.args.after.now.store.now) c.tree-tree.ensures.valid (owners c.add_last.new.listed.items) listed
+
+  -- the new one may be put in where something is known of its parent
+  may : is_some (value_at c.args.look.now.seen c.args.parent.0) ≡ true → MayPut c.args.look.now.seen c.args.h
+  may some =
+      let scene = scene_of c.args.after.now.store.now in
+      let look = c.args.look.now in
+      may-put c.args.h c.args.parent look.entries.items c.add_last.new.listed.items (entries scene) painted c.requires.comes scene.limits.objects look.seen c.requires.table proper few some
+
+pub put_new-requires-clause-within : goal.put_new-requires-clause-within
+put_new-requires-clause-within c some = (may (goal.at.put_new-requires-clause-within c).After-add_last some).within
+
+pub put_new-requires-clause-vacant : goal.put_new-requires-clause-vacant
+put_new-requires-clause-vacant c some = (may (goal.at.put_new-requires-clause-vacant c).After-add_last some).vacant
+
+pub put_new-requires-clause-room : goal.put_new-requires-clause-room
+put_new-requires-clause-room c some = (may (goal.at.put_new-requires-clause-room c).After-add_last some).room
 
 -- something is known of all that is listed
-these : (c : After-put_missing) → HasThese (scene_of c.args.after.now.store.now).limits.objects c.put_missing.new.table c.list_new.new.look.order.items
+these : (c : After-put_new) → HasThese (scene_of c.args.after.now.store.now).limits.objects c.put_new.new.table (owners c.add_last.new.listed.items)
 these c =
-    subst (λ (hs : List Handle). HasThese (scene_of c.args.after.now.store.now).limits.objects c.put_missing.new.table hs) c.as_slice.ensures.value c.put_missing.ensures.these
+    let d = (goal.at.After-put_new c).After-add_last in
+    let scene = scene_of c.args.after.now.store.now in
+    let look = c.args.look.now in
+    these-joined c.args.h c.args.parent look.entries.items c.add_last.new.listed.items (entries scene) (painted d) c.requires.comes scene.limits.objects look.seen c.requires.table (proper d) (few d) c.put_new.new.table c.put_new.ensures.put c.put_new.ensures.same
 
-pub see_changed-requires-clause-table : goal.see_changed-requires-clause-table
-see_changed-requires-clause-table c = these (goal.at.see_changed-requires-clause-table c).After-put_missing
+pub see_shifted-requires-clause-table : goal.see_shifted-requires-clause-table
+see_shifted-requires-clause-table c = these (goal.at.see_shifted-requires-clause-table c).After-put_new
+
+pub see_shifted-requires-clause-entries : goal.see_shifted-requires-clause-entries
+see_shifted-requires-clause-entries c = painted (goal.at.see_shifted-requires-clause-entries c).After-add_last
+
+pub see_shifted-requires-clause-painted : goal.see_shifted-requires-clause-painted
+see_shifted-requires-clause-painted c = elim (cases_Bool (is_some (value_at c.args.look.now.seen c.args.parent.0))) [
+  | inl some ↦
+      let put = c.put_new.ensures.put some in
+      let can = may (goal.at.see_shifted-requires-clause-painted c).After-add_last some in
+      put-keeps c.args.look.now.seen c.put_new.new.table c.args.h.0 put.value can.within put.is put.items c.args.after.now.painted (scene_of c.args.after.now.store.now) c.requires.painted
+  | inr none ↦
+      subst (λ (t : Table Seen). KeepOthers t c.args.after.now.painted (scene_of c.args.after.now.store.now)) (sym (c.put_new.ensures.same none)) c.requires.painted
+]
 
 -- what is known tells the same sights
-sights : (c : After-put_missing) (k : ℕ) → sight_of (value_at c.put_missing.new.table k) ≡ sight_of (value_at c.args.look.now.seen k)
-sights c k = c.put_missing.ensures.sights k ∙ ap (λ (t : Table Seen). sight_of (value_at t k)) c.list_new.ensures.seen
+sights : (c : After-put_new) (k : ℕ) → sight_of (value_at c.put_new.new.table k) ≡ sight_of (value_at c.args.look.now.seen k)
+sights c k = elim (cases_Bool (is_some (value_at c.args.look.now.seen c.args.parent.0))) [
+  | inl some ↦
+      let put = c.put_new.ensures.put some in
+      let can = may (goal.at.After-put_new c).After-add_last some in
+      put-sights c.args.look.now.seen c.put_new.new.table c.args.h.0 put.value can.within put.is can.vacant put.sight k
+  | inr none ↦ ap (λ (t : Table Seen). sight_of (value_at t k)) (c.put_new.ensures.same none)
+]
 
 -- and of what is shown alone
-shown : (c : After-put_missing) (k : ℕ) (s : Seen) → value_at c.put_missing.new.table k ≡ Some s → is_shown (scene_of c.args.after.now.store.now) k ≡ true
-shown c k s found =
-    let hs = c.list_new.new.look.order.items in
-    let count : value_count c.put_missing.new.table k ≡ 1 = ap (λ (o : Option Seen). cond (is_some o) 1 0) found in
+shown : (c : After-put_new) (k : ℕ) → is_some (value_at c.put_new.new.table k) ≡ true → is_shown (scene_of c.args.after.now.store.now) k ≡ true
+shown c k some =
+    let hs = owners c.add_last.new.listed.items in
+    let one : value_count c.put_new.new.table k ≡ 1 = ap (λ b. cond b 1 0) some in
     let each = (these c).each k in
-    let more : 0 < times hs k = omega (arith, count, each) in
-    subst (λ (ks : List ℕ). is_among ks k ≡ true) c.list_new.ensures.order (times-among hs k more)
+    let more : 0 < times hs k = omega (arith, one, each) in
+    subst (λ (ks : List ℕ). is_among ks k ≡ true) (listed (goal.at.After-put_new c).After-add_last) (times-among hs k more)
 
-pub see_changed-requires-clause-others : goal.see_changed-requires-clause-others
-see_changed-requires-clause-others c k s found out off = by (value_at c.args.look.now.seen k) refl where
-  by : (o : Option Seen) → value_at c.args.look.now.seen k ≡ o → IsSeen (scene_of c.args.after.now.store.now) k s
-  by None none = absurd (both_ways _ out (c.requires.fresh k (shown (goal.at.see_changed-requires-clause-others c).After-put_missing k s found) none))
-  by (Some t) is =
-      let d = (goal.at.see_changed-requires-clause-others c).After-put_missing in
-      seen-by-sight (scene_of c.args.after.now.store.now) k t s (ap sight_of (sym is) ∙ (sym (sights d k) ∙ ap sight_of found)) (c.requires.others k t is out off)
+pub see_shifted-requires-clause-was : goal.see_shifted-requires-clause-was
+see_shifted-requires-clause-was c =
+    let d = (goal.at.see_shifted-requires-clause-was c).After-put_new in
+    joined c.args.look.now.seen c.put_new.new.table (scene_of c.args.after.now.store.now) (option_map number_of c.args.named) c.args.after.now.concerned c.args.moved.now c.requires.was (sights d) (shown d)
 
 pub returns-clause-debt : goal.returns-clause-debt
 returns-clause-debt c before shows =
-    let d = (goal.at.returns-clause-debt c).After-put_missing in
+    let d = (goal.at.returns-clause-debt c).After-put_new in
     let scene = scene_of c.args.after.now.store.now in
     let look = c.args.look.now in
     let named = option_map number_of c.args.named in
-    let still = λ (h : ℕ) (i : is_among (order before) h ≡ true). c.requires.still h (among-times look.order.items h (subst (λ (ks : List ℕ). is_among ks h ≡ true) (sym shows.order) i)) in
-    subst (OwesAll c.args.damage.now c.see_changed.new.damage)
-    (again_alike named look.seen c.put_missing.new.table scene (sights d) (order scene) ∙ again_is_debt scene.limits.objects named look before scene shows still)
-    c.see_changed.ensures.debt
+    let still = λ (h : ℕ) (i : is_among (order before) h ≡ true). c.requires.still h (among-times (owners look.entries.items) h (subst (λ (ks : List ℕ). is_among ks h ≡ true) (sym shows.order) i)) in
+    subst (OwesAll c.args.damage.now c.see_shifted.new.damage)
+    (again_alike named look.seen c.put_new.new.table scene (sights d) (order scene) ∙ again_is_debt scene.limits.objects named look before scene shows still)
+    c.see_shifted.ensures.debt

@@ -1,9 +1,7 @@
-use Rattle.std.proofs.Common.{◌≡◌, ◌∙◌, sym, ap, ℕ, true, false}
-use Rattle.std.specs.Prelude.{option_map}
+use Rattle.std.proofs.Common.{◌≡◌, ◌∙◌, sym, ap, refl, ℕ, None, true, false}
 use Rattle.gui_base.specs.Forest.{Forest, has}
 use Rattle.gui_store.specs.Views.{scene_of}
 use Rattle.scene_defs.specs.Scene.{is_there}
-use Rattle.gui_concerns.specs.Handles.{number_of}
 use Rattle.gui_change.proofs.SeenAgain.{hidden-again}
 use Rattle.gui_change.proofs.SeenBelow.{below-tree, gone-below, gone-unknown}
 use Rattle.gui_change.proofs.seeing.see_below.Goals as goal
@@ -12,7 +10,7 @@ pub returns-then-not-has-clause-sees : goal.returns-then-not-has-clause-sees
 returns-then-not-has-clause-sees c =
     let scene = scene_of c.args.after.now.store.now in
     let gone : is_there scene c.args.h.0 ≡ false = ap (λ (f : Forest ℕ). has f c.args.h.0) (sym c.tree.ensures.forest) ∙ (sym c.has.ensures ∙ c.if-not-has.true) in
-    hidden-again scene (option_map number_of c.args.named) c.args.table.now c.requires.shown c.args.h.0 c.requires.named c.args.damage.now
+    hidden-again scene None c.args.table.now c.requires.shown c.args.h.0 (λ k off. refl) c.args.damage.now
     (gone-unknown scene c.tree.ensures.valid c.args.h.0 c.args.table.now c.requires.shown gone)
 
 pub returns-then-not-has-clause-all : goal.returns-then-not-has-clause-all

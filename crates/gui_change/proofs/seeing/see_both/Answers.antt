@@ -9,3 +9,6 @@ see_one-requires-2-clause-shown c = shown-still (scene_of c.args.after.now.store
 pub returns-clause-sees : goal.returns-clause-sees
 returns-clause-sees c =
     then-again None (scene_of c.args.after.now.store.now) c.args.table.now c.see_one.new.table c.see_one-2.new.table c.args.damage.now c.see_one.new.damage c.see_one-2.new.damage c.see_one.ensures.sees c.see_one-2.ensures.sees
+
+pub returns-clause-own : goal.returns-clause-own
+returns-clause-own c = c.see_one-2.ensures.sees.seen c.args.h.0 c.see_one.ensures.own

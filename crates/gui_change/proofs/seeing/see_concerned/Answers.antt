@@ -42,7 +42,13 @@ returns-in-Both-clause-all c k may =
     of-both c.see_both.new.table scene c.in-Both.h.0 c.in-Both.k.0 k c.see_both.ensures.own c.see_both.ensures.other (told scene c.args.after.now.concerned _ k c.in-Both.is may)
 
 pub returns-in-Below-clause-all : goal.returns-in-Below-clause-all
-returns-in-Below-clause-all c k may = c.see_below.ensures.all k (told (scene_of c.args.after.now.store.now) c.args.after.now.concerned _ k c.in-Below.is may)
+returns-in-Below-clause-all c k may = c.see_beneath.ensures.all k (told (scene_of c.args.after.now.store.now) c.args.after.now.concerned _ k c.in-Below.is may)
+
+pub see_beneath-requires-clause-own : goal.see_beneath-requires-clause-own
+see_beneath-requires-clause-own c = c.requires.own c.in-Below.h.0 (sym c.if-is_named-2.ensures)
+
+pub returns-in-Below-2-clause-all : goal.returns-in-Below-2-clause-all
+returns-in-Below-2-clause-all c k may = c.see_below.ensures.all k (told (scene_of c.args.after.now.store.now) c.args.after.now.concerned _ k c.in-Below-2.is may)
 
 pub returns-in-Moved-clause-sees : goal.returns-in-Moved-clause-sees
 returns-in-Moved-clause-sees c =

@@ -56,3 +56,6 @@ pub returns-clause-own : goal.returns-clause-own
 returns-clause-own c s found =
     let h = c.args.h.0 in
     c.see_all_again.ensures.seen h s (rw (eq-eqb h h refl) (omega arith)) found
+
+pub returns-clause-rest : goal.returns-clause-rest
+returns-clause-rest c k other = c.see_all_again.ensures.rest k (rw other refl)

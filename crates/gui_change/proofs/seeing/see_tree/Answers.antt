@@ -1,7 +1,5 @@
-use Rattle.std.proofs.Common.{◌≡◌, ◌∙◌, not, ◌<◌, ◌≤◌, sym, ap, subst, ℕ, true, false, eqb, List, ◌++◌, is_some, arith}
-use Rattle.std.specs.Prelude.{option_map}
-use Rattle.std.proofs.lemmas.Bool.{both_ways, eqb-true, false_from_ne_true}
-use Rattle.gui_tree.proofs.Below.{own_tree}
+use Rattle.std.proofs.Common.{◌≡◌, ◌∙◌, not, ◌<◌, ◌≤◌, sym, ap, ℕ, true, false, List, ◌++◌, None, refl, is_some, arith}
+use Rattle.std.proofs.lemmas.Bool.{both_ways, false_from_ne_true}
 use Rattle.gui_base.specs.Forest.{Forest, count, has, preorder, size, tree_at}
 use Rattle.gui_base.specs.declared.Handle.{Handle}
 use Rattle.gui_base.proofs.Visits.{count-has}
@@ -14,9 +12,7 @@ use Rattle.gui_layout.proofs.Entering.{few}
 use Rattle.gui_tree.proofs.Parts.{there, found, distinct_once, size-part}
 use Rattle.gui_boxes.proofs.InTrees.{tree-in}
 use Rattle.gui_boxes.proofs.These.{has-times, times_is}
-use Rattle.debt_defs.specs.Debt.{is_named}
 use Rattle.gui_change.specs.Again.{AreKnown}
-use Rattle.gui_concerns.specs.Handles.{number_of}
 use Rattle.gui_change.proofs.Reordering.{copied-some}
 use Rattle.gui_change.proofs.SeenAgain.{hidden-again, listed-again, nothing-known, shown-has}
 use Rattle.gui_change.proofs.ShownTrees.{count-tree, shown-below, shown-above}
@@ -34,7 +30,7 @@ returns-then-is_none-clause-sees c =
     let d = (goal.at.returns-then-is_none-clause-sees c).After-is_none in
     let scene = scene_of c.args.after.now.store.now in
     let none = shown-has scene c.args.table.now c.requires.shown c.args.top.0 ∙ (is_known d ∙ ap not c.if-is_none.true) in
-    hidden-again scene (option_map number_of c.args.named) c.args.table.now c.requires.shown c.args.top.0 c.requires.named c.args.damage.now none
+    hidden-again scene None c.args.table.now c.requires.shown c.args.top.0 (λ k off. refl) c.args.damage.now none
 
 pub returns-then-is_none-clause-all : goal.returns-then-is_none-clause-all
 returns-then-is_none-clause-all c k inside =
@@ -81,17 +77,6 @@ once c k =
     let most : count f k ≤ 1 = c.tree-tree.ensures.valid.trees.once k in
     omega arith
 
--- what is not listed is not named
-unnamed : (c : After-as_slice) (k : ℕ) → times c.as_slice.result.now k ≡ 0 → is_named (option_map number_of c.args.named) k ≡ false
-unnamed c k off = c.requires.named k (false_from_ne_true (eqb c.args.top.0 k) (λ is.
-    let f = handles_of (scene_of c.args.after.now.store.now).trees in
-    let u = c.args.top.0 in
-    let own = own_tree f u c.requires.there in
-    let there : has (tree_at f u) k ≡ true = subst (λ (j : ℕ). has (tree_at f u) j ≡ true) (eqb-true u k is) own in
-    let some = count-has (tree_at f u) k there in
-    let listed = times_is c.as_slice.result.now (tree_at f u) (listed c) k in
-    omega (arith, off, some, listed)))
-
 -- the tree is shown
 some : (c : After-as_slice) → AreKnown c.args.table.now c.as_slice.result.now
 some c k more =
@@ -112,7 +97,7 @@ see_all_again-requires-clause-some c = some (goal.at.see_all_again-requires-clau
 pub returns-clause-sees : goal.returns-clause-sees
 returns-clause-sees c =
     let d = (goal.at.returns-clause-sees c).After-as_slice in
-    listed-again (scene_of c.args.after.now.store.now) c.tree-tree.ensures.valid (option_map number_of c.args.named) c.args.table.now c.see_all_again.new.table c.as_slice.result.now c.requires.shown (some d) (once d) (unnamed d)
+    listed-again (scene_of c.args.after.now.store.now) c.tree-tree.ensures.valid None c.args.table.now c.see_all_again.new.table c.as_slice.result.now c.requires.shown (some d) (once d) (λ k off. refl)
     c.see_all_again.ensures.listing c.see_all_again.ensures.seen c.see_all_again.ensures.rest c.args.damage.now c.see_all_again.new.damage c.see_all_again.ensures.debt
 
 pub returns-clause-all : goal.returns-clause-all

@@ -15,6 +15,7 @@ loop-h-preserved c =
     let scene = scene_of c.args.after.now.store.now in
     let h = c.in-Some.h.now.0 in
     record {
+      nearby = c.see_one.ensures.nearby;
       sees = then-again None scene c.args.table.now c.loop-h.table c.see_one.new.table c.args.damage.now c.loop-h.damage c.see_one.new.damage c.loop-h.invariant.sees c.see_one.ensures.sees;
       done = λ k uses left. elim (cases_Bool (eqb h k)) [
         | inl is ↦ subst (IsSeenIn c.see_one.new.table scene) (eqb-true h k is) c.see_one.ensures.own

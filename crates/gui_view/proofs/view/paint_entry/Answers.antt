@@ -1,4 +1,4 @@
-use Rattle.std.proofs.Common.{◌≡◌, ◌∙◌, sym, ap, option_map, ℤ, true, Some, ◌&&◌, arith}
+use Rattle.std.proofs.Common.{◌≡◌, ◌∙◌, sym, ap, option_map, is_some, ℤ, true, Some, ◌&&◌, arith}
 use Rattle.gui_base.specs.Area.{Rect, has, size_of}
 use Rattle.gui_base.specs.Corners.{rect_of}
 use Rattle.gui_debts.specs.Seen.{entry_of}
@@ -31,7 +31,9 @@ returns-then-is_empty-clause-painted g c =
     elsewhere buf (scene_of c.args.shown.now.store.now) (entry_of c.args.entry.now) visible (seen g d) (apart buf visible (rect_of c.meet.result) (sym c.is_empty.ensures ∙ c.if-is_empty.true) pixels)
 
 pub paint_known_bars-requires : goal.paint_known_bars-requires
-paint_known_bars-requires g c = ap items_of c.as_slice.ensures.value ∙ (c.items-bars.ensures ∙ (c.bars.ensures ∙ c.requires.bars))
+paint_known_bars-requires g c =
+    let d = (goal.at.paint_known_bars-requires g c).In-Some in
+    ap items_of c.as_slice.ensures.value ∙ (c.items-bars.ensures ∙ (c.bars.ensures ∙ c.requires.bars (ap is_some (seen g d))))
 
 pub returns-then-entry-clause-painted : goal.returns-then-entry-clause-painted
 returns-then-entry-clause-painted g c =
